@@ -1,0 +1,36 @@
+-- The record of a dwarf node: kind, first, second.
+use Prim.Native.Nat.{ℕ, _+_}
+use Rattle.formula.specs.Formula.{Op, index}
+
+pub record Rec : Type 0 where
+  pub kind : ℕ
+  pub first : ℕ
+  pub second : ℕ
+
+-- 65535 where there is none.
+abbrev pub absent : ℕ
+absent = 65535
+
+-- Kind 0: leaf, first is the shape.
+abbrev pub leafRec : ℕ → Rec
+leafRec s = record { kind = 0; first = s; second = absent }
+
+-- Kinds 1 to 4: E for union, intersection, difference, exclusive union (left, right).
+abbrev pub E-rec : Op → ℕ → ℕ → Rec
+E-rec o left right = record { kind = 1 + index o; first = left; second = right }
+
+-- 5 to 8: R for the same four, the left operand raked.
+abbrev pub R-left : Op → ℕ → Rec
+R-left o raked = record { kind = 5 + index o; first = raked; second = absent }
+
+-- 9 to 12: R, the right one raked.
+abbrev pub R-right : Op → ℕ → Rec
+R-right o raked = record { kind = 9 + index o; first = raked; second = absent }
+
+-- 13: S (pair node, value node).
+abbrev pub S-rec : ℕ → ℕ → Rec
+S-rec pair value = record { kind = 13; first = pair; second = value }
+
+-- 14: C (upper, lower).
+abbrev pub C-rec : ℕ → ℕ → Rec
+C-rec upper lower = record { kind = 14; first = upper; second = lower }

@@ -1,0 +1,1 @@
+// Definitions and their theorems: rounds of contraction and the dwarf tree. See specs/.

@@ -1,0 +1,28 @@
+-- What a job gives: its answer, or a refusal with its number and its place.
+use Prim.Native.Nat.{ℕ}
+use mathlib.Core.Bool.{Bool, true, false}
+
+pub data Outcome (A : Type 0) : Type 0 where
+  given : A → Outcome A
+  refused : ℕ → ℕ → Outcome A
+
+-- Questions in order: the first reason met is the one given.
+infixl 10 _>>=_
+infixl 10 _>>_
+abbrev pub _>>=_ : {A B : Type 0} → Outcome A → (A → Outcome B) → Outcome B
+given a >>= f = f a
+refused number place >>= f = refused number place
+
+abbrev pub _>>_ : {A B : Type 0} → Outcome A → Outcome B → Outcome B
+given a >> b = b
+refused number place >> b = refused number place
+
+-- One question: where the answer is no, the refusal with this number at this place.
+abbrev pub need : Bool → ℕ → ℕ → Outcome (Unit {0})
+need true number place = given tt
+need false number place = refused number place
+
+-- A part of what is given.
+abbrev pub part : {A B : Type 0} → (A → B) → Outcome A → Outcome B
+part f (given a) = given (f a)
+part f (refused number place) = refused number place

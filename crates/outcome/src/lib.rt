@@ -1,0 +1,1 @@
+// Definitions alone: what a job gives, and what a lent list holds afterwards. See specs/.
