@@ -1,12 +1,10 @@
 -- The height of a dwarf tree: the longest path in steps. A single node has height 0.
 use Prim.Native.Nat.{ℕ, suc, max}
-use mathlib.Core.Bool.{cond}
 use mathlib.Core.List.{List, [], _∷_, _++_}
 use lib.ListN.{getD}
-use lib.Dec.{ltb}
-use Rattle.contraction.specs.Records.{Rec}
+use Rattle.contraction.specs.Records.{Rec, children}
 
--- Numbers worked out by one rule for the nodes in rising order, each after those of the nodes before it.
+-- Numbers worked out by one rule for the nodes in rising order, each from those of the nodes before it.
 abbrev pub worked : (List ℕ → Rec → ℕ) → List ℕ → List Rec → List ℕ
 worked by xs [] = xs
 worked by xs (r ∷ rs) = worked by (xs ++ (by xs r ∷ [])) rs
@@ -16,15 +14,13 @@ last [] = 0
 last (x ∷ []) = x
 last (x ∷ y ∷ ys) = last (y ∷ ys)
 
--- The longest path down from a node of a kind, of whose first and second node x and y are the longest. R has a first node alone.
-abbrev pub pathOf : ℕ → ℕ → ℕ → ℕ
-pathOf kind x y =
-    cond (ltb kind 1) 0
-    (cond (ltb kind 5) (suc (max x y))
-    (cond (ltb kind 13) (suc x) (suc (max x y))))
+-- The longest path down through one of the nodes cs: a step to it, and its own longest path.
+abbrev pub longest : List ℕ → List ℕ → ℕ
+longest xs [] = 0
+longest xs (c ∷ cs) = max (suc (getD xs c 0)) (longest xs cs)
 
 abbrev pub path : List ℕ → Rec → ℕ
-path xs r = pathOf (r .kind) (getD xs (r .first) 0) (getD xs (r .second) 0)
+path xs r = longest xs (children r)
 
 -- The root is the last node.
 abbrev pub height : List Rec → ℕ

@@ -1,5 +1,8 @@
 -- The record of a dwarf node: kind, first, second.
 use Prim.Native.Nat.{ℕ, _+_}
+use mathlib.Core.Bool.{Bool, false, cond, _||_}
+use mathlib.Core.List.{List, [], _∷_}
+use lib.Dec.{ltb, eqb}
 use Rattle.formula.specs.Formula.{Op, index}
 
 pub record Rec : Type 0 where
@@ -34,3 +37,18 @@ S-rec pair value = record { kind = 13; first = pair; second = value }
 -- 14: C (upper, lower).
 abbrev pub C-rec : ℕ → ℕ → Rec
 C-rec upper lower = record { kind = 14; first = upper; second = lower }
+
+-- The nodes that a record stands over: none where it is a leaf, the first alone where it is R, else both.
+abbrev pub children : Rec → List ℕ
+children r =
+    cond (ltb (r .kind) 1) []
+    (cond (ltb (r .kind) 5) (r .first ∷ r .second ∷ [])
+    (cond (ltb (r .kind) 13) (r .first ∷ []) (r .first ∷ r .second ∷ [])))
+
+abbrev pub among : ℕ → List ℕ → Bool
+among c [] = false
+among c (d ∷ ds) = eqb c d || among c ds
+
+-- The record stands over node c.
+abbrev pub over : ℕ → Rec → Bool
+over c r = among c (children r)
