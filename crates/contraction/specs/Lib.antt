@@ -1,3 +1,4 @@
 pub mod Records
 pub mod Rounds
 pub mod Height
+pub mod Examples
