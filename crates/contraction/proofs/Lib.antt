@@ -4,3 +4,6 @@ pub mod Worked
 pub mod Order
 pub mod Once
 pub mod Size
+pub mod Over
+pub mod Leaves
+pub mod Paths
