@@ -1,0 +1,12 @@
+pub mod Codes
+pub mod Names
+pub mod Fields
+pub mod Accepted
+pub mod Cases
+pub mod Prefixes
+pub mod NameSteps
+pub mod CodeSteps
+pub mod Asked
+pub mod Reading
+pub mod Told
+pub mod Unique

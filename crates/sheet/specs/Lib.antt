@@ -1,0 +1,5 @@
+pub mod Sheet
+pub mod Walk
+pub mod Accepted
+pub mod Answer
+pub mod Steps

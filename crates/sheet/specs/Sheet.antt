@@ -1,0 +1,198 @@
+-- What reading a sheet gives: document 01, 'The sheet' and 'Order of reading'. A sheet is the list of its bytes.
+use Prim.Native.Nat.{ℕ, zero, suc, _+_, _-_, _*_, _%_}
+use mathlib.Core.List.{List, [], _∷_, _++_}
+use mathlib.Core.Option.{Option, none, some}
+use mathlib.Core.Bool.{Bool, true, false, cond, not, _&&_, _||_}
+use lib.ListN.{length, getD, take, drop}
+use lib.Dec.{ltb, leb, eqb}
+use Rattle.outcome.specs.Outcome.{Outcome, given, refused, need, _>>=_, _>>_}
+use Rattle.formula.specs.Formula.{Op, union, intersection, difference, exclusive, code, Formula, leaf, node}
+
+-- What a sheet holds: the k-th name, from 0, names shape k; the formula stands in the bytes from `first` up to `past`.
+pub record Sheet : Type 0 where
+  pub names : List (List ℕ)
+  pub formula : Formula
+  pub first : ℕ
+  pub past : ℕ
+
+-- The numbers of the page.
+abbrev pub edition : ℕ
+edition = 1
+
+abbrev pub mostNames : ℕ
+mostNames = 256
+
+abbrev pub longestName : ℕ
+longestName = 32
+
+abbrev pub longestFormula : ℕ
+longestFormula = 4094
+
+-- ---- Fields: a one-byte tag, a two-byte length (high byte first), then that many bytes
+
+abbrev pub twoAt : List ℕ → ℕ → ℕ
+twoAt s at = getD s at 0 * 256 + getD s (at + 1) 0
+
+-- The bytes from an offset up to another.
+abbrev pub between : List ℕ → ℕ → ℕ → List ℕ
+between s first past = take (past - first) (drop first s)
+
+-- Of the field whose tag is at an offset: its length, the offset past it, its bytes.
+unfoldable pub lengthAt : List ℕ → ℕ → ℕ
+lengthAt s at = twoAt s (at + 1)
+
+unfoldable pub pastAt : List ℕ → ℕ → ℕ
+pastAt s at = at + 3 + lengthAt s at
+
+unfoldable pub bytesAt : List ℕ → ℕ → List ℕ
+bytesAt s at = take (lengthAt s at) (drop (at + 3) s)
+
+-- What a field is: a name, its bytes and the offset past them; the formula, its first offset and the one past its end; the end.
+pub data Field : Type 0 where
+  nameField : List ℕ → ℕ → Field
+  formulaField : Formula → ℕ → ℕ → Field
+  endField : Field
+
+-- ---- Names
+
+-- Each byte 0x21 to 0x7E.
+unfoldable pub allGood : List ℕ → Bool
+allGood [] = true
+allGood (x ∷ xs) = (leb 0x21 x && leb x 0x7E) && allGood xs
+
+-- Names are equal when all their bytes are.
+unfoldable pub same : List ℕ → List ℕ → Bool
+same [] [] = true
+same [] (y ∷ ys) = false
+same (x ∷ xs) [] = false
+same (x ∷ xs) (y ∷ ys) = eqb x y && same xs ys
+
+unfoldable pub taken : List (List ℕ) → List ℕ → Bool
+taken [] x = false
+taken (y ∷ ys) x = same y x || taken ys x
+
+-- ---- The formula, n being the number of names
+
+-- Two bytes a code, high byte first.
+unfoldable pub codesOf : List ℕ → List ℕ
+codesOf [] = []
+codesOf (h ∷ []) = []
+codesOf (h ∷ l ∷ bytes) = (h * 256 + l) ∷ codesOf bytes
+
+-- 0xFFF0 is union, 0xFFF1 intersection, 0xFFF2 difference, 0xFFF3 exclusive union.
+abbrev pub operation : ℕ → Option Op
+operation c =
+    cond (eqb c (code union)) (some union)
+    (cond (eqb c (code intersection)) (some intersection)
+    (cond (eqb c (code difference)) (some difference)
+    (cond (eqb c (code exclusive)) (some exclusive) none)))
+
+-- The operands that wait stand last one first. An operation joins the last two: the earlier one is the left one.
+-- An unknown code, or an operation with fewer than two operands waiting, is 7, at the offset of the code.
+abbrev pub joined : ℕ → Option Op → List Formula → Outcome (List Formula)
+joined at none fs = refused 7 at
+joined at (some o) [] = refused 7 at
+joined at (some o) (r ∷ []) = refused 7 at
+joined at (some o) (r ∷ l ∷ fs) = given (node o l r ∷ fs)
+
+-- Codes below the number of names are leaves.
+abbrev pub oneCode : ℕ → ℕ → ℕ → List Formula → Outcome (List Formula)
+oneCode n at c fs = cond (ltb c n) (given (leaf c ∷ fs)) (joined at (operation c) fs)
+
+-- Codes are judged left to right.
+unfoldable pub judged : ℕ → ℕ → List ℕ → List Formula → Outcome (List Formula)
+judged n at [] fs = given fs
+judged n at (c ∷ cs) fs = oneCode n at c fs >>= judged n (at + 2) cs
+
+-- If the end leaves other than one operand, 7, at the tag.
+abbrev pub onlyOne : ℕ → List Formula → Outcome Formula
+onlyOne tag [] = refused 7 tag
+onlyOne tag (f ∷ []) = given f
+onlyOne tag (f ∷ g ∷ fs) = refused 7 tag
+
+-- The formula of the codes, the first of which stands at offset `first`.
+unfoldable pub formulaOf : ℕ → ℕ → ℕ → List ℕ → Outcome Formula
+formulaOf n tag first cs = judged n first cs [] >>= onlyOne tag
+
+-- ---- Order of reading
+
+-- Tag 1, once and first.
+unfoldable pub header : List ℕ → Outcome ℕ
+header s = do
+  -- is there a tag byte (else 1)
+  need (ltb 0 (length s)) 1 (length s)
+  -- may this tag stand here (else 2)
+  need (eqb (getD s 0 0) 1) 2 0
+  -- are both length bytes there (else 1)
+  need (leb 3 (length s)) 1 (length s)
+  -- is the length allowed: a header with length wrong is 3
+  need (eqb (lengthAt s 0) 2) 3 0
+  -- are the bytes all there (else 1)
+  need (leb 5 (length s)) 1 (length s)
+  -- are they good: a header with edition wrong is 3
+  need (eqb (twoAt s 3) edition) 3 0
+  given (twoAt s 3)
+
+-- Tag 2 at an offset, after the names ns.
+unfoldable pub nameAt : List ℕ → ℕ → List (List ℕ) → Outcome Field
+nameAt s at ns = do
+  -- is it not a 257th name (else 6)
+  need (ltb (length ns) mostNames) 6 at
+  -- are both length bytes there (else 1)
+  need (leb (at + 3) (length s)) 1 (length s)
+  -- is the length allowed: a name with length wrong is 4
+  need (leb 1 (lengthAt s at)) 4 at
+  need (leb (lengthAt s at) longestName) 4 at
+  -- are the bytes all there (else 1)
+  need (leb (pastAt s at) (length s)) 1 (length s)
+  -- are they good: a name with a byte wrong is 4, one already taken is 5
+  need (allGood (bytesAt s at)) 4 at
+  need (not (taken ns (bytesAt s at))) 5 at
+  given (nameField (bytesAt s at) (pastAt s at))
+
+-- Tag 3 at an offset, after the names ns.
+unfoldable pub formulaAt : List ℕ → ℕ → List (List ℕ) → Outcome Field
+formulaAt s at ns = do
+  -- may this tag stand here: a formula before any name is 2
+  need (ltb 0 (length ns)) 2 at
+  -- are both length bytes there (else 1)
+  need (leb (at + 3) (length s)) 1 (length s)
+  -- is the length allowed: a formula longer than 4094 is 6; of odd or no length is 7
+  need (leb (lengthAt s at) longestFormula) 6 at
+  need (leb 1 (lengthAt s at)) 7 at
+  need (eqb (lengthAt s at % 2) 0) 7 at
+  -- are the bytes all there (else 1)
+  need (leb (pastAt s at) (length s)) 1 (length s)
+  -- are they good: codes are judged left to right
+  f ← formulaOf (length ns) at (at + 3) (codesOf (bytesAt s at))
+  given (formulaField f (at + 3) (pastAt s at))
+
+-- The field at an offset, after the header and the names ns; the last argument says whether the formula was read already.
+unfoldable pub fieldAt : List ℕ → ℕ → List (List ℕ) → Bool → Outcome Field
+fieldAt s at ns true = do
+  -- after the formula any further byte is a tag out of place
+  need (leb (length s) at) 2 at
+  given endField
+fieldAt s at ns false = do
+  -- is there a tag byte (else 1)
+  need (ltb at (length s)) 1 (length s)
+  -- may this tag stand here (else 2)
+  cond (eqb (getD s at 0) 2) (nameAt s at ns) (cond (eqb (getD s at 0) 3) (formulaAt s at ns) (refused 2 at))
+
+-- After a field: a name is added, and `on` reads on; the formula is the last one; an end before the formula comes too soon.
+abbrev pub onward : (ℕ → List (List ℕ) → Outcome Sheet) → List ℕ → List (List ℕ) → Field → Outcome Sheet
+onward on s ns (nameField x past) = on past (ns ++ (x ∷ []))
+onward on s ns (formulaField f first past) =
+    fieldAt s past ns true >> given (record { names = ns; formula = f; first = first; past = past })
+onward on s ns endField = refused 1 (length s)
+
+-- The fields from an offset on, after the names ns: at most k of them.
+unfoldable pub fields : ℕ → List ℕ → ℕ → List (List ℕ) → Outcome Sheet
+fields zero s at ns = refused 6 at
+fields (suc k) s at ns = fieldAt s at ns false >>= onward (fields k s) s ns
+
+-- A sheet: the header, then the fields. 257 are enough, since a 257th name is refused.
+unfoldable pub reading : List ℕ → Outcome Sheet
+reading s = do
+  header s
+  fields (mostNames + 1) s 5 []
