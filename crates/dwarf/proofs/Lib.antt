@@ -1,0 +1,4 @@
+pub mod PlantLaws
+pub mod RoundLaws
+pub mod DwarfedLaws
+pub mod Entries

@@ -1,0 +1,2 @@
+pub mod Dwarfed
+pub mod Steps
