@@ -1,0 +1,116 @@
+-- `labels::label` meets its contract: each range of kinds is one case of the rule.
+use mathlib.Core.Path.{_∙_, sym}
+use native.Mathlib.Omega.{arith}
+use Rattle.labels.proofs.Ranges.{at-E, at-left, at-right, at-none}
+use borrow.Author.Needs.{needs}
+use Rattle.labels.proofs.label.Statement.{statement}
+use Rattle.labels.proofs.label.Tie as tie
+
+bit-requires : tie.Need-bit-requires
+bit-requires c κs = search needs
+
+on-requires : tie.Need-on-requires
+on-requires c κs = search needs
+
+pick-requires : tie.Need-pick-requires
+pick-requires c κs = search needs
+
+bit-requires-2 : tie.Need-bit-requires-2
+bit-requires-2 c κs = search needs
+
+pick-requires-2 : tie.Need-pick-requires-2
+pick-requires-2 c κs = search needs
+
+pick-requires-3 : tie.Need-pick-requires-3
+pick-requires-3 c κs = search needs
+
+pick-requires-4 : tie.Need-pick-requires-4
+pick-requires-4 c κs = search needs
+
+pick-requires-5 : tie.Need-pick-requires-5
+pick-requires-5 c κs = search needs
+
+pair-requires : tie.Need-pair-requires
+pair-requires c κs = search needs
+
+sub-meaning : tie.Need-sub-meaning
+sub-meaning c = search needs
+
+on-requires-2 : tie.Need-on-requires-2
+on-requires-2 c κs = search needs
+
+on-requires-3 : tie.Need-on-requires-3
+on-requires-3 c κs = search needs
+
+meaning-requires : tie.Need-meaning-requires
+meaning-requires c κs = search needs
+
+bit-requires-3 : tie.Need-bit-requires-3
+bit-requires-3 c κs = search needs
+
+on-requires-4 : tie.Need-on-requires-4
+on-requires-4 c κs = search needs
+
+raked-left-requires : tie.Need-raked-left-requires
+raked-left-requires c κs = search needs
+
+on-requires-5 : tie.Need-on-requires-5
+on-requires-5 c κs = search needs
+
+raked-right-requires : tie.Need-raked-right-requires
+raked-right-requires c κs = search needs
+
+returns : tie.Need-returns
+returns c = rw (c .before .match .keys1) (c .bit .ensures)
+
+returns-2 : tie.Need-returns-2
+returns-2 c = c .bit2 .ensures ∙ rw (c .before .pick .ensures, c .before .before .on .ensures, c .before .before .before .match .keys2)
+
+returns-3 : tie.Need-returns-3
+returns-3 c = c .pair .ensures ∙ rw (c .before .pick5 .ensures, c .before .before .pick4 .ensures, c .before .before .before .pick3 .ensures, c .before .before .before .before .pick2 .ensures, c .before .before .before .before .before .match .keys3)
+
+returns-4 : tie.Need-returns-4
+returns-4 c = let a = c .before .before .before .before .before .before .args in
+    c .bit3 .ensures ∙ rw (c .before .meaning .ensures, c .before .before .on3 .ensures, c .before .before .before .on2 .ensures) (sym (at-E (a .kind) (a .inside) (a .x) (a .y) (omega arith) (omega arith)))
+
+returns-5 : tie.Need-returns-5
+returns-5 c = let a = c .before .before .before .before .before .args in
+    c .raked-left .ensures ∙ rw (c .before .on4 .ensures) (sym (at-left (a .kind) (a .inside) (a .x) (a .y) (omega arith) (omega arith)))
+
+returns-6 : tie.Need-returns-6
+returns-6 c = let a = c .before .before .before .before .before .before .args in
+    c .raked-right .ensures ∙ rw (c .before .on5 .ensures) (sym (at-right (a .kind) (a .inside) (a .x) (a .y) (omega arith) (omega arith)))
+
+returns-7 : tie.Need-returns-7
+returns-7 c = let a = c .before .before .before .before .args in
+    sym (at-none (a .kind) (a .inside) (a .x) (a .y) (omega arith))
+
+pub label-spec : {M : Type 1} → statement M
+label-spec =
+    tie.close
+    (tie.spec
+    bit-requires
+    on-requires
+    pick-requires
+    bit-requires-2
+    pick-requires-2
+    pick-requires-3
+    pick-requires-4
+    pick-requires-5
+    pair-requires
+    sub-meaning
+    on-requires-2
+    on-requires-3
+    meaning-requires
+    bit-requires-3
+    on-requires-4
+    raked-left-requires
+    on-requires-5
+    raked-right-requires
+    returns
+    returns-2
+    returns-3
+    returns-4
+    returns-5
+    returns-6
+    returns-7)

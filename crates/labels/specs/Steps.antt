@@ -1,0 +1,53 @@
+-- What the passes over the arrays need: the records that the arrays hold, and the lists that are filled from them.
+use Prim.Native.Nat.{ℕ, zero, suc, _-_, _<_, _≤_}
+use mathlib.Core.Path.{_≡_}
+use mathlib.Core.Bool.{Bool, true, false}
+use mathlib.Core.List.{List, [], _∷_}
+use lib.ListN.{getD, set}
+use Rattle.contraction.specs.Records.{Rec, absent, over}
+use Rattle.labels.specs.Labels.{isOf}
+
+-- Record i of three arrays.
+abbrev pub recAt : List ℕ → List ℕ → List ℕ → ℕ → Rec
+recAt ks fs ss i = record { kind = getD ks i 0; first = getD fs i 0; second = getD ss i 0 }
+
+-- n records from number i on.
+unfoldable pub recs : List ℕ → List ℕ → List ℕ → ℕ → ℕ → List Rec
+recs ks fs ss i zero = []
+recs ks fs ss i (suc n) = recAt ks fs ss i ∷ recs ks fs ss (suc i) n
+
+-- The number of the first record that passes, of records numbered from j on; 65535 where there is none.
+unfoldable pub seek : (Rec → Bool) → ℕ → List Rec → ℕ
+seek p j [] = absent
+seek p j (r ∷ rs) = elim (p r) [ true ↦ j | false ↦ seek p (suc j) rs ]
+
+-- What the walks rely on: leaves come first, they are few, and children have smaller numbers.
+pub record Shaped (ks fs ss : List ℕ) (leaves nodes : ℕ) : Type 0 where
+  pub few : leaves ≤ 1024
+  pub within : leaves ≤ nodes
+  pub some : 0 < nodes
+  pub room : nodes ≤ 3072
+  pub leaf : (i : ℕ) → i < leaves → getD ks i 0 ≡ 0
+  pub inner : (i : ℕ) → leaves ≤ i → i < nodes → getD ks i 0 ≡ 0 → ⊥
+  pub named : (i : ℕ) → i < leaves → getD fs i 0 < 256
+  pub below : (i c : ℕ) → i < nodes → over c (recAt ks fs ss i) ≡ true → c < i
+
+-- Node j entered as the parent of each of the nodes cs.
+abbrev pub adopted : ℕ → List ℕ → List ℕ → List ℕ
+adopted j [] ps = ps
+adopted j (c ∷ cs) ps = adopted j cs (set ps c j)
+
+-- A list of each node's parent.
+pub record Parents (ks fs ss : List ℕ) (nodes : ℕ) (parents : List ℕ) : Type 0 where
+  pub up : (c : ℕ) → c < nodes → getD parents c 0 ≡ seek (over c) 0 (recs ks fs ss 0 nodes)
+
+-- The leaves of each shape as a chain: the first leaf of a shape, and the next leaf of a leaf's shape.
+pub record Chains (ks fs ss : List ℕ) (leaves nodes : ℕ) (heads nexts : List ℕ) : Type 0 where
+  pub first : (s : ℕ) → s < 256 → getD heads s 0 ≡ seek (isOf s) 0 (recs ks fs ss 0 nodes)
+  pub next : (i : ℕ) → i < leaves → getD nexts i 0 ≡ seek (isOf (getD fs i 0)) (suc i) (recs ks fs ss (suc i) (nodes - suc i))
+
+-- All that a toggle looks up.
+pub record Ready (ks fs ss : List ℕ) (leaves nodes : ℕ) (parents heads nexts : List ℕ) : Type 0 where
+  pub shaped : Shaped ks fs ss leaves nodes
+  pub ups : Parents ks fs ss nodes parents
+  pub chains : Chains ks fs ss leaves nodes heads nexts

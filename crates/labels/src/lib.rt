@@ -1,0 +1,212 @@
+ghost use mathlib.Core.Path.{_≡_};
+ghost use mathlib.Core.Bool.{true, false};
+ghost use mathlib.Core.List.{[], _∷_};
+ghost use Prim.Native.Nat.{ℕ, _<_, _≤_};
+ghost use lib.ListN.{getD, set, take};
+ghost use Rattle.formula.specs.Formula.{meaning as meaningOf};
+ghost use Rattle.formula.specs.States.{outside};
+ghost use Rattle.contraction.specs.Records.{Rec, children};
+ghost use Rattle.labels.specs.Labels.{bit as bitOf, on as isOn, pick as pickOf, operation, table, left, right, rule, label as labelOf, labels as afresh};
+ghost use Rattle.labels.specs.Steps.{recAt, recs, Shaped, adopted, Parents, Chains};
+
+fn bit(b: bool) -> u8
+    ensures { λ r. ⌜ r ≡ bitOf b ⌝ }
+{
+    if b { 1 } else { 0 }
+}
+
+fn on(x: u8) -> bool
+    ensures { λ r. ⌜ r ≡ isOn x ⌝ }
+{
+    x != 0
+}
+
+// What operation o says of the left operand a and the right operand b.
+fn meaning(o: u16, a: bool, b: bool) -> bool
+    ensures { λ r. ⌜ r ≡ meaningOf (operation o) a b ⌝ }
+{
+    match o {
+        0 => a | b,
+        1 => a & b,
+        2 => a & !b,
+        _ => a ^ b,
+    }
+}
+
+// The rake table, the left operand raked.
+fn raked_left(o: u16, v: bool) -> u8
+    ensures { λ r. ⌜ r ≡ table (operation o) left v ⌝ }
+{
+    match o {
+        0 => if v { 3 } else { 2 },
+        1 => if v { 2 } else { 0 },
+        2 => if v { 1 } else { 0 },
+        _ => if v { 1 } else { 2 },
+    }
+}
+
+// The rake table, the right operand raked: another pair at difference alone.
+fn raked_right(o: u16, v: bool) -> u8
+    ensures { λ r. ⌜ r ≡ table (operation o) right v ⌝ }
+{
+    match o {
+        2 => if v { 0 } else { 2 },
+        _ => raked_left(o, v),
+    }
+}
+
+// What a pair gives for the value from below.
+fn pick(p: u8, v: bool) -> bool
+    ensures { λ r. ⌜ r ≡ pickOf p v ⌝ }
+{
+    if v { on(p / 2) } else { on(p % 2) }
+}
+
+fn pair(a: bool, b: bool) -> u8
+    ensures { λ r. ⌜ r ≡ Rattle.labels.specs.Labels.pair a b ⌝ }
+{
+    2 * bit(a) + bit(b)
+}
+
+// A label by kind, from the state of the shape and from the labels of first and second.
+pub fn label(kind: u16, inside: bool, x: u8, y: u8) -> u8
+    ensures { λ r. ⌜ r ≡ rule kind inside x y ⌝ }
+{
+    match kind {
+        0 => bit(inside),
+        1..=4 => bit(meaning(kind - 1, on(x), on(y))),
+        5..=8 => raked_left(kind - 5, on(x)),
+        9..=12 => raked_right(kind - 9, on(x)),
+        13 => bit(pick(x, on(y))),
+        14 => pair(pick(x, pick(y, true)), pick(x, pick(y, false))),
+        _ => 0,
+    }
+}
+
+// A number as an index.
+pub fn wide(x: u16) -> usize
+    ensures { λ r. ⌜ r ≡ x ⌝ }
+{
+    x as usize
+}
+
+// The label of node i, 0 where there is no such node.
+fn read(labels: &[u8; 3072], i: u16) -> u8
+    ensures { λ r. ⌜ r ≡ getD (now (labels .entry)) i 0 ⌝ }
+{
+    let s: &[u8] = labels;
+    let j = i as usize;
+    if j < s.len() { s[j] } else { 0 }
+}
+
+// The label of node i worked out from its children's, with every shape outside.
+pub fn work(
+    kinds: &[u16; 3072],
+    firsts: &[u16; 3072],
+    seconds: &[u16; 3072],
+    labels: &[u8; 3072],
+    i: usize,
+) -> u8
+    requires { ⌜ i < 3072 ⌝ }
+    ensures { λ r. ⌜ r ≡ labelOf outside (now (labels .entry)) (recAt (now (kinds .entry)) (now (firsts .entry)) (now (seconds .entry)) i) ⌝ }
+{
+    let x = read(labels, firsts[i]);
+    let y = read(labels, seconds[i]);
+    label(kinds[i], false, x, y)
+}
+
+// All labels worked out afresh in rising order, with every shape outside.
+pub fn fill_labels(
+    kinds: &[u16; 3072],
+    firsts: &[u16; 3072],
+    seconds: &[u16; 3072],
+    leaves: usize,
+    nodes: usize,
+    labels: &mut [u8; 3072],
+)
+    requires { ⌜ Shaped (now kinds) (now firsts) (now seconds) leaves nodes ⌝ }
+    ensures { λ _. ⌜ take nodes (now (labels .exit)) ≡ afresh outside (recs (now (kinds .entry)) (now (firsts .entry)) (now (seconds .entry)) 0 nodes) ⌝ }
+{
+    *labels = [0u8; 3072];
+    let mut j = 0;
+    while j < nodes {
+        labels[j] = work(kinds, firsts, seconds, labels, j);
+        j += 1;
+    }
+}
+
+// Stores v at i, where there is such a node.
+fn put(list: &mut [u16; 3072], i: u16, v: u16)
+    ensures { λ _. ⌜ now (list .exit) ≡ set (now (list .entry)) i v ⌝ }
+{
+    let j = wide(i);
+    let s: &mut [u16] = list;
+    if j < s.len() {
+        s[j] = v;
+    }
+}
+
+// Node j entered as the parent of two nodes.
+fn adopt_both(parents: &mut [u16; 3072], first: u16, second: u16, j: u16)
+    ensures { λ _. ⌜ now (parents .exit) ≡ adopted j (first ∷ second ∷ []) (now (parents .entry)) ⌝ }
+{
+    put(parents, first, j);
+    put(parents, second, j);
+}
+
+// Node j entered as the parent of the children of its record.
+fn adopt(parents: &mut [u16; 3072], kind: u16, first: u16, second: u16, j: u16)
+    ensures { λ _. ⌜ now (parents .exit) ≡ adopted j (children (record { kind = kind; first = first; second = second })) (now (parents .entry)) ⌝ }
+{
+    match kind {
+        0 => {}
+        1..=4 => adopt_both(parents, first, second, j),
+        5..=12 => put(parents, first, j),
+        _ => adopt_both(parents, first, second, j),
+    }
+}
+
+// The parent of each node, in one pass from right to left.
+pub fn fill_parents(
+    kinds: &[u16; 3072],
+    firsts: &[u16; 3072],
+    seconds: &[u16; 3072],
+    nodes: u16,
+    parents: &mut [u16; 3072],
+)
+    requires { ⌜ nodes ≤ 3072 ⌝ }
+    ensures { λ _. ⌜ Parents (now (kinds .entry)) (now (firsts .entry)) (now (seconds .entry)) nodes (now (parents .exit)) ⌝ }
+{
+    *parents = [65535u16; 3072];
+    let mut j = nodes;
+    while 0 < j {
+        j -= 1;
+        let i = wide(j);
+        adopt(parents, kinds[i], firsts[i], seconds[i], j);
+    }
+}
+
+// The first leaf of each shape and the next leaf of each leaf's shape, in one pass from right to left.
+pub fn fill_chains(
+    kinds: &[u16; 3072],
+    firsts: &[u16; 3072],
+    seconds: &[u16; 3072],
+    leaves: u16,
+    nodes: u16,
+    heads: &mut [u16; 256],
+    nexts: &mut [u16; 1024],
+)
+    requires { ⌜ Shaped (now kinds) (now firsts) (now seconds) leaves nodes ⌝ }
+    ensures { λ _. ⌜ Chains (now (kinds .entry)) (now (firsts .entry)) (now (seconds .entry)) leaves nodes (now (heads .exit)) (now (nexts .exit)) ⌝ }
+{
+    *heads = [65535u16; 256];
+    *nexts = [65535u16; 1024];
+    let mut j = leaves;
+    while 0 < j {
+        j -= 1;
+        let i = wide(j);
+        let s = wide(firsts[i]);
+        nexts[i] = heads[s];
+        heads[s] = j;
+    }
+}

@@ -1,0 +1,4 @@
+pub mod Toggles
+pub mod Demand
+pub mod Ran
+pub mod Steps

@@ -1,0 +1,32 @@
+-- What a run leaves in the lent lists, and which toggle lists it takes.
+use Prim.Native.Nat.{ℕ, suc, _<_, _≤_}
+use mathlib.Core.Path.{_≡_}
+use mathlib.Core.Bool.{true, false}
+use mathlib.Core.List.{List, [], _∷_}
+use lib.Dec.{ltb}
+use lib.ListN.{length, getD}
+use Rattle.outcome.specs.Lent.{filled}
+use Rattle.formula.specs.Formula.{Formula}
+use Rattle.formula.specs.States.{toggledBy}
+use Rattle.contraction.specs.Rounds.{dwarf}
+use Rattle.labels.specs.Labels.{labels as labelsOf}
+use Rattle.toggles.specs.Toggles.{toggleRun}
+use Rattle.toggles.specs.Demand.{roots as rootsOf}
+
+-- The index of the first shape number not below the number of names; the list's length where there is none.
+abbrev pub firstWrong : ℕ → List ℕ → ℕ
+firstWrong names [] = 0
+firstWrong names (s ∷ ss) = elim (ltb s names) [ true ↦ suc (firstWrong names ss) | false ↦ 0 ]
+
+-- Every toggle is one of 256 shapes, and there is room for a root and a count for each.
+pub record Room (ss roots counts : List ℕ) : Type 0 where
+  pub named : (i : ℕ) → i < length ss → getD ss i 0 < 256
+  pub for-roots : length ss ≤ length roots
+  pub for-counts : length ss ≤ length counts
+
+-- A root bit for each toggle, the formula's value; a count for each toggle, by the walk's rule;
+-- the final label of every dwarf node, worked out afresh from the shapes then inside.
+pub record Ran (f : Formula) (ss roots counts labels roots′ counts′ labels′ : List ℕ) : Type 0 where
+  pub roots-are : roots′ ≡ filled (rootsOf f ss) roots
+  pub counts-are : counts′ ≡ filled (toggleRun f ss .counts) counts
+  pub labels-are : labels′ ≡ filled (labelsOf (toggledBy ss) (dwarf f)) labels
