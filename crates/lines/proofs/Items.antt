@@ -1,0 +1,52 @@
+-- The three lists read as one, at an index.
+use Prim.Native.Nat.{ℕ, zero, suc, _+_, _<_, _≤_}
+use native.Mathlib.Nat.{not-suc-le-zero, le-of-suc-le-suc}
+use native.Mathlib.Numerals.{add-one}
+use native.Mathlib.Omega.{arith}
+use mathlib.Core.Path.{_≡_, refl, sym, ap}
+use mathlib.Core.Bool.{Bool, true, false, cond}
+use mathlib.Core.List.{List, [], _∷_}
+use borrow.Author.Tests.{eqb-true, eqb-false}
+use lib.Dec.{eqb}
+use lib.IntN.{ℤ}
+use lib.ListN.{length, drop, getD, drop-of-length-le}
+use Rattle.lines.specs.Lines.{Crossing, crossings}
+use Rattle.lines.specs.Steps.{item}
+use Rattle.lines.proofs.Judgement.{Named}
+
+pub length-crossings : (ls : List ℕ) (ps : List ℤ) (ss : List ℕ) → length ps ≡ length ls → length ss ≡ length ls → length (crossings ls ps ss) ≡ length ls
+length-crossings [] ps ss e f = refl
+length-crossings (l ∷ ls) [] ss e f = e
+length-crossings (l ∷ ls) (p ∷ ps) [] e f = f
+length-crossings (l ∷ ls) (p ∷ ps) (s ∷ ss) e f = ap suc (length-crossings ls ps ss (omega arith) (omega arith))
+
+-- what is left at i: the i-th, and what is left after it
+pub drop-item : (ls : List ℕ) (ps : List ℤ) (ss : List ℕ) (i : ℕ) → length ps ≡ length ls → length ss ≡ length ls → i < length ls
+    → drop i (crossings ls ps ss) ≡ item ls ps ss i ∷ drop (suc i) (crossings ls ps ss)
+drop-item [] ps ss i e f h = absurd (not-suc-le-zero h)
+drop-item (l ∷ ls) [] ss i e f h = let z : ⊥ = omega arith in absurd z
+drop-item (l ∷ ls) (p ∷ ps) [] i e f h = let z : ⊥ = omega arith in absurd z
+drop-item (l ∷ ls) (p ∷ ps) (s ∷ ss) zero e f h = refl
+drop-item (l ∷ ls) (p ∷ ps) (s ∷ ss) (suc i) e f h = drop-item ls ps ss i (omega arith) (omega arith) (le-of-suc-le-suc h)
+
+pub drop-all : (ls : List ℕ) (ps : List ℤ) (ss : List ℕ) (i : ℕ) → length ps ≡ length ls → length ss ≡ length ls → length ls ≤ i → drop i (crossings ls ps ss) ≡ []
+drop-all ls ps ss i e f h = drop-of-length-le (crossings ls ps ss) {i = i} (omega (arith, length-crossings ls ps ss e f))
+
+-- what is left after i: nothing, or the next and what follows it
+pub after-item : {X : Type 0} (ls : List ℕ) (ps : List ℤ) (ss : List ℕ) (i : ℕ) → length ps ≡ length ls → length ss ≡ length ls → i < length ls
+    → (F : List Crossing → X)
+    → cond (eqb (i + 1) (length ls)) (F []) (F (item ls ps ss (i + 1) ∷ drop (suc (suc i)) (crossings ls ps ss))) ≡ F (drop (suc i) (crossings ls ps ss))
+after-item ls ps ss i e f h F = go (eqb (i + 1) (length ls)) refl
+  where
+    go : (b : Bool) → eqb (i + 1) (length ls) ≡ b → cond b (F []) (F (item ls ps ss (i + 1) ∷ drop (suc (suc i)) (crossings ls ps ss))) ≡ F (drop (suc i) (crossings ls ps ss))
+    go true q = ap F (sym (drop-all ls ps ss (suc i) e f (omega (arith, eqb-true (i + 1) (length ls) q))))
+    go false q = rw (drop-item ls ps ss (suc i) e f (omega (arith, eqb-false (i + 1) (length ls) q)), add-one i)
+
+-- the shapes of named crossings
+pub named-shape : (names : ℕ) (ls : List ℕ) (ps : List ℤ) (ss : List ℕ) → length ps ≡ length ls → length ss ≡ length ls
+    → Named names (crossings ls ps ss) → (i : ℕ) → i < length ls → getD ss i 0 < names
+named-shape names [] ps ss e f nm i h = absurd (not-suc-le-zero h)
+named-shape names (l ∷ ls) [] ss e f nm i h = let z : ⊥ = omega arith in absurd z
+named-shape names (l ∷ ls) (p ∷ ps) [] e f nm i h = let z : ⊥ = omega arith in absurd z
+named-shape names (l ∷ ls) (p ∷ ps) (s ∷ ss) e f nm zero h = nm .0
+named-shape names (l ∷ ls) (p ∷ ps) (s ∷ ss) e f nm (suc i) h = named-shape names ls ps ss (omega arith) (omega arith) (nm .1) i (le-of-suc-le-suc h)

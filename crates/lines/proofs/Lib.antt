@@ -1,0 +1,10 @@
+pub mod Keys
+pub mod Stretches
+pub mod RisingOnly
+pub mod WallsCover
+pub mod WallsRise
+pub mod Reached
+pub mod Judgement
+pub mod Even
+pub mod Theorems
+pub mod Items

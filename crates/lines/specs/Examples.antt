@@ -1,0 +1,41 @@
+-- Document 01's cases of the line job, computed.
+use Prim.Native.Nat.{ℕ}
+use mathlib.Core.Path.{_≡_, refl}
+use mathlib.Core.List.{List, [], _∷_}
+use lib.IntN.{ℤ, pos, negsuc}
+use Rattle.outcome.specs.Outcome.{refused}
+use Rattle.formula.specs.Formula.{union, intersection, difference, Formula, leaf, node}
+use Rattle.formula.specs.States.{times}
+use Rattle.lines.specs.Lines.{Crossing, crossed, ordered, anyInside, firstLine, anyOn, lastOn, judged, Wall, wallsFrom, walls}
+
+-- crossings of one line, by position and shape
+abbrev line : List (ℤ × ℕ) → List Crossing
+line [] = []
+line (x ∷ xs) = record { line = 0; at = x .0; shape = x .1 } ∷ line xs
+
+abbrev wall : ℤ → ℤ → Wall
+wall a b = record { line = 0; start = a; end = b }
+
+abbrev A : Formula
+A = leaf 0
+
+abbrev B : Formula
+B = leaf 1
+
+pub cases : (walls (node difference A B) (line ((pos 0, 0) ∷ (pos 40, 1) ∷ (pos 60, 1) ∷ (pos 100, 0) ∷ [])) ≡ wall (pos 0) (pos 40) ∷ wall (pos 60) (pos 100) ∷ [])
+    × (walls (node union A B) (line ((pos 0, 0) ∷ (pos 50, 0) ∷ (pos 50, 1) ∷ (pos 90, 1) ∷ [])) ≡ wall (pos 0) (pos 90) ∷ [])
+    × (walls (node intersection A B) (line ((pos 0, 0) ∷ (pos 50, 0) ∷ (pos 50, 1) ∷ (pos 90, 1) ∷ [])) ≡ [])
+    × (walls A (line ((pos 10, 0) ∷ (pos 10, 0) ∷ [])) ≡ [])
+    × (walls A [] ≡ [])
+    × (walls A (line ((negsuc 2147483647, 0) ∷ (pos 2147483647, 0) ∷ [])) ≡ wall (negsuc 2147483647) (pos 2147483647) ∷ [])
+unfolding wallsFrom
+cases = (refl, refl, refl, refl, refl, refl)
+
+-- A on one line at 5 only. Shape 3 of three names. A falling position. On the second of two lines B is crossed once, and A after it.
+pub refusals : (judged 1 (0 ∷ []) (pos 5 ∷ []) (0 ∷ []) ≡ refused 12 0)
+    × (judged 3 (0 ∷ []) (pos 5 ∷ []) (3 ∷ []) ≡ refused 10 0)
+    × (judged 3 (0 ∷ 0 ∷ []) (pos 5 ∷ pos 4 ∷ []) (1 ∷ 1 ∷ []) ≡ refused 11 1)
+    × (judged 3 (0 ∷ []) [] (1 ∷ []) ≡ refused 13 0)
+    × (judged 2 (0 ∷ 0 ∷ 4 ∷ 4 ∷ 4 ∷ 7 ∷ []) (pos 1 ∷ pos 2 ∷ pos 1 ∷ pos 2 ∷ pos 3 ∷ pos 1 ∷ []) (0 ∷ 0 ∷ 1 ∷ 0 ∷ 0 ∷ 0 ∷ []) ≡ refused 12 4)
+unfolding judged ordered firstLine anyInside crossed times anyOn lastOn
+refusals = (refl, refl, refl, refl, refl)

@@ -1,0 +1,4 @@
+pub mod Lines
+pub mod Right
+pub mod Steps
+pub mod Examples

@@ -1,0 +1,3 @@
+mod StepLaws
+mod BitLaws
+pub mod PassLaws

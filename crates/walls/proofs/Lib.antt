@@ -1,0 +1,2 @@
+mod JobLaws
+pub mod Only
