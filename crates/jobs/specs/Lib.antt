@@ -1,0 +1,4 @@
+pub mod Building
+pub mod Running
+pub mod Classifying
+pub mod Answer
