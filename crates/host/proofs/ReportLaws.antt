@@ -1,0 +1,81 @@
+-- What is reported of an answer, by its case; and that the promises settle the reports.
+use Prim.Native.Nat.{ℕ}
+use mathlib.Core.Path.{_≡_, refl, sym, ap, _∙_}
+use mathlib.Core.List.{List}
+use lib.IntN.{ℤ}
+use lib.ListN.{length}
+use Rattle.outcome.specs.Outcome.{Outcome, given, refused, part}
+use Rattle.formula.specs.Formula.{Formula}
+use Rattle.contraction.specs.Rounds.{dwarf}
+use Rattle.sheet.specs.Answer.{Numbers, numbers, answerOf}
+use Rattle.sheet.specs.declared.ReadAnswer.{ReadAnswer}
+use Rattle.sheet.specs.declared.ReadAnswer.the-variants as read
+use Rattle.lines.specs.Lines.{Wall}
+use Rattle.jobs.specs.Building.{Summary, summary, summaryOf}
+use Rattle.jobs.specs.Answer as jobs
+use Rattle.jobs.specs.Answer.{builtOf, ranOf, classifiedOf}
+use Rattle.jobs.specs.declared.BuildAnswer.{BuildAnswer}
+use Rattle.jobs.specs.declared.BuildAnswer.the-variants as build
+use Rattle.jobs.specs.declared.RunAnswer.{RunAnswer}
+use Rattle.jobs.specs.declared.RunAnswer.the-variants as run
+use Rattle.jobs.specs.declared.ClassifyAnswer.{ClassifyAnswer}
+use Rattle.jobs.specs.declared.ClassifyAnswer.the-variants as classify
+use Rattle.host.specs.Report.{readReport, buildReport, runReport, classifyReport, Built, Ran, Classified}
+use Rattle.host.specs.declared.BuildReport.{BuildReport}
+use Rattle.host.specs.declared.RunReport.{RunReport}
+use Rattle.host.specs.declared.ClassifyReport.{ClassifyReport}
+
+module _ {o : Outcome Numbers} {a : ReadAnswer} (said : answerOf a ≡ o) where
+  pub read-reported : {n l f e : ℕ} → a ≡ read.Read n l f e → readReport (given (numbers n l f e)) ≡ readReport o
+  read-reported is = ap readReport (sym (ap answerOf is) ∙ said)
+
+  pub read-refused : {k p : ℕ} → a ≡ read.Refused k p → readReport (refused k p) ≡ readReport o
+  read-refused is = ap readReport (sym (ap answerOf is) ∙ said)
+
+module _ {o : Outcome Formula} {ks fs ss : List ℕ} {a : BuildAnswer} {ks′ fs′ ss′ : List ℕ} (built : jobs.Built o ks fs ss a ks′ fs′ ss′) where
+  build-as : (v : Outcome Summary) → builtOf a ≡ v → Built o ks fs ss (buildReport v) ks′ fs′ ss′
+  build-as v is =
+      record {
+        report = ap buildReport (sym is ∙ built .answer);
+        kinds-list = built .kinds-list;
+        firsts-list = built .firsts-list;
+        seconds-list = built .seconds-list;
+      }
+
+  pub build-reported : {l n r h : ℕ} → a ≡ build.Built l n r h → Built o ks fs ss (buildReport (given (summary l n r h))) ks′ fs′ ss′
+  build-reported {l} {n} {r} {h} is = build-as (given (summary l n r h)) (ap builtOf is)
+
+  pub build-refused : {k p : ℕ} → a ≡ build.Refused k p → Built o ks fs ss (buildReport (refused k p)) ks′ fs′ ss′
+  build-refused {k} {p} is = build-as (refused k p) (ap builtOf is)
+
+module _ {o : Outcome Formula} {ts rs cs ls : List ℕ} {a : RunAnswer} {rs′ cs′ ls′ : List ℕ} (ran : jobs.Ran o ts rs cs ls a rs′ cs′ ls′) where
+  run-as : (v : Outcome ℕ) → ranOf a ≡ v → Ran o ts rs cs ls (runReport v) rs′ cs′ ls′
+  run-as v is =
+      record {
+        report = ap runReport (sym is ∙ ran .answer);
+        roots-list = ran .roots-list;
+        counts-list = ran .counts-list;
+        labels-list = ran .labels-list;
+      }
+
+  pub run-reported : {n : ℕ} → a ≡ run.Ran n → Ran o ts rs cs ls (runReport (given n)) rs′ cs′ ls′
+  run-reported {n} is = run-as (given n) (ap ranOf is)
+
+  pub run-refused : {k p : ℕ} → a ≡ run.Refused k p → Ran o ts rs cs ls (runReport (refused k p)) rs′ cs′ ls′
+  run-refused {k} {p} is = run-as (refused k p) (ap ranOf is)
+
+module _ {o : Outcome (List Wall)} {wl : List ℕ} {ws we : List ℤ} {a : ClassifyAnswer} {wl′ : List ℕ} {ws′ we′ : List ℤ} (done : jobs.Classified o wl ws we a wl′ ws′ we′) where
+  classify-as : (v : Outcome ℕ) → classifiedOf a ≡ v → Classified o wl ws we (classifyReport v) wl′ ws′ we′
+  classify-as v is =
+      record {
+        report = ap classifyReport (sym is ∙ done .answer);
+        lines-list = done .lines-list;
+        starts-list = done .starts-list;
+        ends-list = done .ends-list;
+      }
+
+  pub classify-reported : {n : ℕ} → a ≡ classify.Walls n → Classified o wl ws we (classifyReport (given n)) wl′ ws′ we′
+  classify-reported {n} is = classify-as (given n) (ap classifiedOf is)
+
+  pub classify-refused : {k p : ℕ} → a ≡ classify.Refused k p → Classified o wl ws we (classifyReport (refused k p)) wl′ ws′ we′
+  classify-refused {k} {p} is = classify-as (refused k p) (ap classifiedOf is)

@@ -1,0 +1,57 @@
+-- `host::kressedach_build` meets its contract: each case of the answer is reported as the definition reports it.
+use Rattle.host.proofs.ReportLaws.{build-reported, build-refused}
+use borrow.Author.Needs.{needs}
+use Rattle.host.proofs.kressedach_build.Statement.{statement}
+use Rattle.host.proofs.kressedach_build.Tie as tie
+use Rattle.host.proofs.kressedach_build.Reads as reads
+use Rattle.host.proofs.kressedach_build.Lts as lts
+use Rattle.jobs.proofs.build.Reads as build-reads
+
+build-requires : tie.Need-build-requires
+build-requires c κs = search needs
+
+enum-known-leaves : tie.Need-enum-known-leaves
+enum-known-leaves c = search needs
+
+enum-known-number : tie.Need-enum-known-number
+enum-known-number c = search needs
+
+same-length : tie.Need-same-length
+same-length c = search needs
+
+same-length-2 : tie.Need-same-length-2
+same-length-2 c = search needs
+
+same-length-3 : tie.Need-same-length-3
+same-length-3 c = search needs
+
+returns : tie.Need-returns
+returns c = search (build-reported, needs)
+
+same-length-4 : tie.Need-same-length-4
+same-length-4 c = search needs
+
+same-length-5 : tie.Need-same-length-5
+same-length-5 c = search needs
+
+same-length-6 : tie.Need-same-length-6
+same-length-6 c = search needs
+
+returns-2 : tie.Need-returns-2
+returns-2 c = search (build-refused, needs)
+
+pub kressedach-build-spec : {M : Type 1} → statement M
+kressedach-build-spec =
+    tie.close
+    (tie.spec
+    build-requires
+    enum-known-leaves
+    enum-known-number
+    same-length
+    same-length-2
+    same-length-3
+    returns
+    same-length-4
+    same-length-5
+    same-length-6
+    returns-2)

@@ -1,0 +1,57 @@
+-- `host::kressedach_run` meets its contract: each case of the answer is reported as the definition reports it.
+use Rattle.host.proofs.ReportLaws.{run-reported, run-refused}
+use borrow.Author.Needs.{needs}
+use Rattle.host.proofs.kressedach_run.Statement.{statement}
+use Rattle.host.proofs.kressedach_run.Tie as tie
+use Rattle.host.proofs.kressedach_run.Reads as reads
+use Rattle.host.proofs.kressedach_run.Lts as lts
+use Rattle.jobs.proofs.run.Reads as run-reads
+
+run-requires : tie.Need-run-requires
+run-requires c κs = search needs
+
+enum-known-nodes : tie.Need-enum-known-nodes
+enum-known-nodes c = search needs
+
+enum-known-number : tie.Need-enum-known-number
+enum-known-number c = search needs
+
+same-length : tie.Need-same-length
+same-length c = search needs
+
+same-length-2 : tie.Need-same-length-2
+same-length-2 c = search needs
+
+same-length-3 : tie.Need-same-length-3
+same-length-3 c = search needs
+
+returns : tie.Need-returns
+returns c = search (run-reported, needs)
+
+same-length-4 : tie.Need-same-length-4
+same-length-4 c = search needs
+
+same-length-5 : tie.Need-same-length-5
+same-length-5 c = search needs
+
+same-length-6 : tie.Need-same-length-6
+same-length-6 c = search needs
+
+returns-2 : tie.Need-returns-2
+returns-2 c = search (run-refused, needs)
+
+pub kressedach-run-spec : {M : Type 1} → statement M
+kressedach-run-spec =
+    tie.close
+    (tie.spec
+    run-requires
+    enum-known-nodes
+    enum-known-number
+    same-length
+    same-length-2
+    same-length-3
+    returns
+    same-length-4
+    same-length-5
+    same-length-6
+    returns-2)
