@@ -1,0 +1,95 @@
+/* All four jobs on a bored block: Block less Bore. Prints what each answers, and ends with status 0 if all is as it should be. */
+#include "kressedach.h"
+#include <stdio.h>
+
+/* An array as the two arguments that a list is: a pointer and the number of entries. */
+#define LENGTH(array) (sizeof(array) / sizeof *(array))
+#define LIST(array) (array), LENGTH(array)
+
+static const uint8_t sheet[] = {
+    1, 0, 2, 0, 1,                    /* edition 1 */
+    2, 0, 5, 'B', 'l', 'o', 'c', 'k', /* shape 0 */
+    2, 0, 4, 'B', 'o', 'r', 'e',      /* shape 1 */
+    3, 0, 6, 0, 0, 0, 1, 0xFF, 0xF2,  /* Block Bore difference */
+};
+
+static int failures;
+
+static void expect(int holds, const char *what) {
+    if (!holds) {
+        printf("not as it should be: %s\n", what);
+        failures++;
+    }
+}
+
+static void read_sheet(void) {
+    struct kressedach_read_report r = kressedach_read(LIST(sheet));
+    printf("read: %zu names, %zu leaves, formula at %zu to %zu\n", r.names, r.leaves, r.first, r.past);
+    expect(r.number == KRESSEDACH_GIVEN && r.place == 0, "the sheet is read");
+    expect(r.names == 2 && r.leaves == 2 && r.first == 23 && r.past == 29, "what it holds");
+
+    r = kressedach_read(sheet, sizeof sheet - 1);
+    printf("without its last byte: refused %u at %zu\n", r.number, r.place);
+    expect(r.number == KRESSEDACH_ENDS_TOO_SOON && r.place == 28 && r.names == 0, "a sheet that ends too soon");
+
+    r = kressedach_read(NULL, 0);
+    expect(r.number == KRESSEDACH_ENDS_TOO_SOON && r.place == 0, "no bytes at all");
+}
+
+static void build_tree(void) {
+    uint16_t kinds[KRESSEDACH_MOST_NODES], firsts[KRESSEDACH_MOST_NODES], seconds[KRESSEDACH_MOST_NODES];
+    kinds[3] = 9;
+    struct kressedach_build_report r = kressedach_build(LIST(sheet), LIST(kinds), LIST(firsts), LIST(seconds));
+    printf("build: %zu leaves, %zu nodes, %zu rounds, height %zu\n", r.leaves, r.nodes, r.rounds, r.height);
+    for (size_t k = 0; k < r.nodes; k++) {
+        printf("  %u %u %u\n", kinds[k], firsts[k], seconds[k]);
+    }
+    expect(r.number == KRESSEDACH_GIVEN && r.leaves == 2 && r.nodes == 3 && r.rounds == 1 && r.height == 1, "the tree is built");
+    expect(kinds[2] == 3 && firsts[2] == 0 && seconds[2] == 1 && seconds[1] == KRESSEDACH_NONE, "the root is a difference");
+    expect(kinds[3] == 9, "entries past the last one stay");
+
+    r = kressedach_build(LIST(sheet), kinds, 3, firsts, 2, seconds, 3);
+    printf("with a short list: refused %u, %zu entries are needed\n", r.number, r.place);
+    expect(r.number == KRESSEDACH_LIST_TOO_SHORT && r.place == 3 && r.nodes == 0, "a list that is too short");
+}
+
+static void run_toggles(void) {
+    static const uint16_t toggles[] = {0, 1, 1, 0};
+    uint8_t roots[LENGTH(toggles)], labels[KRESSEDACH_MOST_NODES];
+    uint32_t counts[LENGTH(toggles)];
+    struct kressedach_run_report r = kressedach_run(LIST(sheet), LIST(toggles), LIST(roots), LIST(counts), LIST(labels));
+    printf("run: roots %u %u %u %u\n", roots[0], roots[1], roots[2], roots[3]);
+    expect(r.number == KRESSEDACH_GIVEN && r.nodes == 3, "the toggles are run");
+    expect(roots[0] == 1 && roots[1] == 0 && roots[2] == 1 && roots[3] == 0, "in the block, in the bore, back, out");
+    expect(counts[0] == 1 && counts[3] == 1 && labels[0] == 0 && labels[2] == 0, "counts and labels");
+}
+
+static void classify_lines(void) {
+    static const uint32_t lines[] = {7, 7, 7, 7};
+    static const int32_t positions[] = {0, 40, 60, 100};
+    static const uint16_t shapes[] = {0, 1, 1, 0};
+    uint32_t wall_lines[LENGTH(lines) / 2];
+    int32_t starts[LENGTH(lines) / 2], ends[LENGTH(lines) / 2];
+    struct kressedach_classify_report r =
+        kressedach_classify(LIST(sheet), LIST(lines), LIST(positions), LIST(shapes), LIST(wall_lines), LIST(starts), LIST(ends));
+    for (size_t k = 0; k < r.walls; k++) {
+        printf("wall: line %lu, %ld to %ld\n", (unsigned long)wall_lines[k], (long)starts[k], (long)ends[k]);
+    }
+    expect(r.number == KRESSEDACH_GIVEN && r.walls == 2 && wall_lines[0] == 7 && wall_lines[1] == 7, "two walls");
+    expect(starts[0] == 0 && ends[0] == 40 && starts[1] == 60 && ends[1] == 100, "beside the bore, on both sides");
+
+    r = kressedach_classify(LIST(sheet), lines, 3, positions, 3, shapes, 3, wall_lines, 2, starts, 2, ends, 2);
+    printf("without the last crossing: refused %u at %zu\n", r.number, r.place);
+    expect(r.number == KRESSEDACH_ODD && r.place == 2 && r.walls == 0, "the block is not left");
+
+    r = kressedach_classify(LIST(sheet), NULL, 0, NULL, 0, NULL, 0, NULL, 0, NULL, 0, NULL, 0);
+    expect(r.number == KRESSEDACH_GIVEN && r.walls == 0, "no crossings, no walls");
+}
+
+int main(void) {
+    read_sheet();
+    build_tree();
+    run_toggles();
+    classify_lines();
+    return failures == 0 ? 0 : 1;
+}

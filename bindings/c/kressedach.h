@@ -1,0 +1,139 @@
+/* Kressedach: reads solid sheets and answers with their wall lists. The C side of the proved library.
+ *
+ * Link target/staticlib/libhost.a, which `rt staticlib host` writes: cc prog.c libhost.a. It is for x86-64 Linux and position
+ * independent. It keeps no state, allocates nothing, calls nothing back, never unwinds, and may be called from any number of threads
+ * at once. Of the C library it needs memcpy, memmove and memset at most. Its working memory is on the stack, which the proofs do not
+ * count: 512 kilobytes are enough.
+ *
+ * Each function answers a struct. Where `number` is 0, the job is done: `place` is 0 and the rest is the answer. Else `number` and
+ * `place` are the refusal's, as the table of document 01 has them, and the rest is 0.
+ *
+ * A refusal writes nothing to any list. Entries of a list past the last one given stay as they were.
+ *
+ * What is proved is that each function answers so for every content and every length of the lists it is lent. What a caller keeps,
+ * and nothing can check:
+ *
+ *  - A list is a pointer, then its number of entries (not of bytes). The entries are there for the whole call. Those of a list that is
+ *    read are initialised; a list that is written may hold anything, and need not be cleared.
+ *  - The pointer is aligned for its entry: uint16_t to 2, uint32_t and int32_t to 4. Only with no entries may it be NULL.
+ *  - A list that is written (it has no `const`) overlaps no other list of the call. Lists that are only read may overlap.
+ *  - No other thread writes a list of the call, or reads one that is written, until the call is over.
+ *  - A list holds at most PTRDIFF_MAX bytes, as every C object does.
+ *
+ * The compiler checks these declarations against nothing; bindings/rust/tests/declared.rs compares them with crates/host/src/lib.rt.
+ */
+#ifndef KRESSEDACH_H
+#define KRESSEDACH_H
+
+#include <stddef.h>
+#include <stdint.h>
+
+#ifdef __cplusplus
+extern "C" {
+#endif
+
+/* The numbers of the refusals, and what their places are. 0 is no refusal. */
+enum kressedach_number {
+    KRESSEDACH_GIVEN = 0,
+    KRESSEDACH_ENDS_TOO_SOON = 1,    /* the sheet's length */
+    KRESSEDACH_TAG_OUT_OF_PLACE = 2, /* the tag's offset, as for 3 to 6 */
+    KRESSEDACH_HEADER_WRONG = 3,
+    KRESSEDACH_NAME_WRONG = 4,
+    KRESSEDACH_NAME_TAKEN = 5,
+    KRESSEDACH_TOO_LARGE = 6,      /* more than 256 names, or a formula longer than 4094 bytes */
+    KRESSEDACH_FORMULA_WRONG = 7,  /* the code's offset; the tag's for a wrong length or a wrong end */
+    KRESSEDACH_TOO_HIGH = 8,       /* 0 */
+    KRESSEDACH_LIST_TOO_SHORT = 9, /* the length needed */
+    KRESSEDACH_NO_SUCH_SHAPE = 10, /* the index in the list */
+    KRESSEDACH_FALLS = 11,         /* the index */
+    KRESSEDACH_ODD = 12,           /* the index of the last entry on the first line where a shape is crossed an odd number of times */
+    KRESSEDACH_LENGTHS_DIFFER = 13 /* 0 */
+};
+
+/* No contracted tree has more nodes: room for so many entries is enough for any sheet. */
+#define KRESSEDACH_MOST_NODES 3069
+
+/* What stands in a node's record where there is no number. */
+#define KRESSEDACH_NONE 65535
+
+struct kressedach_read_report {
+    uint8_t number;
+    size_t place;
+    size_t names;  /* how many names; shapes are numbered from 0 */
+    size_t leaves; /* how many leaves the formula has */
+    size_t first;  /* the offset of the formula's first byte */
+    size_t past;   /* the offset past its last */
+};
+
+/* Reads a sheet. Refusals: 1 to 7.
+ *
+ * The caller keeps: sheet_length bytes at sheet. Nothing is written.
+ */
+struct kressedach_read_report kressedach_read(const uint8_t *sheet, size_t sheet_length);
+
+struct kressedach_build_report {
+    uint8_t number;
+    size_t place;
+    size_t leaves; /* the leaves are the first nodes, from left to right */
+    size_t nodes;  /* how many entries were given in each list */
+    size_t rounds;
+    size_t height;
+};
+
+/* Builds the contracted ("dwarf") tree: a record of kind, first, second for each node, the root last. Refusals: 1 to 7, 8, then 9 for
+ * kinds, firsts, seconds in this order.
+ *
+ * The caller keeps: sheet_length bytes at sheet; kinds_length, firsts_length and seconds_length entries at kinds, firsts and seconds.
+ * The last three are written: none of them overlaps another list. Each needs an entry a node.
+ */
+struct kressedach_build_report kressedach_build(const uint8_t *sheet, size_t sheet_length,
+                                                uint16_t *kinds, size_t kinds_length,
+                                                uint16_t *firsts, size_t firsts_length,
+                                                uint16_t *seconds, size_t seconds_length);
+
+struct kressedach_run_report {
+    uint8_t number;
+    size_t place;
+    size_t nodes; /* how many labels were given; roots and counts have an entry a toggle */
+};
+
+/* Runs toggles, which are shape numbers, with every shape outside at first: a root bit and a count of reworked labels for each toggle,
+ * and each node's label after the last. Refusals: 1 to 7, 8, 10, then 9 for roots, counts, labels in this order.
+ *
+ * The caller keeps: sheet_length bytes at sheet, toggles_length entries at toggles; roots_length, counts_length and labels_length
+ * entries at roots, counts and labels. The last three are written: none of them overlaps another list. Roots and counts need an entry
+ * a toggle, labels one a node.
+ */
+struct kressedach_run_report kressedach_run(const uint8_t *sheet, size_t sheet_length,
+                                            const uint16_t *toggles, size_t toggles_length,
+                                            uint8_t *roots, size_t roots_length,
+                                            uint32_t *counts, size_t counts_length,
+                                            uint8_t *labels, size_t labels_length);
+
+struct kressedach_classify_report {
+    uint8_t number;
+    size_t place;
+    size_t walls; /* how many entries were given in each list */
+};
+
+/* Finds the walls of lines. A crossing is a line number, a position in micrometres and a shape number, at one index of three lists;
+ * line numbers never fall, and positions never fall within a line. A wall is a longest stretch of positive length inside. Refusals:
+ * 1 to 7, 8, 13, then 10 and 11 crossing by crossing, 12, then 9 for wall_lines, starts, ends in this order.
+ *
+ * The caller keeps: sheet_length bytes at sheet; lines_length, positions_length and shapes_length entries at lines, positions and
+ * shapes; wall_lines_length, starts_length and ends_length entries at wall_lines, starts and ends. The last three are written: none of
+ * them overlaps another list. Each needs half as many entries as there are crossings, rounded down.
+ */
+struct kressedach_classify_report kressedach_classify(const uint8_t *sheet, size_t sheet_length,
+                                                      const uint32_t *lines, size_t lines_length,
+                                                      const int32_t *positions, size_t positions_length,
+                                                      const uint16_t *shapes, size_t shapes_length,
+                                                      uint32_t *wall_lines, size_t wall_lines_length,
+                                                      int32_t *starts, size_t starts_length,
+                                                      int32_t *ends, size_t ends_length);
+
+#ifdef __cplusplus
+}
+#endif
+
+#endif

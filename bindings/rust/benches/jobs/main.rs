@@ -1,0 +1,90 @@
+//! The proved library's time beside plain Rust of the same method and beside a plain copy of the lists, in one run.
+//!
+//! `cargo bench --offline -q` prints the page `docs/BENCHMARKS.md`. Without `--bench`, as `cargo test` runs this, nothing is timed, and the
+//! answers of each row are compared with those of `peer`.
+
+mod plain;
+mod rows;
+
+use rows::Row;
+use std::process::Command;
+use std::time::Instant;
+
+fn main() {
+    let timed = std::env::args().any(|arg| arg == "--bench");
+    let rows = rows::all(if timed { 20_000 } else { 2_000 });
+    for row in &rows {
+        (row.check)();
+    }
+    if !timed {
+        return println!("benchmark: the answers of {} rows agree", rows.len());
+    }
+    heading();
+    let above: Vec<String> = rows.into_iter().filter_map(|mut row| line(&mut row)).collect();
+    match above.len() {
+        0 => println!("\nNo row is above {MOST} times the plain one."),
+        count => println!("\nAbove {MOST} times the plain one, {count} rows: {}.", above.join("; ")),
+    }
+}
+
+/// What the library may take at most, in times of the plain one.
+const MOST: f64 = 1.5;
+
+fn heading() {
+    let date = Command::new("date").args(["-u", "+%F"]).output().map(|said| String::from_utf8_lossy(&said.stdout).trim().to_string());
+    let cpu = std::fs::read_to_string("/proc/cpuinfo").unwrap_or_default();
+    let model = cpu.lines().find_map(|line| line.strip_prefix("model name")).unwrap_or("unknown").trim_start_matches([' ', '\t', ':']);
+    let cores = std::thread::available_parallelism().map_or(1, usize::from);
+    println!("# Benchmarks\n");
+    println!(
+        "`cargo bench --offline -q` in `bindings/rust` prints this page. Measured on {}, {model}, {cores} cores.\n",
+        date.unwrap_or_default()
+    );
+    println!(
+        "Nanoseconds an item, the best of many turns: an item is a leaf for read and build, a toggle for run, a crossing for classify."
+    );
+    println!("Each time is of a whole call, which for run and classify includes reading the sheet and contracting its formula.\n");
+    println!("- `library`: the proved library, called through the Rust crate.");
+    println!("- `plain`: safe Rust of the same method.");
+    println!("- `walk`: plain Rust that flips leaves and walks up the contracted tree at each crossing.");
+    println!("- `copy`: a plain copy of the call's lists, those read and those written.\n");
+    println!("All lists are made before and lent again at each turn; none is cleared.\n");
+    println!("| job | formula | leaves | lists | library | plain | walk | copy | library / plain | library / copy |");
+    println!("|---|---|--:|---|--:|--:|--:|--:|--:|--:|");
+}
+
+/// Times and prints a row; names it if it is above what it may be.
+fn line(row: &mut Row) -> Option<String> {
+    let mut functions: Vec<&mut dyn FnMut()> = vec![&mut row.library, &mut row.plain, &mut row.copy];
+    functions.extend(row.walk.as_mut().map(|walk| walk as &mut dyn FnMut()));
+    let times: Vec<f64> = best(&mut functions).into_iter().map(|time| time / row.items as f64).collect();
+    let walk = times.get(3).map_or(String::new(), |time| format!("{time:.2}"));
+    let (library, plain, copy) = (times[0], times[1], times[2]);
+    let what = format!("{} | {} | {} | {}", row.job, row.formula, row.leaves, row.lists);
+    let ratio = library / plain;
+    println!("| {what} | {library:.2} | {plain:.2} | {walk} | {copy:.2} | {ratio:.2} | {:.0} |", library / copy);
+    (ratio > MOST).then(|| what.replace(" |", ","))
+}
+
+/// The best time of a call in nanoseconds, for each function. They take turns, so that a slow moment of the machine hits all.
+fn best(functions: &mut [&mut dyn FnMut()]) -> Vec<f64> {
+    const TURNS: usize = 25;
+    const TURN: f64 = 2e6;
+    let calls: Vec<usize> = functions.iter_mut().map(|f| (TURN / time(1 + (TURN / time(1, f)) as usize / 20, f)).ceil() as usize).collect();
+    let mut least = vec![f64::INFINITY; functions.len()];
+    for _ in 0..TURNS {
+        for (k, f) in functions.iter_mut().enumerate() {
+            least[k] = least[k].min(time(calls[k], f));
+        }
+    }
+    least
+}
+
+/// The time of a call in nanoseconds, over so many of them.
+fn time(calls: usize, f: &mut dyn FnMut()) -> f64 {
+    let began = Instant::now();
+    for _ in 0..calls {
+        f();
+    }
+    (began.elapsed().as_nanos() as f64 / calls as f64).max(1.0)
+}

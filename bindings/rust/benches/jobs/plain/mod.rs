@@ -1,0 +1,26 @@
+//! The four jobs in plain, safe Rust, by the methods of the proved library: what its times are measured against.
+//!
+//! These are written to be as quick as plain code of that method is, in working memory of fixed size. A refusal is its number and place.
+
+mod dwarf;
+mod read;
+mod run;
+mod walls;
+
+pub use dwarf::build;
+use dwarf::{contracted, Dwarf};
+pub use read::read;
+pub use run::run;
+pub use walls::{by_walk, by_words};
+
+pub type Refused = (u8, usize);
+
+/// Are three answer lists long enough?
+fn enough(rooms: [usize; 3], needed: [usize; 3]) -> Result<(), Refused> {
+    for k in 0..3 {
+        if rooms[k] < needed[k] {
+            return Err((9, needed[k]));
+        }
+    }
+    Ok(())
+}

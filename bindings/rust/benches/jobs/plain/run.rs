@@ -1,0 +1,102 @@
+//! Running: parents and the leaves of each shape are lists of numbers, and a walk goes up from a leaf.
+
+use super::{contracted, enough, Dwarf, Refused};
+
+const NONE: u16 = 65535;
+const NODES: usize = 3069;
+
+/// A dwarf tree with its labels, ready for walks.
+pub struct Labels {
+    pub dwarf: Dwarf,
+    pub labels: [u8; NODES],
+    parents: [u16; NODES],
+    /// The first leaf of each shape, and the next leaf of the same shape after each leaf.
+    first_leaf: [u16; 256],
+    next_leaf: [u16; 1024],
+}
+
+impl Labels {
+    /// All shapes outside.
+    pub fn outside(dwarf: Dwarf) -> Labels {
+        let mut all = Labels { dwarf, labels: [0; NODES], parents: [NONE; NODES], first_leaf: [NONE; 256], next_leaf: [NONE; 1024] };
+        for leaf in (0..all.dwarf.leaves).rev() {
+            let shape = usize::from(all.dwarf.firsts[leaf]);
+            all.next_leaf[leaf] = all.first_leaf[shape];
+            all.first_leaf[shape] = leaf as u16;
+        }
+        for node in all.dwarf.leaves..all.dwarf.nodes {
+            all.parents[usize::from(all.dwarf.firsts[node])] = node as u16;
+            if all.dwarf.seconds[node] != NONE {
+                all.parents[usize::from(all.dwarf.seconds[node])] = node as u16;
+            }
+            all.labels[node] = all.label(node);
+        }
+        all
+    }
+
+    pub fn root(&self) -> u8 {
+        self.labels[self.dwarf.nodes - 1]
+    }
+
+    /// Flips the leaves of a shape; gives how many labels were worked out.
+    pub fn toggle(&mut self, shape: u16) -> u32 {
+        let (mut count, mut leaf) = (0, self.first_leaf[usize::from(shape)]);
+        while leaf != NONE {
+            self.labels[usize::from(leaf)] ^= 1;
+            count += self.walk(leaf);
+            leaf = self.next_leaf[usize::from(leaf)];
+        }
+        count
+    }
+
+    fn walk(&mut self, leaf: u16) -> u32 {
+        let (mut count, mut up) = (0, self.parents[usize::from(leaf)]);
+        while up != NONE {
+            let node = usize::from(up);
+            let label = self.label(node);
+            count += 1;
+            if label == self.labels[node] {
+                break;
+            }
+            self.labels[node] = label;
+            up = self.parents[node];
+        }
+        count
+    }
+
+    /// A pair (a, b) is 2a + b.
+    fn label(&self, node: usize) -> u8 {
+        let first = self.labels[usize::from(self.dwarf.firsts[node])];
+        let second = || self.labels[usize::from(self.dwarf.seconds[node])];
+        match self.dwarf.kinds[node] {
+            1 => first | second(),
+            2 => first & second(),
+            3 => first & !second() & 1,
+            4 => first ^ second(),
+            5 | 9 => 2 | first,
+            6 | 10 => first << 1,
+            7 => first,
+            8 | 12 => 2 - first,
+            11 => (1 - first) << 1,
+            13 => first >> second() & 1,
+            _ => (first >> (second() >> 1) & 1) << 1 | first >> (second() & 1) & 1,
+        }
+    }
+}
+
+/// Runs toggles; gives the number of labels.
+pub fn run(sheet: &[u8], toggles: &[u16], roots: &mut [u8], counts: &mut [u32], labels: &mut [u8]) -> Result<usize, Refused> {
+    let mut dwarf = Dwarf::default();
+    let (names, _, _) = contracted(sheet, &mut dwarf)?;
+    if let Some(index) = toggles.iter().position(|shape| usize::from(*shape) >= names) {
+        return Err((10, index));
+    }
+    enough([roots.len(), counts.len(), labels.len()], [toggles.len(), toggles.len(), dwarf.nodes])?;
+    let mut all = Labels::outside(dwarf);
+    for ((shape, root), count) in toggles.iter().zip(roots).zip(counts) {
+        *count = all.toggle(*shape);
+        *root = all.root();
+    }
+    labels[..all.dwarf.nodes].copy_from_slice(&all.labels[..all.dwarf.nodes]);
+    Ok(all.dwarf.nodes)
+}

@@ -1,0 +1,253 @@
+//! What is timed: each row is one job on one sheet with its lists.
+
+use crate::plain;
+use peer::lines::{Crossing, Crossings};
+use peer::make::{self, Dice, Form};
+use std::hint::black_box;
+
+pub struct Row {
+    pub job: &'static str,
+    pub formula: &'static str,
+    pub leaves: usize,
+    pub lists: String,
+    /// How many items a call works on.
+    pub items: usize,
+    pub library: Box<dyn FnMut()>,
+    pub plain: Box<dyn FnMut()>,
+    pub walk: Option<Box<dyn FnMut()>>,
+    pub copy: Box<dyn FnMut()>,
+    /// Compares the answers.
+    pub check: Box<dyn Fn()>,
+}
+
+const SIZES: [usize; 4] = [4, 64, 256, 1024];
+const NODES: usize = kressedach::MOST_NODES;
+
+/// A sheet of so many leaves. Each shape stands at one leaf while there are names; in `ninety`, the first stands at ninety more or less.
+fn sheet(formula: &str, leaves: usize) -> (Vec<u8>, usize) {
+    let dice = &mut Dice::of(11, leaves as u64);
+    let form = if formula == "chain" { Form::LeftChain } else { Form::Balanced };
+    let count = leaves.min(256);
+    let mut codes = make::codes(dice, count, leaves, form);
+    let (mut leaf, every) = (0, leaves as f64 / 90.0);
+    for code in codes.iter_mut().filter(|code| **code < 0xFFF0) {
+        *code = match formula {
+            "ninety" if (leaf as f64 % every) < 1.0 => 0,
+            "ninety" => 1 + (leaf % (count - 1)) as u16,
+            _ => (leaf % count) as u16,
+        };
+        leaf += 1;
+    }
+    let names: Vec<String> = (0..count).map(|shape| format!("rib{shape:03}")).collect();
+    (make::sheet(&names, &codes), count)
+}
+
+/// All rows. Toggle lists have a tenth of `crossings`.
+pub fn all(crossings: usize) -> Vec<Row> {
+    let mut rows: Vec<Row> = SIZES.into_iter().map(|leaves| read("chain", leaves)).collect();
+    for formula in ["chain", "balanced"] {
+        rows.extend(SIZES.into_iter().map(|leaves| build(formula, leaves)));
+    }
+    for formula in ["chain", "balanced", "ninety"] {
+        let sizes = &SIZES[if formula == "ninety" { 2 } else { 0 }..];
+        rows.extend(sizes.iter().map(|leaves| run(formula, *leaves, crossings / 10)));
+    }
+    for formula in ["chain", "balanced", "ninety"] {
+        let sizes = &SIZES[if formula == "ninety" { 2 } else { 0 }..];
+        for (leaves, a_line) in sizes.iter().flat_map(|leaves| [2, 10, 200].map(|a_line| (*leaves, a_line))) {
+            rows.push(classify(formula, leaves, a_line, crossings));
+        }
+    }
+    rows
+}
+
+/// Copies a list, each time it is called.
+fn copying<T: Copy + 'static>(from: Vec<T>) -> impl FnMut() {
+    let mut to = from.clone();
+    move || black_box(&mut to[..]).copy_from_slice(black_box(&from))
+}
+
+fn read(formula: &'static str, leaves: usize) -> Row {
+    let (sheet, _) = sheet(formula, leaves);
+    let (a, b, c) = (sheet.clone(), sheet.clone(), sheet.clone());
+    Row {
+        job: "read",
+        formula,
+        leaves,
+        lists: format!("{} bytes", sheet.len()),
+        items: leaves,
+        library: Box::new(move || _ = black_box(kressedach::read(black_box(&a)))),
+        plain: Box::new(move || _ = black_box(plain::read(black_box(&b)))),
+        walk: None,
+        copy: Box::new(copying(c)),
+        check: Box::new(move || {
+            let read = kressedach::read(&sheet).unwrap();
+            assert_eq!(plain::read(&sheet), Ok((read.names, read.leaves, read.formula.start, read.formula.end)));
+            let due = peer::read(&sheet).unwrap();
+            assert_eq!((read.names, read.leaves, read.formula), (due.names.len(), due.leaves, due.first..due.past));
+        }),
+    }
+}
+
+fn build(formula: &'static str, leaves: usize) -> Row {
+    let (sheet, _) = sheet(formula, leaves);
+    let (a, b) = (sheet.clone(), sheet.clone());
+    let due = peer::build(&sheet, [NODES; 3]).unwrap();
+    let nodes = due.records.len();
+    let [mut kinds, mut firsts, mut seconds] = [[0; NODES]; 3];
+    let [mut plain_kinds, mut plain_firsts, mut plain_seconds] = [[0; NODES]; 3];
+    let (mut copy_sheet, mut copy_lists) = (copying(sheet.clone()), copying(vec![0u16; 3 * nodes]));
+    Row {
+        job: "build",
+        formula,
+        leaves,
+        lists: format!("{nodes} nodes"),
+        items: leaves,
+        library: Box::new(move || _ = black_box(kressedach::build_into(black_box(&a), &mut kinds, &mut firsts, &mut seconds))),
+        plain: Box::new(move || {
+            _ = black_box(plain::build(black_box(&b), &mut plain_kinds, &mut plain_firsts, &mut plain_seconds));
+        }),
+        walk: None,
+        copy: Box::new(move || {
+            copy_sheet();
+            copy_lists();
+        }),
+        check: Box::new(move || {
+            let size = [due.leaves, nodes, due.rounds, due.height()];
+            let lists = |list: fn(&peer::dwarf::Record) -> u16| due.records.iter().map(list).collect::<Vec<u16>>();
+            let lists = [lists(|record| record.kind), lists(|record| record.first), lists(|record| record.second)];
+            let [mut kinds, mut firsts, mut seconds] = [[0; NODES]; 3];
+            let built = kressedach::build_into(&sheet, &mut kinds, &mut firsts, &mut seconds).unwrap();
+            assert_eq!([built.leaves, built.nodes, built.rounds, built.height], size);
+            assert!([&kinds[..nodes], &firsts[..nodes], &seconds[..nodes]] == lists);
+            let [mut kinds, mut firsts, mut seconds] = [[0; NODES]; 3];
+            assert_eq!(plain::build(&sheet, &mut kinds, &mut firsts, &mut seconds), Ok(size));
+            assert!([&kinds[..nodes], &firsts[..nodes], &seconds[..nodes]] == lists);
+        }),
+    }
+}
+
+fn run(formula: &'static str, leaves: usize, count: usize) -> Row {
+    let (sheet, names) = sheet(formula, leaves);
+    let dice = &mut Dice::of(12, leaves as u64);
+    let toggles: Vec<u16> = (0..count)
+        .map(|k| match formula {
+            "ninety" if k % 2 == 0 => 0,
+            _ => dice.below(names) as u16,
+        })
+        .collect();
+    let nodes = peer::build(&sheet, [NODES; 3]).unwrap().records.len();
+    let (a, b) = ((sheet.clone(), toggles.clone()), (sheet.clone(), toggles.clone()));
+    let lists = || (vec![0u8; count], vec![0u32; count], vec![0u8; NODES]);
+    let ((mut roots, mut counts, mut labels), mut plain_lists) = (lists(), lists());
+    let (mut copy_sheet, mut copy_toggles) = (copying(sheet.clone()), copying(toggles.clone()));
+    let (mut copy_bytes, mut copy_counts) = (copying(vec![0u8; count + nodes]), copying(vec![0u32; count]));
+    Row {
+        job: "run",
+        formula,
+        leaves,
+        lists: format!("{count} toggles"),
+        items: count,
+        library: Box::new(move || {
+            _ = black_box(kressedach::run_into(black_box(&a.0), black_box(&a.1), &mut roots, &mut counts, &mut labels))
+        }),
+        plain: Box::new(move || {
+            let (roots, counts, labels) = &mut plain_lists;
+            _ = black_box(plain::run(black_box(&b.0), black_box(&b.1), roots, counts, labels));
+        }),
+        walk: None,
+        copy: Box::new(move || {
+            copy_sheet();
+            copy_toggles();
+            copy_bytes();
+            copy_counts();
+        }),
+        check: Box::new(move || {
+            let due = peer::run(&sheet, &toggles, [usize::MAX; 3]).unwrap();
+            let (mut roots, mut counts, mut labels) = (vec![0; toggles.len()], vec![0; toggles.len()], vec![0; NODES]);
+            assert_eq!(kressedach::run_into(&sheet, &toggles, &mut roots, &mut counts, &mut labels), Ok(due.labels.len()));
+            assert!(roots == due.roots && counts == due.counts && labels[..due.labels.len()] == due.labels);
+            assert_eq!(plain::run(&sheet, &toggles, &mut roots, &mut counts, &mut labels), Ok(due.labels.len()));
+            assert!(roots == due.roots && counts == due.counts && labels[..due.labels.len()] == due.labels);
+        }),
+    }
+}
+
+/// Crossings, so many a line, of random shapes at random places.
+fn crossings(names: usize, a_line: usize, count: usize) -> Vec<Crossing> {
+    let dice = &mut Dice::of(13, a_line as u64);
+    let mut all = Vec::new();
+    for line in 0..(count / a_line) as u32 {
+        let mut here = Vec::new();
+        for _ in 0..a_line / 2 {
+            let shape = dice.below(names) as u16;
+            here.extend([(); 2].map(|()| Crossing { line, position: dice.below(100_000) as i32, shape }));
+        }
+        here.sort_by_key(|crossing| crossing.position);
+        all.extend(here);
+    }
+    all
+}
+
+struct Lines {
+    sheet: Vec<u8>,
+    lines: Vec<u32>,
+    positions: Vec<i32>,
+    shapes: Vec<u16>,
+}
+
+/// A way to classify, with the lists it writes.
+type Way = fn(&Lines, &mut [u32], &mut [i32], &mut [i32]) -> usize;
+
+const LIBRARY: Way =
+    |l, wall_lines, starts, ends| kressedach::classify_into(&l.sheet, &l.lines, &l.positions, &l.shapes, wall_lines, starts, ends).unwrap();
+const WORDS: Way =
+    |l, wall_lines, starts, ends| plain::by_words(&l.sheet, &l.lines, &l.positions, &l.shapes, wall_lines, starts, ends).unwrap();
+const WALK: Way =
+    |l, wall_lines, starts, ends| plain::by_walk(&l.sheet, &l.lines, &l.positions, &l.shapes, wall_lines, starts, ends).unwrap();
+
+fn classify(formula: &'static str, leaves: usize, a_line: usize, count: usize) -> Row {
+    let (sheet, names) = sheet(formula, leaves);
+    let all = crossings(names, a_line, count);
+    let lines = std::rc::Rc::new(Lines {
+        sheet: sheet.clone(),
+        lines: all.iter().map(|c| c.line).collect(),
+        positions: all.iter().map(|c| c.position).collect(),
+        shapes: all.iter().map(|c| c.shape).collect(),
+    });
+    let timed = |way: Way| -> Box<dyn FnMut()> {
+        let lines = lines.clone();
+        let (mut wall_lines, mut starts, mut ends) = (vec![0; count / 2], vec![0; count / 2], vec![0; count / 2]);
+        Box::new(move || _ = black_box(way(black_box(&lines), &mut wall_lines, &mut starts, &mut ends)))
+    };
+    let walls = WORDS(&lines, &mut vec![0; count / 2], &mut vec![0; count / 2], &mut vec![0; count / 2]);
+    let (mut copy_sheet, mut copy_shapes) = (copying(sheet), copying(lines.shapes.clone()));
+    let (mut copy_words, mut copy_walls) = (copying(vec![0u32; 2 * count]), copying(vec![0u32; 3 * walls]));
+    Row {
+        job: "classify",
+        formula,
+        leaves,
+        lists: format!("{a_line} a line"),
+        items: count,
+        library: timed(LIBRARY),
+        plain: timed(WORDS),
+        walk: Some(timed(WALK)),
+        copy: Box::new(move || {
+            copy_sheet();
+            copy_shapes();
+            copy_words();
+            copy_walls();
+        }),
+        check: Box::new(move || {
+            let crossings = Crossings { lines: &lines.lines, positions: &lines.positions, shapes: &lines.shapes };
+            let due = peer::classify(&lines.sheet, crossings, [count; 3]).unwrap();
+            for way in [LIBRARY, WORDS, WALK] {
+                let (mut wall_lines, mut starts, mut ends) = (vec![0; count / 2], vec![0; count / 2], vec![0; count / 2]);
+                assert_eq!(way(&lines, &mut wall_lines, &mut starts, &mut ends), due.len());
+                for (k, wall) in due.iter().enumerate() {
+                    assert_eq!((wall_lines[k], starts[k], ends[k]), (wall.line, wall.start, wall.end));
+                }
+            }
+        }),
+    }
+}

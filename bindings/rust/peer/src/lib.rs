@@ -1,0 +1,87 @@
+//! Document 01 in plain Rust, written from the document: what the proved library is compared with.
+//!
+//! Nothing here is proved or tuned, and nothing is shared with the library: the formula is a tree of boxes, the contraction works on
+//! nodes that point to each other, and a line is evaluated position by position. Each module follows one section of the document.
+//! [`make`] makes sheets and lists, good and damaged, from a seed.
+//!
+//! Each job takes the lengths of the answer lists (`rooms`), in the order in which the document names them, and gives what the first
+//! entries of those lists become.
+
+pub mod dwarf;
+pub mod formula;
+pub mod lines;
+pub mod make;
+pub mod sheet;
+pub mod toggles;
+
+use dwarf::Dwarf;
+use lines::{Crossings, Wall};
+use sheet::Sheet;
+use toggles::Ran;
+
+/// A refusal: its number and its place.
+#[derive(Debug, Clone, Copy, PartialEq, Eq)]
+pub struct Refused {
+    pub number: u8,
+    pub place: usize,
+}
+
+/// Refuses, with a number and a place.
+pub fn refuse<T>(number: u8, place: usize) -> Result<T, Refused> {
+    Err(Refused { number, place })
+}
+
+/// The job of reading.
+pub fn read(bytes: &[u8]) -> Result<Sheet, Refused> {
+    sheet::read(bytes)
+}
+
+/// The job of building: kinds, firsts, seconds are its answer lists.
+pub fn build(bytes: &[u8], rooms: [usize; 3]) -> Result<Dwarf, Refused> {
+    let (_, dwarf) = contracted(bytes)?;
+    enough(rooms, [dwarf.records.len(); 3])?;
+    Ok(dwarf)
+}
+
+/// The job of running toggles: roots, counts, labels are its answer lists.
+pub fn run(bytes: &[u8], toggles: &[u16], rooms: [usize; 3]) -> Result<Ran, Refused> {
+    let (sheet, dwarf) = contracted(bytes)?;
+    if let Some(index) = toggles.iter().position(|shape| usize::from(*shape) >= sheet.names.len()) {
+        return refuse(10, index);
+    }
+    enough(rooms, [toggles.len(), toggles.len(), dwarf.records.len()])?;
+    Ok(toggles::run(&dwarf, toggles))
+}
+
+/// The job of classifying lines: line, start, end are its answer lists.
+pub fn classify(bytes: &[u8], crossings: Crossings, rooms: [usize; 3]) -> Result<Vec<Wall>, Refused> {
+    let (sheet, _) = contracted(bytes)?;
+    let judged = lines::judge(sheet.names.len(), crossings)?;
+    enough(rooms, [judged.len() / 2; 3])?;
+    Ok(lines::walls(&sheet.formula, sheet.names.len(), &judged))
+}
+
+/// A sheet and its dwarf tree, unless that is too high.
+fn contracted(bytes: &[u8]) -> Result<(Sheet, Dwarf), Refused> {
+    let sheet = sheet::read(bytes)?;
+    let dwarf = dwarf::contract(&sheet.formula);
+    if dwarf.height() > 57 {
+        return refuse(8, 0);
+    }
+    Ok((sheet, dwarf))
+}
+
+/// The answer lists are long enough, judged in their order.
+fn enough(rooms: [usize; 3], needed: [usize; 3]) -> Result<(), Refused> {
+    match rooms.iter().zip(needed).find(|(room, need)| **room < *need) {
+        Some((_, need)) => refuse(9, need),
+        None => Ok(()),
+    }
+}
+
+/// Prints a line that the test harness does not hold back.
+pub fn say(text: impl std::fmt::Display) {
+    use std::io::Write;
+    let mut stderr = std::io::stderr().lock();
+    let _ = writeln!(stderr, "{text}");
+}

@@ -1,0 +1,286 @@
+//! Sheets, toggle lists and crossing lists made from a seed: good, damaged, extreme and long ones.
+
+use crate::lines::Crossing;
+
+/// Numbers from a seed (splitmix64).
+pub struct Dice(u64);
+
+impl Dice {
+    /// The dice of one case: each case has a seed of its own, so that one that fails is found again by itself.
+    pub fn of(seed: u64, case: u64) -> Dice {
+        let mut dice = Dice(seed.rotate_left(32) ^ case);
+        dice.throw();
+        dice
+    }
+
+    pub fn throw(&mut self) -> u64 {
+        self.0 = self.0.wrapping_add(0x9E37_79B9_7F4A_7C15);
+        let z = (self.0 ^ (self.0 >> 30)).wrapping_mul(0xBF58_476D_1CE4_E5B9);
+        let z = (z ^ (z >> 27)).wrapping_mul(0x94D0_49BB_1331_11EB);
+        z ^ (z >> 31)
+    }
+
+    /// A number below n, which is not 0.
+    pub fn below(&mut self, n: usize) -> usize {
+        (self.throw() % n as u64) as usize
+    }
+
+    /// Once in n times, on average.
+    pub fn once_in(&mut self, n: usize) -> bool {
+        self.below(n) == 0
+    }
+
+    pub fn of_these<T: Copy>(&mut self, choices: &[T]) -> T {
+        choices[self.below(choices.len())]
+    }
+
+    /// From 1 to most: mostly small, now and then large, and sometimes exactly the most.
+    pub fn size(&mut self, most: usize) -> usize {
+        match self.below(16) {
+            0 => most,
+            1 => 1 + self.below(most),
+            2..=5 => 1 + self.below(most.min(40)),
+            _ => 1 + self.below(most.min(9)),
+        }
+    }
+}
+
+/// How the operations of a formula hang together.
+#[derive(Debug, Clone, Copy, PartialEq, Eq)]
+pub enum Form {
+    /// Each operation's right operand is a leaf.
+    LeftChain,
+    /// Each operation's left operand is a leaf.
+    RightChain,
+    /// One operand of each operation is a leaf, now the left one and now the right one.
+    ZigZag,
+    Balanced,
+    /// A chain, whose other operands are balanced trees of four leaves.
+    Comb,
+    /// Split anywhere.
+    Any,
+}
+
+impl Form {
+    pub const ALL: [Form; 6] = [Form::LeftChain, Form::RightChain, Form::ZigZag, Form::Balanced, Form::Comb, Form::Any];
+
+    /// How many of some leaves, two at least, stand in the left operand.
+    fn left(self, leaves: usize, dice: &mut Dice) -> usize {
+        match self {
+            Form::LeftChain => leaves - 1,
+            Form::RightChain => 1,
+            Form::ZigZag => [1, leaves - 1][leaves % 2],
+            Form::Balanced => leaves / 2,
+            Form::Comb if leaves > 4 => 4,
+            Form::Comb => leaves / 2,
+            Form::Any => 1 + dice.below(leaves - 1),
+        }
+    }
+}
+
+/// A formula's codes: so many leaves in that form, shapes and operations by the dice.
+pub fn codes(dice: &mut Dice, names: usize, leaves: usize, form: Form) -> Vec<u16> {
+    fn put(out: &mut Vec<u16>, dice: &mut Dice, names: usize, leaves: usize, form: Form) {
+        if leaves == 1 {
+            return out.push(dice.below(names) as u16);
+        }
+        let left = form.left(leaves, dice);
+        put(out, dice, names, left, form);
+        put(out, dice, names, leaves - left, form);
+        out.push(0xFFF0 + dice.below(4) as u16);
+    }
+    let mut out = Vec::new();
+    put(&mut out, dice, names, leaves, form);
+    out
+}
+
+/// So many different names of at most so many bytes. Many are alike but for one letter, or for its case.
+pub fn names(dice: &mut Dice, count: usize, longest: usize) -> Vec<Vec<u8>> {
+    let length = if count > 94 { longest.max(2) } else { longest };
+    let differs = dice.below(length.min(31));
+    let common = 0x21 + dice.below(94) as u8;
+    let name = |k: usize| {
+        let mut name = vec![common; length];
+        name[differs.min(length - 1)] = 0x21 + (k % 94) as u8;
+        if count > 94 {
+            name[length - 1 - usize::from(differs == length - 1)] = 0x21 + (k / 94) as u8;
+        }
+        name
+    };
+    (0..count).map(name).collect()
+}
+
+/// The bytes of a sheet with these names and these codes, whatever they are.
+pub fn sheet<N: AsRef<[u8]>>(names: &[N], codes: &[u16]) -> Vec<u8> {
+    let mut bytes = vec![1, 0, 2, 0, 1];
+    for name in names {
+        let name = name.as_ref();
+        bytes.push(2);
+        bytes.extend((name.len() as u16).to_be_bytes());
+        bytes.extend(name);
+    }
+    bytes.push(3);
+    bytes.extend((2 * codes.len() as u16).to_be_bytes());
+    bytes.extend(codes.iter().flat_map(|code| code.to_be_bytes()));
+    bytes
+}
+
+/// A good sheet, and how many names it has.
+pub fn good_sheet(dice: &mut Dice) -> (Vec<u8>, usize) {
+    let count = dice.size(256);
+    let longest = dice.size(32);
+    let leaves = dice.size(1024);
+    let form = dice.of_these(&Form::ALL);
+    let names = names(dice, count, longest);
+    (sheet(&names, &codes(dice, count, leaves, form)), count)
+}
+
+/// A sheet of any kind: a good one, a large one just past a limit, a good one damaged in one to three places, or noise.
+pub fn any_sheet(dice: &mut Dice) -> Vec<u8> {
+    match dice.below(16) {
+        0 => noise(dice),
+        1 => past_a_limit(dice),
+        2..=5 => good_sheet(dice).0,
+        _ => {
+            let mut bytes = good_sheet(dice).0;
+            for _ in 0..dice.of_these(&[1, 1, 1, 2, 3]) {
+                damage(dice, &mut bytes);
+            }
+            bytes
+        }
+    }
+}
+
+/// Bytes that look like fields, behind a part of a header.
+fn noise(dice: &mut Dice) -> Vec<u8> {
+    let mut bytes = vec![1, 0, 2, 0, 1];
+    bytes.truncate(dice.below(10));
+    for _ in 0..dice.size(64) {
+        bytes.push(dice.of_these(&[0, 1, 2, 3, 4, 0x20, 0x41, 0x7E, 0x7F, 0xF3, 0xFF]));
+    }
+    bytes
+}
+
+fn past_a_limit(dice: &mut Dice) -> Vec<u8> {
+    let names_of = |dice: &mut Dice, count, longest| names(dice, count, longest);
+    match dice.below(5) {
+        0 => {
+            let names = names_of(dice, 257, 3);
+            sheet(&names, &codes(dice, 256, 2, Form::Any))
+        }
+        1 => {
+            let names = names_of(dice, 3, 33);
+            sheet(&names, &[0])
+        }
+        // one leaf too many
+        2 => sheet(&["A", "B"], &codes(dice, 2, 1025, Form::Any)),
+        // one code more than one formula has, and an end that leaves two operands
+        3 => {
+            let mut longest = codes(dice, 2, 1023, Form::Any);
+            longest.extend([0, 1].iter().take(1 + dice.below(2)));
+            sheet(&["A", "B"], &longest)
+        }
+        _ => {
+            let mut bytes = sheet(&["A"], &codes(dice, 1, 1024, Form::Any));
+            bytes[10..12].copy_from_slice(&dice.of_these(&[4093u16, 4095, 4096, 65535, 0, 1]).to_be_bytes());
+            bytes.extend([0, 0]);
+            bytes
+        }
+    }
+}
+
+/// Changes a sheet in one place.
+fn damage(dice: &mut Dice, bytes: &mut Vec<u8>) {
+    if bytes.is_empty() {
+        return bytes.push(1);
+    }
+    // the end, where the formula is, as often as all the rest
+    let near_end = bytes.len() - 1 - dice.below(bytes.len().min(24));
+    let at = if dice.once_in(2) { near_end } else { dice.below(bytes.len()) };
+    match dice.below(10) {
+        0 => bytes.truncate(at),
+        1 => bytes[at] = dice.throw() as u8,
+        2 => bytes[at] ^= 1 << dice.below(8),
+        3 => bytes.insert(at, dice.below(4) as u8),
+        4 => drop(bytes.remove(at)),
+        5 => bytes.push(dice.of_these(&[0, 2, 3])),
+        6 => name_again(dice, bytes),
+        7 if at + 1 < bytes.len() => {
+            let code = dice.of_these(&[0xFFF0, 0xFFF2, 0xFFF3, 0xFFF4, 0xFFEF, 0xFFFF, 0, 1, 2, 256, 300]);
+            bytes[at..at + 2].copy_from_slice(&u16::to_be_bytes(code));
+        }
+        8 => {
+            let at = at % 5;
+            bytes[at] = dice.below(4) as u8;
+        }
+        _ => bytes.swap(at, 0),
+    }
+}
+
+/// Puts the first name in again, as it is or in the other case, behind some other name.
+fn name_again(dice: &mut Dice, bytes: &mut Vec<u8>) {
+    let field_end = |bytes: &[u8], at: usize| (bytes.get(at) == Some(&2)).then(|| at + 3 + usize::from(*bytes.get(at + 2).unwrap_or(&0)));
+    let Some(end) = field_end(bytes, 5).filter(|end| *end <= bytes.len()) else { return };
+    let mut field = bytes[5..end].to_vec();
+    if dice.once_in(4) {
+        field[3..].iter_mut().for_each(|letter| *letter = if letter.is_ascii_alphabetic() { *letter ^ 0x20 } else { *letter });
+    }
+    let mut at = end;
+    for _ in 0..dice.below(20) {
+        at = field_end(bytes, at).filter(|end| *end <= bytes.len()).unwrap_or(at);
+    }
+    bytes.splice(at..at, field);
+}
+
+/// Toggles of shapes below the number of names.
+pub fn toggles(dice: &mut Dice, names: usize, most: usize) -> Vec<u16> {
+    let count = dice.size(most + 1) - 1;
+    let among = if dice.once_in(2) { names } else { names.min(3) };
+    (0..count).map(|_| dice.below(among) as u16).collect()
+}
+
+/// Crossings that are good: so many lines at most, so many crossings a line at most, every shape crossed evenly on each.
+pub fn crossings(dice: &mut Dice, names: usize, most_lines: usize, most_a_line: usize) -> Vec<Crossing> {
+    let mut all = Vec::new();
+    let mut line = dice.of_these(&[0, 0, 1, 7, u32::MAX - 2, u32::MAX]);
+    for _ in 0..dice.size(most_lines) {
+        let spread = dice.of_these(&[1, 4, 4, 30, 30, 1000, 1 << 32]);
+        let lowest =
+            if spread == 1 << 32 { i64::from(i32::MIN) } else { dice.of_these(&[0, -15, i64::from(i32::MIN), (1i64 << 31) - spread]) };
+        let among = if dice.once_in(2) { names } else { names.min(4) };
+        let mut here = Vec::new();
+        for _ in 0..dice.size(most_a_line / 2) {
+            let shape = dice.below(among) as u16;
+            for _ in 0..2 {
+                here.push(Crossing { line, position: (lowest + dice.below(spread as usize) as i64) as i32, shape });
+            }
+        }
+        here.sort_by_key(|crossing| crossing.position);
+        all.extend(here);
+        let gap = dice.of_these(&[1, 1, 1, 2, 100, 1 << 30]);
+        match line.checked_add(gap) {
+            Some(next) => line = next,
+            None => break,
+        }
+    }
+    all
+}
+
+/// Changes crossings in one place.
+pub fn damage_crossings(dice: &mut Dice, names: usize, all: &mut Vec<Crossing>) {
+    if all.is_empty() {
+        return all.push(Crossing { line: 0, position: 5, shape: 0 });
+    }
+    let at = dice.below(all.len());
+    match dice.below(6) {
+        0 => all[at].shape = dice.of_these(&[names as u16, 255, 256, 65535]),
+        1 => all[at].position = dice.of_these(&[i32::MIN, i32::MAX, 0]),
+        2 => all[at].line = dice.of_these(&[0, u32::MAX, all[0].line]),
+        3 => drop(all.remove(at)),
+        4 => {
+            let other = dice.below(all.len());
+            all.swap(at, other);
+        }
+        _ => all[at].shape = dice.below(names) as u16,
+    }
+}

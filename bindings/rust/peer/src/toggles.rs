@@ -1,0 +1,134 @@
+//! "Labels" and the toggle run.
+
+use crate::dwarf::Dwarf;
+
+/// "Leaf, E and S carry a bit. R and C carry a pair (a, b)": a if the value from below is 1, else b.
+#[derive(Debug, Clone, Copy, PartialEq, Eq)]
+pub enum Label {
+    Bit(bool),
+    Pair(bool, bool),
+}
+
+impl Label {
+    /// "Listed as 2a + b."
+    pub fn listed(self) -> u8 {
+        match self {
+            Label::Bit(bit) => u8::from(bit),
+            Label::Pair(a, b) => 2 * u8::from(a) + u8::from(b),
+        }
+    }
+
+    fn bit(self) -> bool {
+        match self {
+            Label::Bit(bit) => bit,
+            Label::Pair(..) => panic!("a pair where a bit was due"),
+        }
+    }
+
+    fn at(self, below: bool) -> bool {
+        match self {
+            Label::Pair(a, b) => {
+                if below {
+                    a
+                } else {
+                    b
+                }
+            }
+            Label::Bit(_) => panic!("a bit where a pair was due"),
+        }
+    }
+}
+
+/// The document's table: the pair of an R node by its kind, for the raked values 0 and 1.
+const RAKED: [(u16, [(u8, u8); 2]); 8] = [
+    (5, [(1, 0), (1, 1)]),
+    (6, [(0, 0), (1, 0)]),
+    (7, [(0, 0), (0, 1)]),
+    (8, [(1, 0), (0, 1)]),
+    (9, [(1, 0), (1, 1)]),
+    (10, [(0, 0), (1, 0)]),
+    (11, [(1, 0), (0, 0)]),
+    (12, [(1, 0), (0, 1)]),
+];
+
+/// The label of a dwarf node that is no leaf, worked out from those below it.
+pub fn label(dwarf: &Dwarf, labels: &[Label], node: usize) -> Label {
+    let record = dwarf.records[node];
+    let first = || labels[usize::from(record.first)];
+    let second = || labels[usize::from(record.second)];
+    match record.kind {
+        1 => Label::Bit(first().bit() || second().bit()),
+        2 => Label::Bit(first().bit() && second().bit()),
+        3 => Label::Bit(first().bit() && !second().bit()),
+        4 => Label::Bit(first().bit() != second().bit()),
+        5..=12 => {
+            let (_, pairs) = RAKED[usize::from(record.kind) - 5];
+            let (a, b) = pairs[usize::from(first().bit())];
+            Label::Pair(a == 1, b == 1)
+        }
+        13 => Label::Bit(first().at(second().bit())),
+        14 => Label::Pair(first().at(second().at(true)), first().at(second().at(false))),
+        kind => panic!("kind {kind} has no children"),
+    }
+}
+
+/// The labels worked out afresh from the shapes that are inside.
+pub fn afresh(dwarf: &Dwarf, inside: &[bool]) -> Vec<Label> {
+    let mut labels = Vec::new();
+    for (node, record) in dwarf.records.iter().enumerate() {
+        let here = match record.kind {
+            0 => Label::Bit(inside[usize::from(record.first)]),
+            _ => label(dwarf, &labels, node),
+        };
+        labels.push(here);
+    }
+    labels
+}
+
+/// What a toggle run answers.
+#[derive(Debug, Clone, PartialEq, Eq)]
+pub struct Ran {
+    pub roots: Vec<u8>,
+    pub counts: Vec<u32>,
+    pub labels: Vec<u8>,
+}
+
+pub fn run(dwarf: &Dwarf, toggles: &[u16]) -> Ran {
+    let mut parents = vec![None; dwarf.records.len()];
+    let mut leaves_of = vec![Vec::new(); 256];
+    for (node, record) in dwarf.records.iter().enumerate() {
+        if record.kind == 0 {
+            leaves_of[usize::from(record.first)].push(node);
+        }
+        for child in record.children() {
+            parents[child] = Some(node);
+        }
+    }
+    let mut labels = afresh(dwarf, &[false; 256]);
+    let mut ran = Ran { roots: vec![], counts: vec![], labels: vec![] };
+    for shape in toggles {
+        let walks = leaves_of[usize::from(*shape)].iter().map(|leaf| walk(dwarf, &parents, &mut labels, *leaf));
+        ran.counts.push(walks.sum());
+        ran.roots.push(labels.last().unwrap().listed());
+    }
+    ran.labels = labels.into_iter().map(Label::listed).collect();
+    ran
+}
+
+/// Flips a leaf and "goes up, works out each ancestor's label, and ends after the root or after the first label that comes out as it
+/// was". Gives the number of labels worked out.
+fn walk(dwarf: &Dwarf, parents: &[Option<usize>], labels: &mut [Label], leaf: usize) -> u32 {
+    labels[leaf] = Label::Bit(!labels[leaf].bit());
+    let mut count = 0;
+    let mut at = leaf;
+    while let Some(up) = parents[at] {
+        let new = label(dwarf, labels, up);
+        count += 1;
+        if new == labels[up] {
+            break;
+        }
+        labels[up] = new;
+        at = up;
+    }
+    count
+}

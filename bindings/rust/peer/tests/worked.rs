@@ -1,0 +1,207 @@
+//! The worked sheet and the cases of document 01, of the plain implementation: it is worth comparing with only if it meets them.
+
+use peer::dwarf::Dwarf;
+use peer::formula::{Formula, Op};
+use peer::lines::{Crossings, Wall};
+use peer::make::sheet;
+use peer::toggles::{afresh, Label, Ran};
+use peer::{build, classify, read, run, Refused};
+
+const UNION: u16 = 0xFFF0;
+const INTERSECTION: u16 = 0xFFF1;
+const DIFFERENCE: u16 = 0xFFF2;
+const EXCLUSIVE: u16 = 0xFFF3;
+const ROOM: [usize; 3] = [4000; 3];
+
+fn refused<T>(number: u8, place: usize) -> Result<T, Refused> {
+    Err(Refused { number, place })
+}
+
+fn worked() -> Vec<u8> {
+    sheet(&["A", "B", "C"], &[0, 1, 2, UNION, DIFFERENCE])
+}
+
+fn size(d: &Dwarf) -> [usize; 4] {
+    [d.leaves, d.records.len(), d.rounds, d.height()]
+}
+
+fn ran(roots: &[u8], counts: &[u32], labels: &[u8]) -> Result<Ran, Refused> {
+    Ok(Ran { roots: roots.to_vec(), counts: counts.to_vec(), labels: labels.to_vec() })
+}
+
+/// The walls of one line, from positions and shapes.
+fn walls(sheet: &[u8], crossings: &[(i32, u16)]) -> Result<Vec<(i32, i32)>, Refused> {
+    let (positions, shapes): (Vec<i32>, Vec<u16>) = crossings.iter().copied().unzip();
+    let found = classify(sheet, Crossings { lines: &vec![7; crossings.len()], positions: &positions, shapes: &shapes }, ROOM)?;
+    assert!(found.iter().all(|wall| wall.line == 7));
+    Ok(found.into_iter().map(|wall| (wall.start, wall.end)).collect())
+}
+
+#[test]
+fn the_worked_sheet_is_these_bytes() {
+    let bytes = [1, 0, 2, 0, 1, 2, 0, 1, 0x41, 2, 0, 1, 0x42, 2, 0, 1, 0x43, 3, 0, 0x0A, 0, 0, 0, 1, 0, 2, 0xFF, 0xF0, 0xFF, 0xF2];
+    assert_eq!(worked(), bytes);
+    let s = read(&bytes).unwrap();
+    assert_eq!((s.names, s.leaves, s.first, s.past), (vec![b"A".to_vec(), b"B".to_vec(), b"C".to_vec()], 3, 20, 30));
+    assert_eq!(s.formula.codes(), [0, 1, 2, UNION, DIFFERENCE]);
+}
+
+#[test]
+fn the_listing() {
+    let d = build(&worked(), ROOM).unwrap();
+    let [leaves, nodes, rounds, height] = size(&d);
+    let mut listing = format!("{leaves} {nodes} {rounds} {height}\n");
+    for r in &d.records {
+        listing += &format!("{} {} {}\n", r.kind, r.first, r.second);
+    }
+    assert_eq!(listing, "3 6 2 2\n0 0 65535\n0 1 65535\n0 2 65535\n1 1 2\n7 0 65535\n13 4 3\n");
+}
+
+#[test]
+fn toggles_on_the_worked_sheet() {
+    assert_eq!(run(&worked(), &[0, 1, 2, 0], ROOM), ran(&[1, 0, 0, 0], &[2, 2, 1, 2], &[0, 1, 1, 1, 0, 0]));
+    let second = run(&worked(), &[1, 2], ROOM).unwrap();
+    assert_eq!((second.counts, second.labels), (vec![2, 1], vec![0, 1, 1, 1, 0, 0]));
+}
+
+#[test]
+fn one_leaf() {
+    let one = sheet(&["A"], &[0]);
+    assert_eq!(size(&build(&one, ROOM).unwrap()), [1, 1, 0, 0]);
+    assert_eq!(run(&one, &[0], ROOM), ran(&[1], &[0], &[1]));
+}
+
+#[test]
+fn a_shape_at_two_leaves() {
+    assert_eq!(run(&sheet(&["A"], &[0, 0, EXCLUSIVE]), &[0], ROOM), ran(&[0], &[2], &[1, 1, 0]));
+}
+
+#[test]
+fn a_shape_at_no_leaf_counts_nothing() {
+    assert_eq!(run(&sheet(&["A", "B"], &[0]), &[1, 0, 1], ROOM), ran(&[0, 1, 1], &[0, 0, 0], &[1]));
+}
+
+#[test]
+fn two_sizes() {
+    let names = ["A", "B", "C", "D", "E"];
+    let chain = sheet(&names, &[0, 1, UNION, 2, DIFFERENCE, 3, INTERSECTION, 4, EXCLUSIVE]);
+    assert_eq!(size(&build(&chain, ROOM).unwrap())[1..], [12, 3, 3]);
+    let balanced = sheet(&names, &[0, 1, UNION, 2, 3, UNION, INTERSECTION]);
+    assert_eq!(size(&build(&balanced, ROOM).unwrap())[1..], [7, 2, 2]);
+}
+
+#[test]
+fn walls_of_lines() {
+    let of = |op| sheet(&["A", "B"], &[0, 1, op]);
+    assert_eq!(walls(&of(DIFFERENCE), &[(0, 0), (40, 1), (60, 1), (100, 0)]), Ok(vec![(0, 40), (60, 100)]));
+    let touching = [(0, 0), (50, 0), (50, 1), (90, 1)];
+    assert_eq!(walls(&of(UNION), &touching), Ok(vec![(0, 90)]));
+    assert_eq!(walls(&of(INTERSECTION), &touching), Ok(vec![]));
+    let one = sheet(&["A"], &[0]);
+    assert_eq!(walls(&one, &[(10, 0), (10, 0)]), Ok(vec![]));
+    assert_eq!(walls(&one, &[]), Ok(vec![]));
+    assert_eq!(walls(&one, &[(i32::MIN, 0), (i32::MAX, 0)]), Ok(vec![(i32::MIN, i32::MAX)]));
+    assert_eq!(walls(&one, &[(5, 0)]), refused(12, 0));
+    assert_eq!(walls(&worked(), &[(5, 3)]), refused(10, 0));
+    assert_eq!(run(&worked(), &[0, 3], ROOM), refused(10, 1));
+}
+
+#[test]
+fn walls_do_not_join_across_lines() {
+    let lists = Crossings { lines: &[1, 1, 2, 2], positions: &[0, 5, 5, 9], shapes: &[0; 4] };
+    let due = [Wall { line: 1, start: 0, end: 5 }, Wall { line: 2, start: 5, end: 9 }];
+    assert_eq!(classify(&sheet(&["A"], &[0]), lists, ROOM).unwrap(), due);
+}
+
+#[test]
+fn names_letter_by_letter() {
+    assert!(read(&sheet(&["Port", "PORT"], &[0])).is_ok());
+    assert_eq!(read(&sheet(&["Port", "Port"], &[0])), refused(5, 12));
+    assert!(read(&sheet(&["N".repeat(32)], &[0])).is_ok());
+    assert_eq!(read(&sheet(&["N".repeat(33)], &[0])), refused(4, 5));
+    for (byte, good) in [(0x20, false), (0x21, true), (0x7E, true), (0x7F, false)] {
+        assert_eq!(read(&sheet(&[[byte]], &[0])).is_ok(), good, "{byte:#X}");
+    }
+}
+
+#[test]
+fn the_longest_formula() {
+    let mut codes = vec![0];
+    for _ in 0..1023 {
+        codes.extend([0, UNION]);
+    }
+    let mut bytes = sheet(&["A"], &codes);
+    assert_eq!(read(&bytes).unwrap().leaves, 1024);
+    bytes[10..12].copy_from_slice(&4095u16.to_be_bytes());
+    assert_eq!(read(&bytes), refused(6, 9));
+}
+
+/// Each row of the table of refusals, and the order of the questions at a field.
+#[test]
+fn refusals_of_reading() {
+    let header = [1, 0, 2, 0, 1];
+    let with = |rest: &[u8]| read(&[&header, rest].concat());
+    assert_eq!(read(&[]), refused(1, 0));
+    assert_eq!(read(&[2, 0, 2]), refused(2, 0));
+    assert_eq!(read(&[1, 0]), refused(1, 2));
+    assert_eq!(read(&[1, 0, 3]), refused(3, 0));
+    assert_eq!(read(&[1, 0, 2, 0]), refused(1, 4));
+    assert_eq!(read(&[1, 0, 2, 0, 2]), refused(3, 0));
+    assert_eq!(with(&[]), refused(1, 5));
+    assert_eq!(with(&header), refused(2, 5));
+    assert_eq!(with(&[3, 0, 2, 0, 0]), refused(2, 5));
+    assert_eq!(with(&[2, 0, 0]), refused(4, 5));
+    assert_eq!(with(&[2, 0, 33]), refused(4, 5));
+    assert_eq!(with(&[2, 0, 3, 0x20, 0x41]), refused(1, 10));
+    assert_eq!(with(&[2, 0, 1, 0x41, 3, 0x10, 0]), refused(6, 9));
+    assert_eq!(with(&[2, 0, 1, 0x41, 3, 0, 3]), refused(7, 9));
+    assert_eq!(with(&[2, 0, 1, 0x41, 3, 0, 0]), refused(7, 9));
+    assert_eq!(with(&[2, 0, 1, 0x41, 3, 0, 2, 0]), refused(1, 13));
+    assert_eq!(with(&[2, 0, 1, 0x41, 3, 0, 2, 0, 1]), refused(7, 12));
+    assert_eq!(with(&[2, 0, 1, 0x41, 3, 0, 4, 0, 0, 0xFF, 0xF0]), refused(7, 14));
+    assert_eq!(with(&[2, 0, 1, 0x41, 3, 0, 4, 0, 0, 0, 0]), refused(7, 9));
+    assert_eq!(with(&[2, 0, 1, 0x41, 3, 0, 2, 0, 0, 3]), refused(2, 14));
+    let names: Vec<String> = (0..257).map(|k| k.to_string()).collect();
+    assert!(read(&sheet(&names[..256], &[255])).is_ok());
+    let tag = sheet(&names[..256], &[255]).len() - 5;
+    assert_eq!(read(&sheet(&names, &[255])), refused(6, tag));
+}
+
+#[test]
+fn refusals_in_their_order() {
+    let one = sheet(&["A"], &[0]);
+    let lists = |lines, positions, shapes| classify(&one, Crossings { lines, positions, shapes }, [0; 3]);
+    assert_eq!(lists(&[0], &[0], &[]), refused(13, 0));
+    assert_eq!(lists(&[5, 4], &[0, 0], &[0, 1]), refused(10, 1));
+    assert_eq!(lists(&[5, 4, 4], &[0, 0, 0], &[0, 0, 1]), refused(11, 1));
+    assert_eq!(lists(&[5, 5], &[1, 0], &[0, 0]), refused(11, 1));
+    assert_eq!(lists(&[5, 6], &[1, 0], &[0, 0]), refused(12, 0));
+    assert_eq!(lists(&[5, 5], &[1, 2], &[0, 0]), refused(9, 1));
+    assert_eq!(lists(&[], &[], &[]), Ok(vec![]));
+    assert_eq!(build(&worked(), [6, 5, 5]), refused(9, 6));
+    assert_eq!(run(&worked(), &[0; 4], [4, 3, 0]), refused(9, 4));
+    assert_eq!(run(&worked(), &[0; 4], [4, 4, 5]), refused(9, 6));
+    // 12 names the last entry, of any shape, on the first such line
+    let two = sheet(&["A", "B"], &[0, 1, UNION]);
+    let lists = Crossings { lines: &[1, 1, 1, 2, 2, 2, 2], positions: &[0; 7], shapes: &[0, 1, 1, 0, 1, 1, 1] };
+    assert_eq!(classify(&two, lists, ROOM), refused(12, 2));
+}
+
+/// The rake table is the operation itself, with 1 and with 0 on the open side; and the labels give the formula's value.
+#[test]
+fn labels_mean_the_formula() {
+    let shape = |k| Formula::Shape(k);
+    for [p, q, r] in (0..64).map(|k| [k / 16, k / 4 % 4, k % 4].map(|j| Op::ALL[j])) {
+        let formulas = [
+            Formula::node(p, shape(0), Formula::node(q, shape(1), Formula::node(r, shape(2), shape(3)))),
+            Formula::node(p, Formula::node(q, Formula::node(r, shape(2), shape(3)), shape(1)), shape(0)),
+            Formula::node(p, Formula::node(q, shape(0), shape(1)), Formula::node(r, shape(2), shape(3))),
+            Formula::node(p, shape(0), Formula::node(q, Formula::node(r, shape(1), shape(2)), shape(3))),
+        ];
+        for (formula, bits) in formulas.iter().flat_map(|f| (0..16).map(move |bits| (f, bits))) {
+            let inside = [bits & 1, bits & 2, bits & 4, bits & 8].map(|bit| bit != 0);
+            let dwarf = peer::dwarf::contract(formula);
+            assert_eq!(afresh(&dwarf, &inside).last(), Some(&Label::Bit(formula.inside(&inside))), "{formula:?} {inside:?}");
+        }
+    }
+}

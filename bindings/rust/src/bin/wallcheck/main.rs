@@ -1,0 +1,175 @@
+//! The command: sheets and CSV lists in, CSV out.
+
+mod csv;
+mod lists;
+mod words;
+
+use kressedach::{Crossing, Refusal};
+use lists::Shapes;
+use std::fmt::Write as _;
+use std::io::{self, Read, Write};
+use std::process::ExitCode;
+
+const HELP: &str = include_str!("help.txt");
+
+/// Why the command ends without an answer.
+enum Stop {
+    /// Refused, and what stands at the place.
+    Refused(Refusal, Option<String>),
+    Usage(String),
+    /// A file that cannot be read, or standard output that cannot be written.
+    File(String, String),
+    /// What reads the output has gone: not worth a word.
+    Gone,
+}
+
+fn main() -> ExitCode {
+    let args: Vec<String> = std::env::args_os().skip(1).map(|arg| arg.to_string_lossy().into_owned()).collect();
+    let stop = match answer(&args.iter().map(String::as_str).collect::<Vec<_>>()).and_then(|text| out(&text)) {
+        Ok(()) => return ExitCode::SUCCESS,
+        Err(stop) => stop,
+    };
+    match stop {
+        Stop::Refused(refusal, about) => {
+            eprintln!("wallcheck: {refusal}");
+            about.iter().for_each(|about| eprintln!("  {about}"));
+            return ExitCode::from(1);
+        }
+        Stop::Usage(what) => eprintln!("wallcheck: {what}\nTry 'wallcheck --help'."),
+        Stop::File(name, what) => eprintln!("wallcheck: {name}: {what}"),
+        Stop::Gone => {}
+    }
+    ExitCode::from(2)
+}
+
+/// What a command line answers.
+fn answer(args: &[&str]) -> Result<String, Stop> {
+    match *args {
+        ["--help" | "-h" | "help", ..] => Ok(HELP.into()),
+        ["--version" | "-V"] => Ok(concat!("wallcheck ", env!("CARGO_PKG_VERSION"), "\n").into()),
+        ["read", "--names", sheet] => names(sheet),
+        ["read", sheet] => read(sheet),
+        ["list", "--size", sheet] => size(sheet),
+        ["list", sheet] => list(sheet),
+        ["run", "--labels", sheet, toggles] => run(sheet, toggles, true),
+        ["run", sheet, toggles] => run(sheet, toggles, false),
+        ["walls", sheet, crossings] => walls(sheet, crossings),
+        [] => Err(Stop::Usage("a command is missing".into())),
+        ["read" | "list", ..] => Err(Stop::Usage(format!("'{}' takes one file: SHEET", args[0]))),
+        ["run", ..] => Err(Stop::Usage("'run' takes two files: SHEET TOGGLES".into())),
+        ["walls", ..] => Err(Stop::Usage("'walls' takes two files: SHEET CROSSINGS".into())),
+        [other, ..] => Err(Stop::Usage(format!("there is no command '{other}'"))),
+    }
+}
+
+fn read(path: &str) -> Result<String, Stop> {
+    let sheet = sheet_file(path)?;
+    let read = kressedach::read(&sheet).map_err(|refusal| of_sheet(&sheet, refusal))?;
+    Ok(format!("names,leaves,first,past\n{},{},{},{}\n", read.names, read.leaves, read.formula.start, read.formula.end))
+}
+
+fn names(path: &str) -> Result<String, Stop> {
+    let sheet = sheet_file(path)?;
+    let mut text = String::from("shape,name\n");
+    for (shape, name) in shapes(&sheet)?.iter().enumerate() {
+        let _ = writeln!(text, "{shape},{}", csv::quoted(name));
+    }
+    Ok(text)
+}
+
+fn size(path: &str) -> Result<String, Stop> {
+    let sheet = sheet_file(path)?;
+    let size = kressedach::build(&sheet).map_err(|refusal| of_sheet(&sheet, refusal))?.size;
+    Ok(format!("leaves,nodes,rounds,height\n{},{},{},{}\n", size.leaves, size.nodes, size.rounds, size.height))
+}
+
+fn list(path: &str) -> Result<String, Stop> {
+    let sheet = sheet_file(path)?;
+    let names = shapes(&sheet)?;
+    let dwarf = kressedach::build(&sheet).map_err(|refusal| of_sheet(&sheet, refusal))?;
+    let mut text = String::from("node,kind,first,second,meaning\n");
+    for (number, node) in dwarf.nodes.iter().enumerate() {
+        let meaning = csv::quoted(&words::of_node(node, &names)).into_owned();
+        let _ = writeln!(text, "{number},{},{},{},{meaning}", node.kind, node.first, node.second);
+    }
+    Ok(text)
+}
+
+fn run(sheet_path: &str, toggles_path: &str, labels: bool) -> Result<String, Stop> {
+    let (sheet, toggles) = two_files(sheet_path, toggles_path)?;
+    let names = shapes(&sheet)?;
+    let list = lists::toggles(&toggles, &Shapes::of(&names)).map_err(|wrong| Stop::File(shown(toggles_path), wrong))?;
+    let ran = kressedach::run(&sheet, &list.entries)
+        .map_err(|refusal| Stop::Refused(refusal, words::of_toggles(&sheet, &names, &list, refusal, &shown(toggles_path))))?;
+    let mut text = String::from(if labels { "node,label\n" } else { "toggle,shape,name,root,count\n" });
+    if labels {
+        for (node, label) in ran.labels.iter().enumerate() {
+            let _ = writeln!(text, "{node},{label}");
+        }
+        return Ok(text);
+    }
+    for (toggle, shape) in list.entries.iter().enumerate() {
+        let name = csv::quoted(names.get(usize::from(*shape)).copied().unwrap_or_default());
+        let _ = writeln!(text, "{toggle},{shape},{name},{},{}", u8::from(ran.roots[toggle]), ran.counts[toggle]);
+    }
+    Ok(text)
+}
+
+fn walls(sheet_path: &str, crossings_path: &str) -> Result<String, Stop> {
+    let (sheet, crossings) = two_files(sheet_path, crossings_path)?;
+    let names = shapes(&sheet)?;
+    let list: lists::List<Crossing> =
+        lists::crossings(&crossings, &Shapes::of(&names)).map_err(|wrong| Stop::File(shown(crossings_path), wrong))?;
+    let walls = kressedach::classify(&sheet, &list.entries)
+        .map_err(|refusal| Stop::Refused(refusal, words::of_crossings(&sheet, &names, &list, refusal, &shown(crossings_path))))?;
+    let mut text = String::from("line,start,end\n");
+    for wall in walls {
+        let _ = writeln!(text, "{},{},{}", wall.line, wall.start, wall.end);
+    }
+    Ok(text)
+}
+
+fn shapes(sheet: &[u8]) -> Result<Vec<&str>, Stop> {
+    kressedach::names(sheet).map_err(|refusal| of_sheet(sheet, refusal))
+}
+
+fn of_sheet(sheet: &[u8], refusal: Refusal) -> Stop {
+    Stop::Refused(refusal, words::of_sheet(sheet, refusal))
+}
+
+/// A sheet and the text of a list.
+fn two_files(sheet_path: &str, list_path: &str) -> Result<(Vec<u8>, String), Stop> {
+    if sheet_path == "-" && list_path == "-" {
+        return Err(Stop::Usage("only one of the two files can be standard input".into()));
+    }
+    let sheet = sheet_file(sheet_path)?;
+    let list = String::from_utf8(file(list_path, u64::MAX)?).map_err(|_| Stop::File(shown(list_path), "is not text".into()))?;
+    Ok((sheet, list))
+}
+
+fn sheet_file(path: &str) -> Result<Vec<u8>, Stop> {
+    // a sheet has at most 13,062 bytes, and with one more the answer is the same as with all
+    file(path, 13_063)
+}
+
+/// The bytes of a file, so many at most.
+fn file(path: &str, most: u64) -> Result<Vec<u8>, Stop> {
+    let mut bytes = Vec::new();
+    let got = match path {
+        "-" => io::stdin().lock().take(most).read_to_end(&mut bytes),
+        _ => std::fs::File::open(path).and_then(|file| file.take(most).read_to_end(&mut bytes)),
+    };
+    got.map(|_| bytes).map_err(|e| Stop::File(shown(path), e.to_string()))
+}
+
+fn shown(path: &str) -> String {
+    if path == "-" { "standard input" } else { path }.into()
+}
+
+fn out(text: &str) -> Result<(), Stop> {
+    let mut stdout = io::stdout().lock();
+    stdout.write_all(text.as_bytes()).and_then(|()| stdout.flush()).map_err(|e| match e.kind() {
+        io::ErrorKind::BrokenPipe => Stop::Gone,
+        _ => Stop::File("standard output".into(), e.to_string()),
+    })
+}

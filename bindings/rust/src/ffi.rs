@@ -1,0 +1,91 @@
+//! The exported functions of `crates/host`, declared again. The compiler checks this against nothing; `tests/declared.rs` compares it
+//! with `crates/host/src/lib.rt`.
+//!
+//! # Safety
+//!
+//! A list is a pointer and its number of entries. The entries are there, initialised and aligned, for the whole call. Nothing else
+//! writes them meanwhile; a list that is written (`*mut`) overlaps no other list of the call, and nothing else reads it. A list with no
+//! entries may be any pointer. These are what references to slices keep.
+
+/// What reading answers.
+#[repr(C)]
+pub struct ReadReport {
+    pub number: u8,
+    pub place: usize,
+    pub names: usize,
+    pub leaves: usize,
+    pub first: usize,
+    pub past: usize,
+}
+
+/// What building answers.
+#[repr(C)]
+pub struct BuildReport {
+    pub number: u8,
+    pub place: usize,
+    pub leaves: usize,
+    pub nodes: usize,
+    pub rounds: usize,
+    pub height: usize,
+}
+
+/// What running answers.
+#[repr(C)]
+pub struct RunReport {
+    pub number: u8,
+    pub place: usize,
+    pub nodes: usize,
+}
+
+/// What classifying answers.
+#[repr(C)]
+pub struct ClassifyReport {
+    pub number: u8,
+    pub place: usize,
+    pub walls: usize,
+}
+
+extern "C" {
+    pub fn kressedach_read(sheet: *const u8, sheet_length: usize) -> ReadReport;
+
+    pub fn kressedach_build(
+        sheet: *const u8,
+        sheet_length: usize,
+        kinds: *mut u16,
+        kinds_length: usize,
+        firsts: *mut u16,
+        firsts_length: usize,
+        seconds: *mut u16,
+        seconds_length: usize,
+    ) -> BuildReport;
+
+    pub fn kressedach_run(
+        sheet: *const u8,
+        sheet_length: usize,
+        toggles: *const u16,
+        toggles_length: usize,
+        roots: *mut u8,
+        roots_length: usize,
+        counts: *mut u32,
+        counts_length: usize,
+        labels: *mut u8,
+        labels_length: usize,
+    ) -> RunReport;
+
+    pub fn kressedach_classify(
+        sheet: *const u8,
+        sheet_length: usize,
+        lines: *const u32,
+        lines_length: usize,
+        positions: *const i32,
+        positions_length: usize,
+        shapes: *const u16,
+        shapes_length: usize,
+        wall_lines: *mut u32,
+        wall_lines_length: usize,
+        starts: *mut i32,
+        starts_length: usize,
+        ends: *mut i32,
+        ends_length: usize,
+    ) -> ClassifyReport;
+}

@@ -1,0 +1,350 @@
+#![doc = include_str!("../README.md")]
+#![warn(missing_docs)]
+
+mod ffi;
+mod refusal;
+
+pub use refusal::Refusal;
+use std::ops::Range;
+
+/// No dwarf tree has more nodes than this: three times 1024 leaves, less 3.
+pub const MOST_NODES: usize = 3069;
+
+/// What a sheet holds.
+#[derive(Debug, Clone, PartialEq, Eq, Hash)]
+pub struct Read {
+    /// How many shapes have a name. Shapes are numbered from 0.
+    pub names: usize,
+    /// How many leaves the formula has.
+    pub leaves: usize,
+    /// Where the formula's codes stand in the sheet.
+    pub formula: Range<usize>,
+}
+
+/// How large a dwarf tree is.
+#[derive(Debug, Clone, Copy, PartialEq, Eq, Hash)]
+pub struct Size {
+    /// The formula's leaves, which are the first dwarf nodes.
+    pub leaves: usize,
+    /// All dwarf nodes.
+    pub nodes: usize,
+    /// The rounds of contraction.
+    pub rounds: usize,
+    /// The longest path in steps.
+    pub height: usize,
+}
+
+/// A dwarf node. What has no number is 65535.
+///
+/// | kind | node | first | second |
+/// |---|---|---|---|
+/// | 0 | leaf | shape | |
+/// | 1 to 4 | E for union, intersection, difference, exclusive union | left | right |
+/// | 5 to 8 | R for the same four, the left operand raked | raked | |
+/// | 9 to 12 | R for the same four, the right operand raked | raked | |
+/// | 13 | S | pair node | value node |
+/// | 14 | C | upper | lower |
+#[derive(Debug, Clone, Copy, PartialEq, Eq, Hash)]
+pub struct Node {
+    /// What kind of node it is.
+    pub kind: u16,
+    /// Its first number.
+    pub first: u16,
+    /// Its second number.
+    pub second: u16,
+}
+
+/// A dwarf tree.
+#[derive(Debug, Clone, PartialEq, Eq, Hash)]
+pub struct Dwarf {
+    /// How large it is.
+    pub size: Size,
+    /// Its nodes; each stands after those it refers to, and the root is last.
+    pub nodes: Vec<Node>,
+}
+
+/// What a run of toggles answers.
+#[derive(Debug, Clone, PartialEq, Eq, Hash)]
+pub struct Ran {
+    /// For each toggle, whether the solid is inside after it.
+    pub roots: Vec<bool>,
+    /// For each toggle, how many labels were worked out again.
+    pub counts: Vec<u32>,
+    /// For each dwarf node, its label after the last toggle: a bit, or a pair (a, b) as 2a + b.
+    pub labels: Vec<u8>,
+}
+
+/// A line goes through the surface of a shape.
+#[derive(Debug, Clone, Copy, PartialEq, Eq, Hash)]
+pub struct Crossing {
+    /// The line's number.
+    pub line: u32,
+    /// Where on the line, in micrometres.
+    pub position: i32,
+    /// The shape's number.
+    pub shape: u16,
+}
+
+/// A longest stretch of a line that is inside the solid.
+#[derive(Debug, Clone, Copy, PartialEq, Eq, Hash)]
+pub struct Wall {
+    /// The line's number.
+    pub line: u32,
+    /// Where it begins, in micrometres.
+    pub start: i32,
+    /// Where it ends: after its start, and before the next wall of the line.
+    pub end: i32,
+}
+
+/// An answer, unless there is a number of a refusal.
+fn unless_refused<T>(number: u8, place: usize, answer: T) -> Result<T, Refusal> {
+    match number {
+        0 => Ok(answer),
+        number => Err(Refusal { number, place }),
+    }
+}
+
+/// Reads a sheet, or says why it is none.
+///
+/// ```
+/// // the names A, B, C, and the formula A B C union difference: A less (B or C)
+/// let sheet = b"\x01\0\x02\0\x01\x02\0\x01A\x02\0\x01B\x02\0\x01C\x03\0\x0A\0\0\0\x01\0\x02\xFF\xF0\xFF\xF2";
+/// let read = kressedach::read(sheet)?;
+/// assert_eq!((read.names, read.leaves), (3, 3));
+/// assert_eq!(&sheet[read.formula], b"\0\0\0\x01\0\x02\xFF\xF0\xFF\xF2");
+/// # Ok::<(), kressedach::Refusal>(())
+/// ```
+///
+/// # Errors
+///
+/// 1 to 7, the first that is met in document 01's order of reading.
+#[inline]
+pub fn read(sheet: &[u8]) -> Result<Read, Refusal> {
+    // SAFETY: a slice is a pointer to that many bytes, which nobody writes while it is borrowed.
+    let r = unsafe { ffi::kressedach_read(sheet.as_ptr(), sheet.len()) };
+    unless_refused(r.number, r.place, Read { names: r.names, leaves: r.leaves, formula: r.first..r.past })
+}
+
+/// The names of a sheet's shapes, in the order of their numbers. They are equal when all their letters are.
+///
+/// The sheet is read by the proved reader; picking the names out of an accepted sheet is plain Rust.
+///
+/// ```
+/// let sheet = b"\x01\0\x02\0\x01\x02\0\x04Port\x02\0\x04PORT\x03\0\x06\0\0\0\x01\xFF\xF2";
+/// let names = kressedach::names(sheet)?;
+/// assert_eq!(names, ["Port", "PORT"]);
+/// assert_eq!(names.iter().position(|name| *name == "PORT"), Some(1));
+///
+/// let refusal = kressedach::names(b"\x01\0\x02\0\x01\x02\0\x04Port\x02\0\x04Port").unwrap_err();
+/// assert_eq!(refusal.to_string(), "refused 5 at byte 12: a name that is taken already");
+/// # Ok::<(), kressedach::Refusal>(())
+/// ```
+///
+/// # Errors
+///
+/// As [`read`].
+pub fn names(sheet: &[u8]) -> Result<Vec<&str>, Refusal> {
+    let count = read(sheet)?.names;
+    let mut names = Vec::with_capacity(count);
+    // after the header, each name is a field: its tag, two bytes of length, its letters
+    let mut rest = sheet.get(5..).unwrap_or_default();
+    while let (true, [_, high, low, after @ ..]) = (names.len() < count, rest) {
+        let (name, next) = after.split_at_checked(usize::from(u16::from_be_bytes([*high, *low]))).unwrap_or_default();
+        names.push(std::str::from_utf8(name).unwrap_or_default());
+        rest = next;
+    }
+    Ok(names)
+}
+
+/// Builds the dwarf tree of a sheet.
+///
+/// ```
+/// use kressedach::Node;
+/// let sheet = b"\x01\0\x02\0\x01\x02\0\x01A\x02\0\x01B\x02\0\x01C\x03\0\x0A\0\0\0\x01\0\x02\xFF\xF0\xFF\xF2";
+/// let dwarf = kressedach::build(sheet)?;
+/// assert_eq!((dwarf.size.leaves, dwarf.size.nodes, dwarf.size.rounds, dwarf.size.height), (3, 6, 2, 2));
+/// assert_eq!(dwarf.nodes[3], Node { kind: 1, first: 1, second: 2 });
+/// assert_eq!(dwarf.nodes[4], Node { kind: 7, first: 0, second: 65535 });
+/// assert_eq!(dwarf.nodes[5], Node { kind: 13, first: 4, second: 3 });
+/// # Ok::<(), kressedach::Refusal>(())
+/// ```
+///
+/// # Errors
+///
+/// 1 to 7 as [`read`], then 8.
+pub fn build(sheet: &[u8]) -> Result<Dwarf, Refusal> {
+    let [mut kinds, mut firsts, mut seconds] = [[0; MOST_NODES]; 3];
+    let size = build_into(sheet, &mut kinds, &mut firsts, &mut seconds)?;
+    let records = kinds.into_iter().zip(firsts).zip(seconds);
+    Ok(Dwarf { size, nodes: records.map(|((kind, first), second)| Node { kind, first, second }).take(size.nodes).collect() })
+}
+
+/// Builds the dwarf tree of a sheet into three lists, with an entry a node.
+///
+/// [`MOST_NODES`] entries are enough for any sheet.
+///
+/// ```
+/// let sheet = b"\x01\0\x02\0\x01\x02\0\x01A\x03\0\x06\0\0\0\0\xFF\xF3"; // A exclusive A
+/// let [mut kinds, mut firsts, mut seconds] = [[9; 4]; 3];
+/// let size = kressedach::build_into(sheet, &mut kinds, &mut firsts, &mut seconds)?;
+/// assert_eq!(size.nodes, 3);
+/// assert_eq!((kinds, firsts, seconds), ([0, 0, 4, 9], [0, 0, 0, 9], [65535, 65535, 1, 9]));
+///
+/// let refusal = kressedach::build_into(sheet, &mut kinds, &mut firsts[..2], &mut seconds).unwrap_err();
+/// assert_eq!(refusal.to_string(), "refused 9 for want of 3 entries: an answer list is too short");
+/// # Ok::<(), kressedach::Refusal>(())
+/// ```
+///
+/// # Errors
+///
+/// 1 to 7 as [`read`], 8, then 9 for kinds, firsts, seconds in this order.
+#[inline]
+pub fn build_into(sheet: &[u8], kinds: &mut [u16], firsts: &mut [u16], seconds: &mut [u16]) -> Result<Size, Refusal> {
+    // SAFETY: slices are pointers to that many entries; those that are written are borrowed by nobody else.
+    let r = unsafe {
+        ffi::kressedach_build(
+            sheet.as_ptr(),
+            sheet.len(),
+            kinds.as_mut_ptr(),
+            kinds.len(),
+            firsts.as_mut_ptr(),
+            firsts.len(),
+            seconds.as_mut_ptr(),
+            seconds.len(),
+        )
+    };
+    unless_refused(r.number, r.place, Size { leaves: r.leaves, nodes: r.nodes, rounds: r.rounds, height: r.height })
+}
+
+/// Runs toggles: every shape is outside at first, and each toggle takes one shape to its other side.
+///
+/// ```
+/// let sheet = b"\x01\0\x02\0\x01\x02\0\x01A\x02\0\x01B\x02\0\x01C\x03\0\x0A\0\0\0\x01\0\x02\xFF\xF0\xFF\xF2";
+/// let ran = kressedach::run(sheet, &[0, 1, 2, 0])?;
+/// assert_eq!(ran.roots, [true, false, false, false]);
+/// assert_eq!(ran.counts, [2, 2, 1, 2]);
+/// assert_eq!(ran.labels, [0, 1, 1, 1, 0, 0]);
+/// # Ok::<(), kressedach::Refusal>(())
+/// ```
+///
+/// # Errors
+///
+/// 1 to 7 as [`read`], 8, then 10.
+pub fn run(sheet: &[u8], toggles: &[u16]) -> Result<Ran, Refusal> {
+    let (mut roots, mut counts, mut labels) = (vec![0; toggles.len()], vec![0; toggles.len()], vec![0; MOST_NODES]);
+    let nodes = run_into(sheet, toggles, &mut roots, &mut counts, &mut labels)?;
+    labels.truncate(nodes);
+    Ok(Ran { roots: roots.into_iter().map(|root| root == 1).collect(), counts, labels })
+}
+
+/// Runs toggles into three lists, and gives the number of labels.
+///
+/// Roots and counts have an entry a toggle, labels an entry a dwarf node.
+///
+/// ```
+/// let sheet = b"\x01\0\x02\0\x01\x02\0\x01A\x03\0\x02\0\0";
+/// let (mut roots, mut counts, mut labels) = ([7; 3], [7; 2], [7; 2]);
+/// assert_eq!(kressedach::run_into(sheet, &[0, 0], &mut roots, &mut counts, &mut labels), Ok(1));
+/// assert_eq!((roots, counts, labels), ([1, 0, 7], [0, 0], [0, 7]));
+/// ```
+///
+/// # Errors
+///
+/// 1 to 7 as [`read`], 8, 10, then 9 for roots, counts, labels in this order.
+#[inline]
+pub fn run_into(sheet: &[u8], toggles: &[u16], roots: &mut [u8], counts: &mut [u32], labels: &mut [u8]) -> Result<usize, Refusal> {
+    // SAFETY: slices are pointers to that many entries; those that are written are borrowed by nobody else.
+    let r = unsafe {
+        ffi::kressedach_run(
+            sheet.as_ptr(),
+            sheet.len(),
+            toggles.as_ptr(),
+            toggles.len(),
+            roots.as_mut_ptr(),
+            roots.len(),
+            counts.as_mut_ptr(),
+            counts.len(),
+            labels.as_mut_ptr(),
+            labels.len(),
+        )
+    };
+    unless_refused(r.number, r.place, r.nodes)
+}
+
+/// The walls of the lines that these crossings make.
+///
+/// Lines come by rising number and crossings by rising position within a line. On each line every shape is outside before the first
+/// crossing and must be outside after the last. Crossings at one position act together.
+///
+/// ```
+/// use kressedach::{classify, Crossing, Wall};
+/// // A union B: where A ends, B begins
+/// let sheet = b"\x01\0\x02\0\x01\x02\0\x01A\x02\0\x01B\x03\0\x06\0\0\0\x01\xFF\xF0";
+/// let at = |position, shape| Crossing { line: 1, position, shape };
+/// assert_eq!(classify(sheet, &[at(0, 0), at(50, 0), at(50, 1), at(90, 1)])?, [Wall { line: 1, start: 0, end: 90 }]);
+///
+/// let refusal = classify(sheet, &[at(0, 0), at(50, 0), at(50, 1)]).unwrap_err();
+/// assert_eq!((refusal.number, refusal.place), (12, 2));
+/// # Ok::<(), kressedach::Refusal>(())
+/// ```
+///
+/// # Errors
+///
+/// 1 to 7 as [`read`], 8, then 10 and 11 crossing by crossing, then 12.
+pub fn classify(sheet: &[u8], crossings: &[Crossing]) -> Result<Vec<Wall>, Refusal> {
+    let lines: Vec<u32> = crossings.iter().map(|crossing| crossing.line).collect();
+    let positions: Vec<i32> = crossings.iter().map(|crossing| crossing.position).collect();
+    let shapes: Vec<u16> = crossings.iter().map(|crossing| crossing.shape).collect();
+    let room = crossings.len() / 2;
+    let (mut wall_lines, mut starts, mut ends) = (vec![0; room], vec![0; room], vec![0; room]);
+    let walls = classify_into(sheet, &lines, &positions, &shapes, &mut wall_lines, &mut starts, &mut ends)?;
+    let lists = wall_lines.into_iter().zip(starts).zip(ends);
+    Ok(lists.map(|((line, start), end)| Wall { line, start, end }).take(walls).collect())
+}
+
+/// The walls of the lines that these crossings make, into three lists; gives their number.
+///
+/// The crossings are three lists of one length. Each answer list needs room for half as many entries, rounded down.
+///
+/// ```
+/// let sheet = b"\x01\0\x02\0\x01\x02\0\x01A\x03\0\x02\0\0";
+/// let (mut wall_lines, mut starts, mut ends) = ([9; 2], [9; 2], [9; 2]);
+/// let walls = kressedach::classify_into(sheet, &[4, 4], &[-10, 25], &[0, 0], &mut wall_lines, &mut starts, &mut ends);
+/// assert_eq!(walls, Ok(1));
+/// assert_eq!((wall_lines, starts, ends), ([4, 9], [-10, 9], [25, 9]));
+/// ```
+///
+/// # Errors
+///
+/// 1 to 7 as [`read`], 8, 13, then 10 and 11 crossing by crossing, 12, then 9 for `wall_lines`, `starts`, `ends` in this order.
+#[inline]
+pub fn classify_into(
+    sheet: &[u8],
+    lines: &[u32],
+    positions: &[i32],
+    shapes: &[u16],
+    wall_lines: &mut [u32],
+    starts: &mut [i32],
+    ends: &mut [i32],
+) -> Result<usize, Refusal> {
+    // SAFETY: slices are pointers to that many entries; those that are written are borrowed by nobody else.
+    let r = unsafe {
+        ffi::kressedach_classify(
+            sheet.as_ptr(),
+            sheet.len(),
+            lines.as_ptr(),
+            lines.len(),
+            positions.as_ptr(),
+            positions.len(),
+            shapes.as_ptr(),
+            shapes.len(),
+            wall_lines.as_mut_ptr(),
+            wall_lines.len(),
+            starts.as_mut_ptr(),
+            starts.len(),
+            ends.as_mut_ptr(),
+            ends.len(),
+        )
+    };
+    unless_refused(r.number, r.place, r.walls)
+}

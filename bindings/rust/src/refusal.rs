@@ -1,0 +1,75 @@
+use std::error::Error;
+use std::fmt;
+
+/// Why a job gave no answer: a number of document 01's table, and the place that it fixes.
+///
+/// A refusal prints as a sentence that a person can act on:
+///
+/// ```
+/// let refusal = kressedach::read(b"\x01\x00\x02\x00\x07").unwrap_err();
+/// assert_eq!((refusal.number, refusal.place), (3, 0));
+/// assert_eq!(refusal.to_string(), "refused 3 at byte 0: the header's length or edition is wrong");
+/// ```
+#[derive(Debug, Clone, Copy, PartialEq, Eq, Hash)]
+pub struct Refusal {
+    /// The reason, 1 to 13.
+    pub number: u8,
+    /// Where: a byte of the sheet for 1 to 7, the length needed for 9, an entry of the list for 10 to 12, and 0 for 8 and 13.
+    pub place: usize,
+}
+
+impl Refusal {
+    /// What the number means.
+    ///
+    /// ```
+    /// assert_eq!(kressedach::read(b"").unwrap_err().meaning(), "the sheet ends too soon");
+    /// ```
+    pub fn meaning(&self) -> &'static str {
+        match self.number {
+            1 => "the sheet ends too soon",
+            2 => "a tag that is unknown or out of place",
+            3 => "the header's length or edition is wrong",
+            4 => "a name has a wrong length, or a byte that is not 0x21 to 0x7E",
+            5 => "a name that is taken already",
+            6 => "more than 256 names, or a formula longer than 4094 bytes",
+            7 => "the formula is wrong",
+            8 => "the contracted tree is higher than 57",
+            9 => "an answer list is too short",
+            10 => "a shape number that no name has",
+            11 => "a line number falls, or a position falls within its line",
+            12 => "a shape is crossed an odd number of times on the line that ends here",
+            13 => "the three crossing lists differ in length",
+            _ => "unknown",
+        }
+    }
+
+    /// The place in words, or nothing where the number has no place.
+    ///
+    /// ```
+    /// use kressedach::Refusal;
+    /// assert_eq!(Refusal { number: 5, place: 23 }.place_in_words().as_deref(), Some("at byte 23"));
+    /// assert_eq!(Refusal { number: 9, place: 6 }.place_in_words().as_deref(), Some("for want of 6 entries"));
+    /// assert_eq!(Refusal { number: 10, place: 4 }.place_in_words().as_deref(), Some("at entry 4"));
+    /// assert_eq!(Refusal { number: 13, place: 0 }.place_in_words(), None);
+    /// ```
+    pub fn place_in_words(&self) -> Option<String> {
+        match self.number {
+            1..=7 => Some(format!("at byte {}", self.place)),
+            9 => Some(format!("for want of {} entries", self.place)),
+            10..=12 => Some(format!("at entry {}", self.place)),
+            _ => None,
+        }
+    }
+}
+
+impl fmt::Display for Refusal {
+    fn fmt(&self, f: &mut fmt::Formatter<'_>) -> fmt::Result {
+        write!(f, "refused {}", self.number)?;
+        if let Some(place) = self.place_in_words() {
+            write!(f, " {place}")?;
+        }
+        write!(f, ": {}", self.meaning())
+    }
+}
+
+impl Error for Refusal {}

@@ -1,0 +1,321 @@
+//! The proved library and the plain implementation in `peer` agree on all four jobs, on many cases made from a seed.
+//!
+//! Answers and refusals are compared, and every answer list from end to end, with entries before and after it that were not lent.
+//! `KRESSEDACH_CASES` and `KRESSEDACH_SEED` say how many cases and from which seed. A difference prints its case whole.
+
+use peer::lines::{Crossing, Crossings};
+use peer::make::{self, Dice, Form};
+use peer::{say, Refused};
+use std::fmt::{self, Debug};
+use std::time::Instant;
+
+/// One call of the library. A room is the length of an answer list.
+enum Case {
+    Read { sheet: Vec<u8> },
+    Build { sheet: Vec<u8>, rooms: [usize; 3] },
+    Run { sheet: Vec<u8>, toggles: Vec<u16>, rooms: [usize; 3] },
+    Classify { sheet: Vec<u8>, lines: Vec<u32>, positions: Vec<i32>, shapes: Vec<u16>, rooms: [usize; 3] },
+}
+
+impl Debug for Case {
+    fn fmt(&self, f: &mut fmt::Formatter) -> fmt::Result {
+        let hex = |sheet: &[u8]| sheet.iter().map(|byte| format!("{byte:02X}")).collect::<String>();
+        match self {
+            Case::Read { sheet } => write!(f, "read, sheet {}", hex(sheet)),
+            Case::Build { sheet, rooms } => write!(f, "build, rooms {rooms:?}, sheet {}", hex(sheet)),
+            Case::Run { sheet, toggles, rooms } => write!(f, "run, rooms {rooms:?}, sheet {}, toggles {toggles:?}", hex(sheet)),
+            Case::Classify { sheet, lines, positions, shapes, rooms } => {
+                let sheet = hex(sheet);
+                write!(f, "classify, rooms {rooms:?}, sheet {sheet}, lines {lines:?}, positions {positions:?}, shapes {shapes:?}")
+            }
+        }
+    }
+}
+
+/// An answer list as it is lent, full of noise, between entries that are not lent.
+struct Lent<T> {
+    all: Vec<T>,
+    before: Vec<T>,
+}
+
+/// Entries on each side of a lent list; odd, so that lists begin at odd offsets too.
+const BESIDE: usize = 7;
+
+impl<T: Copy + PartialEq + Debug> Lent<T> {
+    fn new(room: usize, noise: impl Fn(u64) -> T) -> Lent<T> {
+        let all: Vec<T> = (0..room + 2 * BESIDE).map(|k| noise((k as u64 + 3).wrapping_mul(0x9E37_79B9_7F4A_7C15) >> 17)).collect();
+        Lent { before: all.clone(), all }
+    }
+
+    fn list(&mut self) -> &mut [T] {
+        let end = self.all.len() - BESIDE;
+        &mut self.all[BESIDE..end]
+    }
+
+    /// Is it what it was, but for these entries at its front?
+    fn check(&self, what: &str, given: impl Iterator<Item = T>) -> Result<(), String> {
+        let mut due = self.before.clone();
+        given.enumerate().for_each(|(k, entry)| due[BESIDE + k] = entry);
+        match (0..due.len()).find(|k| self.all[*k] != due[*k]) {
+            Some(k) => Err(format!("{what}[{}] is {:?}, due is {:?}", k as isize - BESIDE as isize, self.all[k], due[k])),
+            None => Ok(()),
+        }
+    }
+}
+
+fn same<T: PartialEq + Debug>(got: Result<T, kressedach::Refusal>, due: Result<T, &Refused>) -> Result<u8, String> {
+    let (got, due) = (got.map_err(|refusal| (refusal.number, refusal.place)), due.map_err(|refused| (refused.number, refused.place)));
+    if got != due {
+        return Err(format!("the answer is {got:?}, due is {due:?}"));
+    }
+    Ok(due.map_or_else(|(number, _)| number, |_| 0))
+}
+
+/// Calls the library and the plain implementation. Gives the refusal's number, 0 for none, or in what they differ.
+fn compare(case: &Case) -> Result<u8, String> {
+    match case {
+        Case::Read { sheet } => {
+            let got = kressedach::read(sheet).map(|r| (r.names, r.leaves, r.formula.start, r.formula.end));
+            same(got, peer::read(sheet).as_ref().map(|s| (s.names.len(), s.leaves, s.first, s.past)))
+        }
+        Case::Build { sheet, rooms } => {
+            let [mut kinds, mut firsts, mut seconds] = rooms.map(|room| Lent::new(room, |k| k as u16));
+            let got = kressedach::build_into(sheet, kinds.list(), firsts.list(), seconds.list());
+            let due = peer::build(sheet, *rooms);
+            let size = due.as_ref().map(|dwarf| (dwarf.leaves, dwarf.records.len(), dwarf.rounds, dwarf.height()));
+            let number = same(got.map(|size| (size.leaves, size.nodes, size.rounds, size.height)), size)?;
+            let records = || due.iter().flat_map(|dwarf| &dwarf.records);
+            kinds.check("kinds", records().map(|r| r.kind))?;
+            firsts.check("firsts", records().map(|r| r.first))?;
+            seconds.check("seconds", records().map(|r| r.second))?;
+            Ok(number)
+        }
+        Case::Run { sheet, toggles, rooms } => {
+            let (mut roots, mut labels) = (Lent::new(rooms[0], |k| k as u8), Lent::new(rooms[2], |k| k as u8));
+            let mut counts = Lent::new(rooms[1], |k| k as u32);
+            let got = kressedach::run_into(sheet, toggles, roots.list(), counts.list(), labels.list());
+            let due = peer::run(sheet, toggles, *rooms);
+            let number = same(got, due.as_ref().map(|ran| ran.labels.len()))?;
+            roots.check("roots", due.iter().flat_map(|ran| ran.roots.iter().copied()))?;
+            counts.check("counts", due.iter().flat_map(|ran| ran.counts.iter().copied()))?;
+            labels.check("labels", due.iter().flat_map(|ran| ran.labels.iter().copied()))?;
+            Ok(number)
+        }
+        Case::Classify { sheet, lines, positions, shapes, rooms } => {
+            let mut wall_lines = Lent::new(rooms[0], |k| k as u32);
+            let (mut starts, mut ends) = (Lent::new(rooms[1], |k| k as i32), Lent::new(rooms[2], |k| k as i32));
+            let (list, starts_list, ends_list) = (wall_lines.list(), starts.list(), ends.list());
+            let got = kressedach::classify_into(sheet, lines, positions, shapes, list, starts_list, ends_list);
+            let due = peer::classify(sheet, Crossings { lines, positions, shapes }, *rooms);
+            let number = same(got, due.as_ref().map(|walls| walls.len()))?;
+            wall_lines.check("wall_lines", due.iter().flatten().map(|wall| wall.line))?;
+            starts.check("starts", due.iter().flatten().map(|wall| wall.start))?;
+            ends.check("ends", due.iter().flatten().map(|wall| wall.end))?;
+            Ok(number)
+        }
+    }
+}
+
+/// The lengths of three answer lists that need so much room: mostly enough, sometimes too short.
+fn rooms(dice: &mut Dice, needed: [usize; 3]) -> [usize; 3] {
+    let often_good = dice.below(4) > 0;
+    needed.map(|need| match dice.below(if often_good { 3 } else { 6 }) {
+        0 => need,
+        1 => need + 1,
+        2 => need + dice.below(70),
+        3 => need.saturating_sub(1),
+        4 => 0,
+        _ => dice.below(need + 1),
+    })
+}
+
+/// Mostly a good sheet, and its number of names.
+fn mostly_good_sheet(dice: &mut Dice) -> (Vec<u8>, usize) {
+    if dice.once_in(6) {
+        let sheet = make::any_sheet(dice);
+        let names = peer::read(&sheet).map_or(1, |sheet| sheet.names.len());
+        return (sheet, names);
+    }
+    make::good_sheet(dice)
+}
+
+/// How many dwarf nodes a sheet has; of a refused one, anything.
+fn nodes(sheet: &[u8]) -> usize {
+    peer::build(sheet, [usize::MAX; 3]).map_or(5, |dwarf| dwarf.records.len())
+}
+
+fn lists(all: &[Crossing]) -> (Vec<u32>, Vec<i32>, Vec<u16>) {
+    (all.iter().map(|c| c.line).collect(), all.iter().map(|c| c.position).collect(), all.iter().map(|c| c.shape).collect())
+}
+
+fn make_case(dice: &mut Dice, job: u64) -> Case {
+    if job == 0 {
+        return Case::Read { sheet: make::any_sheet(dice) };
+    }
+    let (sheet, names) = mostly_good_sheet(dice);
+    match job {
+        1 => {
+            let rooms = rooms(dice, [nodes(&sheet); 3]);
+            Case::Build { sheet, rooms }
+        }
+        2 => {
+            let mut toggles = make::toggles(dice, names, 600);
+            if dice.once_in(10) && !toggles.is_empty() {
+                let at = dice.below(toggles.len());
+                toggles[at] = dice.of_these(&[names as u16, 256, 65535]);
+            }
+            let rooms = rooms(dice, [toggles.len(), toggles.len(), nodes(&sheet)]);
+            Case::Run { sheet, toggles, rooms }
+        }
+        _ => {
+            let (most_lines, most_a_line) = dice.of_these(&[(0, 0), (12, 40), (12, 40), (60, 4), (2, 700)]);
+            let mut all = if most_lines == 0 { vec![] } else { make::crossings(dice, names, most_lines, most_a_line) };
+            for _ in 0..dice.of_these(&[0, 0, 1, 1, 2]) {
+                make::damage_crossings(dice, names, &mut all);
+            }
+            let (mut lines, mut positions, mut shapes) = lists(&all);
+            if dice.once_in(12) {
+                match dice.below(4) {
+                    0 => drop(lines.pop()),
+                    1 => drop(positions.pop()),
+                    2 => drop(shapes.pop()),
+                    _ => shapes.push(65535),
+                }
+            }
+            let rooms = rooms(dice, [lines.len() / 2; 3]);
+            Case::Classify { sheet, lines, positions, shapes, rooms }
+        }
+    }
+}
+
+fn from_env(name: &str, otherwise: u64) -> u64 {
+    std::env::var(name).map_or(otherwise, |value| value.parse().unwrap_or_else(|_| panic!("{name} is no number: {value}")))
+}
+
+const JOBS: [&str; 4] = ["read", "build", "run", "classify"];
+
+/// The refusals that each job can give. 8 is in the table, and no formula is known that gets it.
+const CAN: [&[usize]; 4] = [
+    &[0, 1, 2, 3, 4, 5, 6, 7],
+    &[0, 1, 2, 3, 4, 5, 6, 7, 9],
+    &[0, 1, 2, 3, 4, 5, 6, 7, 9, 10],
+    &[0, 1, 2, 3, 4, 5, 6, 7, 9, 10, 11, 12, 13],
+];
+
+#[test]
+fn the_two_agree_on_cases_from_a_seed() {
+    let seed = from_env("KRESSEDACH_SEED", 1);
+    let cases = from_env("KRESSEDACH_CASES", 120_000);
+    let began = Instant::now();
+    let mut seen = [[0u64; 14]; 4];
+    for number in 0..cases {
+        let job = number % 4;
+        let case = make_case(&mut Dice::of(seed, number), job);
+        match compare(&case) {
+            Ok(answer) => seen[job as usize][usize::from(answer)] += 1,
+            Err(difference) => panic!("seed {seed}, case {number}: {difference}\n{case:?}"),
+        }
+    }
+    say(format!("{cases} cases from seed {seed} agree, in {:.1} s; given, then refused 1 to 13:", began.elapsed().as_secs_f64()));
+    for job in 0..4 {
+        say(format!("  {:<8} {:?}", JOBS[job], seen[job]));
+        // the cases are worth something: whatever a job can answer comes up
+        assert!(cases < 100_000 || CAN[job].iter().all(|answer| seen[job][*answer] >= 20), "{} {:?}", JOBS[job], seen[job]);
+    }
+}
+
+fn assert_same(case: Case) -> u8 {
+    compare(&case).unwrap_or_else(|difference| panic!("{difference}\n{case:?}"))
+}
+
+/// Every cut and every changed byte of the worked sheet.
+#[test]
+fn the_worked_sheet_damaged_everywhere() {
+    let sheet = make::sheet(&["A", "B", "C"], &[0, 1, 2, 0xFFF0, 0xFFF2]);
+    for at in 0..sheet.len() {
+        assert_same(Case::Read { sheet: sheet[..at].to_vec() });
+        for byte in 0..=255 {
+            let mut sheet = sheet.clone();
+            sheet[at] = byte;
+            assert_same(Case::Build { sheet: sheet.clone(), rooms: [6; 3] });
+            assert_same(Case::Read { sheet });
+        }
+    }
+}
+
+/// The largest sheet, in every form, with every shape toggled and crossed.
+fn largest_sheets() -> Vec<Case> {
+    let mut cases = Vec::new();
+    for (k, form) in Form::ALL.into_iter().enumerate() {
+        let dice = &mut Dice::of(2, k as u64);
+        let names = make::names(dice, 256, 32);
+        let sheet = make::sheet(&names, &make::codes(dice, 256, 1024, form));
+        assert_eq!(sheet.len(), 13_062);
+        cases.push(Case::Read { sheet: sheet.clone() });
+        cases.push(Case::Build { sheet: sheet.clone(), rooms: [3069; 3] });
+        let toggles: Vec<u16> = (0..256).chain((0..256).rev()).chain((0..2000).map(|_| dice.below(256) as u16)).collect();
+        cases.push(Case::Run { sheet: sheet.clone(), rooms: [toggles.len(), toggles.len(), 3069], toggles });
+        let (lines, positions, shapes) = lists(&make::crossings(dice, 256, 40, 1000));
+        cases.push(Case::Classify { sheet, rooms: [lines.len() / 2; 3], lines, positions, shapes });
+    }
+    cases
+}
+
+#[test]
+fn the_largest_sheets() {
+    for case in largest_sheets() {
+        assert_eq!(assert_same(case), 0);
+    }
+}
+
+/// The working memory is as small as the header says.
+#[test]
+fn a_small_stack_is_enough() {
+    let calls = || {
+        for case in largest_sheets() {
+            match case {
+                Case::Read { sheet } => drop(kressedach::read(&sheet).unwrap()),
+                Case::Build { sheet, .. } => drop(kressedach::build(&sheet).unwrap()),
+                Case::Run { sheet, toggles, .. } => drop(kressedach::run(&sheet, &toggles).unwrap()),
+                Case::Classify { sheet, lines, positions, shapes, .. } => {
+                    let all = lines.iter().zip(&positions).zip(&shapes);
+                    let all: Vec<_> = all
+                        .map(|((line, position), shape)| kressedach::Crossing { line: *line, position: *position, shape: *shape })
+                        .collect();
+                    drop(kressedach::classify(&sheet, &all).unwrap());
+                }
+            }
+        }
+    };
+    std::thread::Builder::new().stack_size(512 * 1024).spawn(calls).unwrap().join().unwrap();
+}
+
+/// Lists far longer than any block: a million toggles, a million crossings on one line, half a million lines, one position for all.
+#[test]
+fn long_lists() {
+    const LONG: usize = 1_000_000;
+    let sheet = make::sheet(&["A", "B", "C"], &[0, 1, 2, 0xFFF0, 0xFFF2]);
+    let toggles: Vec<u16> = (0..LONG).map(|k| (k * k / 7 % 3) as u16).collect();
+    assert_eq!(assert_same(Case::Run { sheet: sheet.clone(), toggles, rooms: [LONG, LONG, 6] }), 0);
+    type Entry = fn(usize) -> (u32, i32, u16);
+    let pattern: [Entry; 4] = [
+        |k| (u32::MAX, i32::MIN + k as i32 / 3, [0, 1, 2, 2, 1, 0][k % 6]),
+        |k| (k as u32 / 2, [i32::MIN, i32::MAX][k % 2], (k / 2 % 3) as u16),
+        |_| (0, 0, 0),
+        |k| (k as u32 / 1000, k as i32 % 1000 / 4, [0, 1, 1, 0][k % 4]),
+    ];
+    for (k, entry) in pattern.into_iter().enumerate() {
+        let length = LONG - LONG % 12;
+        let (mut lines, mut positions, mut shapes) = (vec![], vec![], vec![]);
+        for (line, position, shape) in (0..length).map(entry) {
+            lines.push(line);
+            positions.push(position);
+            shapes.push(shape);
+        }
+        assert_eq!(
+            assert_same(Case::Classify { sheet: sheet.clone(), lines, positions, shapes, rooms: [length / 2; 3] }),
+            0,
+            "pattern {k}"
+        );
+    }
+}

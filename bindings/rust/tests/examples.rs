@@ -1,0 +1,61 @@
+//! What `examples/README.md` says is so: its sheets are the files, and its commands print what stands under them.
+
+use std::path::Path;
+use std::process::Command;
+
+const EXAMPLES: &str = concat!(env!("CARGO_MANIFEST_DIR"), "/../../examples");
+
+/// The blocks of the page whose heading begins with a word: the rest of the heading, and the lines.
+fn blocks(word: &str) -> Vec<(String, Vec<String>)> {
+    let page = std::fs::read_to_string(Path::new(EXAMPLES).join("README.md")).unwrap();
+    let mut blocks = Vec::new();
+    let mut lines = page.lines();
+    while let Some(line) = lines.next() {
+        let Some(heading) = line.strip_prefix("```") else { continue };
+        let inside = lines.by_ref().take_while(|line| *line != "```").map(String::from).collect();
+        if let Some(rest) = heading.strip_prefix(word) {
+            blocks.push((rest.trim().to_string(), inside));
+        }
+    }
+    blocks
+}
+
+/// The bytes of a line's left side, which two spaces end.
+fn bytes(line: &str) -> Vec<u8> {
+    let digits: String = line.split("  ").next().unwrap().split(' ').collect();
+    (0..digits.len()).step_by(2).map(|k| u8::from_str_radix(&digits[k..k + 2], 16).unwrap()).collect()
+}
+
+#[test]
+fn the_sheets_are_as_written() {
+    let sheets = blocks("sheet");
+    assert_eq!(sheets.len(), 2);
+    for (name, lines) in sheets {
+        let due: Vec<u8> = lines.iter().flat_map(|line| bytes(line)).collect();
+        let path = Path::new(EXAMPLES).join(&name);
+        if std::env::var_os("KRESSEDACH_WRITE_EXAMPLES").is_some() {
+            std::fs::write(&path, &due).unwrap();
+        }
+        assert_eq!(std::fs::read(&path).unwrap(), due, "{name}");
+        for (shape, text) in kressedach::names(&due).unwrap().iter().enumerate() {
+            assert!(lines[1 + shape].ends_with(&format!("shape {shape}: {text}")), "{name}: {text}");
+        }
+    }
+}
+
+#[test]
+fn the_commands_print_as_written() {
+    let mut commands = 0;
+    for (_, lines) in blocks("console") {
+        for said in lines.join("\n").split("$ ").skip(1) {
+            let (command, due) = said.split_once('\n').unwrap_or((said, ""));
+            let mut words = command.split(' ');
+            assert_eq!(words.next(), Some("wallcheck"));
+            let output = Command::new(env!("CARGO_BIN_EXE_wallcheck")).args(words).current_dir(EXAMPLES).output().unwrap();
+            let got = [output.stdout, output.stderr].concat();
+            assert_eq!(String::from_utf8_lossy(&got).trim_end(), due.trim_end(), "{command}");
+            commands += 1;
+        }
+    }
+    assert_eq!(commands, 9);
+}

@@ -1,0 +1,168 @@
+//! The command's answers, words and exit status.
+
+use peer::make::sheet;
+use std::io::Write;
+use std::path::PathBuf;
+use std::process::{Command, Stdio};
+
+/// Exit status, standard output, standard error.
+type Said = (Option<i32>, String, String);
+
+fn wallcheck(args: &[&str], stdin: &[u8]) -> Said {
+    let mut child = Command::new(env!("CARGO_BIN_EXE_wallcheck"))
+        .args(args)
+        .stdin(Stdio::piped())
+        .stdout(Stdio::piped())
+        .stderr(Stdio::piped())
+        .spawn()
+        .unwrap();
+    // a command that reads nothing may have ended: that is no failure
+    let _ = child.stdin.take().unwrap().write_all(stdin);
+    let output = child.wait_with_output().unwrap();
+    let text = |bytes: &[u8]| String::from_utf8_lossy(bytes).into_owned();
+    (output.status.code(), text(&output.stdout), text(&output.stderr))
+}
+
+fn answered(text: &str) -> Said {
+    (Some(0), text.into(), String::new())
+}
+
+fn refused(text: &str) -> Said {
+    (Some(1), String::new(), format!("wallcheck: {text}\n"))
+}
+
+fn unreadable(text: &str) -> Said {
+    (Some(2), String::new(), format!("wallcheck: {text}\n"))
+}
+
+/// A file with these bytes, and its path.
+fn file(name: &str, bytes: &[u8]) -> String {
+    let path = PathBuf::from(env!("CARGO_TARGET_TMPDIR")).join(name);
+    std::fs::write(&path, bytes).unwrap();
+    path.to_str().unwrap().into()
+}
+
+fn worked() -> Vec<u8> {
+    sheet(&["A", "B", "C"], &[0, 1, 2, 0xFFF0, 0xFFF2])
+}
+
+#[test]
+fn the_worked_sheet() {
+    assert_eq!(wallcheck(&["read", "-"], &worked()), answered("names,leaves,first,past\n3,3,20,30\n"));
+    assert_eq!(wallcheck(&["read", "--names", "-"], &worked()), answered("shape,name\n0,A\n1,B\n2,C\n"));
+    assert_eq!(wallcheck(&["list", "--size", "-"], &worked()), answered("leaves,nodes,rounds,height\n3,6,2,2\n"));
+    let nodes =
+        "0,0,0,65535,leaf A\n1,0,1,65535,leaf B\n2,0,2,65535,leaf C\n3,1,1,2,E union\n4,7,0,65535,R difference left raked\n5,13,4,3,S\n";
+    assert_eq!(wallcheck(&["list", "-"], &worked()), answered(&format!("node,kind,first,second,meaning\n{nodes}")));
+    let path = file("worked.sheet", &worked());
+    let rows = "0,0,A,1,2\n1,1,B,0,2\n2,2,C,0,1\n3,0,A,0,2\n";
+    assert_eq!(wallcheck(&["run", &path, "-"], b"name\nA\nB\nC\nA\n"), answered(&format!("toggle,shape,name,root,count\n{rows}")));
+    assert_eq!(wallcheck(&["run", &path, "-"], b"shape\n0\n1\n2\n0\n"), answered(&format!("toggle,shape,name,root,count\n{rows}")));
+    let labels = "node,label\n0,0\n1,1\n2,1\n3,1\n4,0\n5,0\n";
+    assert_eq!(wallcheck(&["run", "--labels", &path, "-"], b"name\nA\nB\nC\nA\n"), answered(labels));
+}
+
+#[test]
+fn columns_in_any_order_by_name_or_number() {
+    let path = file("order.sheet", &sheet(&["A", "B"], &[0, 1, 0xFFF2]));
+    let walls = answered("line,start,end\n7,-5,40\n7,60,100\n");
+    assert_eq!(wallcheck(&["walls", &path, "-"], b"line,position,name\n7,-5,A\n7,40,B\n7,60,B\n7,100,A\n"), walls);
+    assert_eq!(wallcheck(&["walls", &path, "-"], b"shape,line,position\r\n0,7,-5\r\n1,7,40\r\n\r\n1,7,60\r\n0,7,100"), walls);
+    assert_eq!(wallcheck(&["walls", &path, "-"], b"line,position,name\n"), answered("line,start,end\n"));
+    let crossings = file("order.csv", b"line,position,name\n7,-5,A\n7,40,B\n7,60,B\n7,100,A\n");
+    assert_eq!(wallcheck(&["walls", "-", &crossings], &sheet(&["A", "B"], &[0, 1, 0xFFF2])), walls);
+}
+
+/// The heading says what the letters below it are.
+#[test]
+fn names_of_digits_commas_and_quotation_marks() {
+    let path = file("digits.sheet", &sheet(&["1", "0", "a,b", "\""], &[0, 1, 0xFFF0]));
+    let heading = "toggle,shape,name,root,count\n";
+    assert_eq!(wallcheck(&["run", &path, "-"], b"name\n0\n"), answered(&format!("{heading}0,1,0,1,1\n")));
+    assert_eq!(wallcheck(&["run", &path, "-"], b"shape\n0\n"), answered(&format!("{heading}0,0,1,1,1\n")));
+    let quoted = answered(&format!("{heading}0,2,\"a,b\",0,0\n1,3,\"\"\"\",0,0\n"));
+    assert_eq!(wallcheck(&["run", &path, "-"], b"name\n\"a,b\"\n\"\"\"\"\n"), quoted);
+    let names = wallcheck(&["read", "--names", &path], b"").1;
+    assert_eq!(names, "shape,name\n0,1\n1,0\n2,\"a,b\"\n3,\"\"\"\"\n");
+}
+
+#[test]
+fn refused_sheets() {
+    let twice = sheet(&["Port", "PORT", "Port"], &[0]);
+    let taken = "refused 5 at byte 19: a name that is taken already\n  the name there is \"Port\"";
+    assert_eq!(wallcheck(&["read", "-"], &twice), refused(taken));
+    assert_eq!(wallcheck(&["list", "-"], &twice), refused(taken));
+    let spaced = "refused 4 at byte 5: a name has a wrong length, or a byte that is not 0x21 to 0x7E\n  the name there is \"a\\x20b\"";
+    assert_eq!(wallcheck(&["read", "-"], &sheet(&["a b"], &[0])), refused(spaced));
+    let long = wallcheck(&["read", "-"], &sheet(&["N".repeat(33)], &[0])).2;
+    assert!(long.ends_with("the name there has 33 bytes; 1 to 32 are allowed\n"), "{long}");
+    let code = "refused 7 at byte 12: the formula is wrong\n  the code there is 0xFFF4";
+    assert_eq!(wallcheck(&["read", "-"], &sheet(&["A"], &[0xFFF4])), refused(code));
+    let end = "refused 7 at byte 9: the formula is wrong\n  its end leaves more than one operand";
+    assert_eq!(wallcheck(&["list", "-"], &sheet(&["A"], &[0, 0])), refused(end));
+    assert_eq!(wallcheck(&["read", "-"], b""), refused("refused 1 at byte 0: the sheet ends too soon"));
+    let tag = "refused 2 at byte 0: a tag that is unknown or out of place\n  the tag there is 35";
+    assert_eq!(wallcheck(&["read", "-"], b"# a text"), refused(tag));
+}
+
+#[test]
+fn refused_lists() {
+    let path = file("lists.sheet", &sheet(&["Port", "PORT"], &[0, 1, 0xFFF2]));
+    let stranger = wallcheck(&["run", &path, "-"], b"name\nPort\nport\n");
+    let unknown = "refused 10 at entry 1: a shape number that no name has";
+    let letters = "the sheet has no name \"port\"; names are compared letter by letter";
+    assert_eq!(stranger, refused(&format!("{unknown}\n  row 3 of standard input: {letters}")));
+    let number = wallcheck(&["walls", &path, "-"], b"line,position,shape\n1,5,0\n\n1,5,2\n");
+    assert_eq!(number, refused(&format!("{unknown}\n  row 4 of standard input: shape 2, and the last one is 1")));
+    let walls = |rows: &str| wallcheck(&["walls", &path, "-"], format!("line,position,name\n{rows}").as_bytes());
+    let falls = "refused 11 at entry 1: a line number falls, or a position falls within its line";
+    let about = "row 3 of standard input: line 1 comes after line 2";
+    assert_eq!(walls("2,0,Port\n1,0,Port\n"), refused(&format!("{falls}\n  {about}")));
+    let about = "row 3 of standard input: position 4 comes after 5 on line 2";
+    assert_eq!(walls("2,5,Port\n2,4,Port\n"), refused(&format!("{falls}\n  {about}")));
+    let odd = "refused 12 at entry 2: a shape is crossed an odd number of times on the line that ends here";
+    let about = "line 2, which ends at row 4 of standard input: \"PORT\" (shape 1) is crossed once";
+    assert_eq!(walls("2,5,Port\n2,6,PORT\n2,7,Port\n3,1,Port\n"), refused(&format!("{odd}\n  {about}")));
+    // the sheet comes first, whatever the list holds
+    let damaged = file("damaged.sheet", &worked()[..29]);
+    assert_eq!(wallcheck(&["run", &damaged, "-"], b"nonsense"), refused("refused 1 at byte 29: the sheet ends too soon"));
+}
+
+#[test]
+fn unreadable_files() {
+    let path = file("files.sheet", &worked());
+    assert_eq!(wallcheck(&["read", "/no/such/file"], b"").0, Some(2));
+    let said = |list: &[u8]| wallcheck(&["walls", &path, "-"], list);
+    let heading = "the heading is to be line,position,name or line,position,shape";
+    assert_eq!(said(b""), unreadable("standard input: is empty; its heading is line,position,name or line,position,shape"));
+    assert_eq!(said(b"1,2,3\n"), unreadable(&format!("standard input: row 1: {heading}")));
+    assert_eq!(said(b"line,position,name,shape\n"), unreadable(&format!("standard input: row 1: {heading}")));
+    assert_eq!(said(b"line,position,name\n1,2\n"), unreadable("standard input: row 2: 2 fields, and the heading has 3"));
+    let range = "is no whole number from -2147483648 to 2147483647";
+    assert_eq!(said(b"line,position,name\n1,2.5,A\n"), unreadable(&format!("standard input: row 2: position \"2.5\" {range}")));
+    assert_eq!(
+        said(b"line,position,name\n1,2147483648,A\n"),
+        unreadable(&format!("standard input: row 2: position \"2147483648\" {range}"))
+    );
+    let line = "standard input: row 2: line \"-1\" is no whole number from 0 to 4294967295";
+    assert_eq!(said(b"line,position,name\n-1,0,A\n"), unreadable(line));
+    let shape = "standard input: row 2: shape \"A\" is no whole number from 0 to 65535; names stand below the heading 'name'";
+    assert_eq!(said(b"line,position,shape\n1,0,A\n"), unreadable(shape));
+    assert_eq!(said(b"line,position,name\n\xFF"), unreadable("standard input: is not text"));
+}
+
+#[test]
+fn usage() {
+    let said = |args: &[&str]| wallcheck(args, b"");
+    let usage = |text: &str| (Some(2), String::new(), format!("wallcheck: {text}\nTry 'wallcheck --help'.\n"));
+    assert_eq!(said(&[]), usage("a command is missing"));
+    assert_eq!(said(&["raed", "-"]), usage("there is no command 'raed'"));
+    assert_eq!(said(&["read"]), usage("'read' takes one file: SHEET"));
+    assert_eq!(said(&["run", "a"]), usage("'run' takes two files: SHEET TOGGLES"));
+    assert_eq!(said(&["walls", "a", "b", "c"]), usage("'walls' takes two files: SHEET CROSSINGS"));
+    assert_eq!(said(&["walls", "-", "-"]), usage("only one of the two files can be standard input"));
+    let (status, help, _) = said(&["--help"]);
+    assert_eq!(status, Some(0));
+    assert!(help.lines().all(|line| line.len() <= 80), "a line of the help is longer than a terminal");
+    assert_eq!(said(&["--version"]).1, concat!("wallcheck ", env!("CARGO_PKG_VERSION"), "\n"));
+}
