@@ -1,12 +1,10 @@
 -- The answer lists judged in order: the first that is too short refuses, and where none is, there is room.
 use Prim.Native.Nat.{ℕ, _≤_, _<_}
 use mathlib.Core.Path.{_≡_, refl, sym, ap, _∙_}
-use mathlib.Core.Bool.{Bool, true, false}
 use lib.Dec.{leb}
-use native.Mathlib.Omega.{arith}
 use borrow.Author.Tests.{le-leb, lt-leb, leb-true}
-use Rattle.outcome.specs.Outcome.{Outcome, given, refused, need}
-use Rattle.outcome.proofs.Questions.{then-given}
+use Rattle.outcome.specs.Outcome.{Outcome, given, refused}
+use Rattle.outcome.proofs.Questions.{need-yes, then-given}
 use Rattle.accepting.specs.Accepting.{room, rooms}
 use Rattle.accepting.specs.Prepared.{roomsOf, Judged, Roomy}
 use Rattle.accepting.specs.declared.Rooms.{Rooms}
@@ -25,12 +23,8 @@ module _ (a n b m c k : ℕ) where
   pub enough : a ≤ n → b ≤ m → c ≤ k → Judged a n b m c k Enough
   enough h i j = record { says = rw (le-leb a n h, le-leb b m i, le-leb c k j) }
 
-need-yes : (b : Bool) (k p : ℕ) (u : Unit {0}) → need b k p ≡ given u → b ≡ true
-need-yes true k p u h = refl
-need-yes false k p u h = let z : _≡_ {A = ℕ} 0 1 = cc in absurd (omega arith)
-
 room-given : (a n : ℕ) {u : Unit {0}} → room a n ≡ given u → a ≤ n
-room-given a n {u} h = leb-true a n (need-yes (leb a n) 9 a u h)
+room-given a n h = leb-true a n (need-yes (leb a n) 9 a h)
 
 pub judged-roomy : (a n b m c k : ℕ) (r : Rooms) → Judged a n b m c k r → r ≡ Enough → Roomy a n b m c k
 judged-roomy a n b m c k r j enough =

@@ -6,9 +6,9 @@ use mathlib.Core.Bool.{Bool, true, false, not, Bool·beq}
 use lib.Dec.{eqb}
 use borrow.Author.Tests.{lt-ltb, le-ltb, ne-eqb}
 use mathlib.Core.List.{[], _∷_}
-use Rattle.formula.specs.Formula.{exclusive, meaning}
+use Rattle.formula.specs.Formula.{exclusive, meaning, opAt}
 use Rattle.contraction.specs.Records.{children}
-use Rattle.labels.specs.Labels.{bit, on, table, left, right, operation, rule}
+use Rattle.labels.specs.Labels.{bit, on, table, left, right, rule}
 
 pub on-test : (x : ℕ) → not (eqb x 0) ≡ on x
 on-test zero = refl
@@ -18,15 +18,8 @@ pub bit-small : (b : Bool) → bit b ≤ 1
 bit-small true = omega arith
 bit-small false = omega arith
 
--- past the third operation
-pub operation-rest : (o : ℕ) → 2 < o → operation o ≡ exclusive
-operation-rest zero h = absurd (omega arith)
-operation-rest (suc zero) h = absurd (omega arith)
-operation-rest (suc (suc zero)) h = absurd (omega arith)
-operation-rest (suc (suc (suc o))) h = refl
-
 -- the side that was raked matters at difference alone
-pub side-free : (o : ℕ) (v : Bool) → (o ≡ 2 → ⊥) → table (operation o) left v ≡ table (operation o) right v
+pub side-free : (o : ℕ) (v : Bool) → (o ≡ 2 → ⊥) → table (opAt o) left v ≡ table (opAt o) right v
 side-free zero true n = refl
 side-free zero false n = refl
 side-free (suc zero) true n = refl
@@ -42,13 +35,13 @@ exclusive-test false true = refl
 exclusive-test false false = refl
 
 module _ (k : ℕ) (s : Bool) (x y : ℕ) where
-  pub at-E : 0 < k → k < 5 → rule k s x y ≡ bit (meaning (operation (k - 1)) (on x) (on y))
+  pub at-E : 0 < k → k < 5 → rule k s x y ≡ bit (meaning (opAt (k - 1)) (on x) (on y))
   at-E l h = rw (le-ltb k 1 (omega arith), lt-ltb k 5 h)
 
-  pub at-left : 4 < k → k < 9 → rule k s x y ≡ table (operation (k - 5)) left (on x)
+  pub at-left : 4 < k → k < 9 → rule k s x y ≡ table (opAt (k - 5)) left (on x)
   at-left l h = rw (le-ltb k 1 (omega arith), le-ltb k 5 (omega arith), lt-ltb k 9 h)
 
-  pub at-right : 8 < k → k < 13 → rule k s x y ≡ table (operation (k - 9)) right (on x)
+  pub at-right : 8 < k → k < 13 → rule k s x y ≡ table (opAt (k - 9)) right (on x)
   at-right l h = rw (le-ltb k 1 (omega arith), le-ltb k 5 (omega arith), le-ltb k 9 (omega arith), lt-ltb k 13 h)
 
   pub at-none : 14 < k → rule k s x y ≡ 0

@@ -10,7 +10,7 @@ use lib.ListN.{getD}
 use Rattle.formula.specs.Formula.{Op, union, intersection, difference, exclusive, index, meaning}
 use Rattle.formula.specs.States.{State, outside}
 use Rattle.contraction.specs.Records.{Rec, children, among, over}
-use Rattle.labels.specs.Labels.{bit, on, pair, pick, table, left, right, operation, rule, label}
+use Rattle.labels.specs.Labels.{bit, on, pair, pick, table, left, right, rule, label}
 
 pub on-bit : (b : Bool) → on (bit b) ≡ b
 on-bit true = refl

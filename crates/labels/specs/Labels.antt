@@ -4,7 +4,7 @@ use mathlib.Core.Bool.{Bool, true, false, cond, _&&_}
 use mathlib.Core.List.{List, []}
 use lib.ListN.{getD}
 use lib.Dec.{ltb, eqb}
-use Rattle.formula.specs.Formula.{Op, union, intersection, difference, exclusive, meaning}
+use Rattle.formula.specs.Formula.{Op, union, intersection, difference, exclusive, meaning, opAt}
 use Rattle.formula.specs.States.{State}
 use Rattle.contraction.specs.Records.{Rec}
 use Rattle.contraction.specs.Height.{worked}
@@ -47,21 +47,14 @@ table difference right true = pair false false
 table exclusive side false = pair true false
 table exclusive side true = pair false true
 
--- The four operations in the order of the kinds.
-abbrev pub operation : ℕ → Op
-operation zero = union
-operation (suc zero) = intersection
-operation (suc (suc zero)) = difference
-operation (suc (suc (suc n))) = exclusive
-
 -- A label by kind, from the state of the shape and from the labels x of first and y of second.
 -- S picks a or b by its value child. C of (a1,b1) over (a2,b2) is the first pair applied to a2, then to b2.
 abbrev pub rule : ℕ → Bool → ℕ → ℕ → ℕ
 rule kind inside x y =
     cond (ltb kind 1) (bit inside)
-    (cond (ltb kind 5) (bit (meaning (operation (kind - 1)) (on x) (on y)))
-    (cond (ltb kind 9) (table (operation (kind - 5)) left (on x))
-    (cond (ltb kind 13) (table (operation (kind - 9)) right (on x))
+    (cond (ltb kind 5) (bit (meaning (opAt (kind - 1)) (on x) (on y)))
+    (cond (ltb kind 9) (table (opAt (kind - 5)) left (on x))
+    (cond (ltb kind 13) (table (opAt (kind - 9)) right (on x))
     (cond (eqb kind 13) (bit (pick x (on y)))
     (cond (eqb kind 14) (pair (pick x (pick y true)) (pick x (pick y false))) 0)))))
 

@@ -3,10 +3,10 @@ ghost use mathlib.Core.Bool.{true, false};
 ghost use mathlib.Core.List.{[], _∷_};
 ghost use Prim.Native.Nat.{ℕ, _<_, _≤_};
 ghost use lib.ListN.{getD, set, take};
-ghost use Rattle.formula.specs.Formula.{meaning as meaningOf};
+ghost use Rattle.formula.specs.Formula.{meaning as meaningOf, opAt};
 ghost use Rattle.formula.specs.States.{outside};
 ghost use Rattle.contraction.specs.Records.{Rec, children};
-ghost use Rattle.labels.specs.Labels.{bit as bitOf, on as isOn, pick as pickOf, operation, table, left, right, rule, label as labelOf, labels as afresh};
+ghost use Rattle.labels.specs.Labels.{bit as bitOf, on as isOn, pick as pickOf, table, left, right, rule, label as labelOf, labels as afresh};
 ghost use Rattle.labels.specs.Steps.{recAt, recs, Shaped, adopted, Parents, Chains};
 
 fn bit(b: bool) -> u8
@@ -23,7 +23,7 @@ fn on(x: u8) -> bool
 
 // What operation o says of the left operand a and the right operand b.
 fn meaning(o: u16, a: bool, b: bool) -> bool
-    ensures { λ r. ⌜ r ≡ meaningOf (operation o) a b ⌝ }
+    ensures { λ r. ⌜ r ≡ meaningOf (opAt o) a b ⌝ }
 {
     match o {
         0 => a | b,
@@ -35,7 +35,7 @@ fn meaning(o: u16, a: bool, b: bool) -> bool
 
 // The rake table, the left operand raked.
 fn raked_left(o: u16, v: bool) -> u8
-    ensures { λ r. ⌜ r ≡ table (operation o) left v ⌝ }
+    ensures { λ r. ⌜ r ≡ table (opAt o) left v ⌝ }
 {
     match o {
         0 => if v { 3 } else { 2 },
@@ -47,7 +47,7 @@ fn raked_left(o: u16, v: bool) -> u8
 
 // The rake table, the right operand raked: another pair at difference alone.
 fn raked_right(o: u16, v: bool) -> u8
-    ensures { λ r. ⌜ r ≡ table (operation o) right v ⌝ }
+    ensures { λ r. ⌜ r ≡ table (opAt o) right v ⌝ }
 {
     match o {
         2 => if v { 0 } else { 2 },

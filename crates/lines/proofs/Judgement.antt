@@ -10,17 +10,13 @@ use lib.Dec.{eqb, ltb}
 use lib.IntN.{ℤ}
 use lib.ListN.{length}
 use Rattle.outcome.specs.Outcome.{Outcome, given, refused, _>>_, need}
+use Rattle.outcome.proofs.Questions.{need-yes}
 use Rattle.lines.specs.Lines.{Crossing, crossings, falls, ordered, even, judged}
 use Rattle.lines.proofs.Keys.{leK, lt-leK, eq-leK, not-lt→}
 use Rattle.lines.proofs.WallsCover.{Follows, Sorted}
 
 pub refused-given {ℓ} : {X : Type ℓ} {A : Type 0} (n p : ℕ) (a : A) → _≡_ {A = Outcome A} (refused n p) (given a) → X
 refused-given n p a q = let z : _≡_ {A = ℕ} 0 1 = cc in let w : ⊥ = omega arith in absurd w
-
--- a question that was passed
-pub need-yes : (b : Bool) (n p : ℕ) → need b n p ≡ given tt → b ≡ true
-need-yes true n p q = refl
-need-yes false n p q = refused-given n p tt q
 
 pub both : {A : Type 0} (v : Outcome (Unit {0})) (w : Outcome A) (a : A) → (v >> w) ≡ given a → (v ≡ given tt) × (w ≡ given a)
 both (given tt) w a q = (refl, q)

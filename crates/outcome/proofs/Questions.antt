@@ -9,6 +9,10 @@ pub need-given : {A : Type 0} (b : Bool) (k p : ℕ) (o : Outcome A) (v : A) →
 need-given true k p o v e = (refl, e)
 need-given false k p o v e = let z : _≡_ {A = ℕ} 0 1 = cc in absurd (omega arith)
 
+pub need-yes : (b : Bool) (k p : ℕ) {u : Unit {0}} → need b k p ≡ given u → b ≡ true
+need-yes true k p h = refl
+need-yes false k p h = let z : _≡_ {A = ℕ} 0 1 = cc in absurd (omega arith)
+
 pub then-given : {A B : Type 0} (q : Outcome B) (o : Outcome A) (v : A) → (q >> o) ≡ given v → (u : B) × (q ≡ given u) × (o ≡ given v)
 then-given (given u) o v e = (u, refl, e)
 then-given (refused k p) o v e = let z : _≡_ {A = ℕ} 0 1 = cc in absurd (omega arith)

@@ -10,7 +10,8 @@ use lib.ListN.{length}
 use Rattle.outcome.specs.Outcome.{Outcome, given, refused, _>>_, need}
 use Rattle.formula.specs.Formula.{Formula}
 use Rattle.lines.specs.Lines.{crossings, judged, roomy, walls, classified}
-use Rattle.lines.proofs.Judgement.{need-yes, both, judged-lengths, judged-named}
+use Rattle.outcome.proofs.Questions.{need-yes}
+use Rattle.lines.proofs.Judgement.{both, judged-lengths, judged-named}
 use Rattle.lines.proofs.Items.{named-shape}
 use Rattle.checking.specs.Verdicts.{verdict}
 use Rattle.checking.specs.declared.Verdict.{Verdict}
