@@ -110,28 +110,29 @@ module _ (x : List ℕ) (key i : ℕ) (inv : keyOf x ≡ keyFrom key (drop i x))
   unfolding keyFrom
   key-all h = sym (inv ∙ rw (drop-of-length-le x h))
 
--- ---- has: the first n of the keys ks
+-- ---- has: the first n of the keys ks, of which i were looked at
 
-module _ (ks : List ℕ) (n key i : ℕ) (inv : has (take n ks) key ≡ has (drop i (take n ks)) key) (few : n ≤ mostNames) (sized : length ks ≡ mostNames) where
+or-assoc : (a b c : Bool) → (a || (b || c)) ≡ ((a || b) || c)
+or-assoc true b c = refl
+or-assoc false b c = refl
+
+or-no : (a : Bool) → (a || false) ≡ a
+or-no true = refl
+or-no false = refl
+
+module _ (ks : List ℕ) (n key i : ℕ) (found : Bool) (inv : has (take n ks) key ≡ (found || has (drop i (take n ks)) key)) (few : n ≤ mostNames) (sized : length ks ≡ mostNames) where
   first-keys : length (take n ks) ≡ n
   first-keys = length-take-le n ks (omega arith)
 
-  module _ (more : i < n) where
-    has-more : has (take n ks) key ≡ (eqb (getD ks i 0) key || has (drop (i + 1) (take n ks)) key)
-    unfolding has
-    has-more =
-        let h : i < length (take n ks) = rw first-keys more in
-        inv ∙ rw (add-one i, drop-cons (take n ks) i 0 h, getD-take n ks i 0 more)
-
-    pub has-here : getD ks i 0 ≡ key → true ≡ has (take n ks) key
-    has-here e = sym (has-more ∙ rw (eq-eqb (getD ks i 0) key e))
-
-    pub has-on : (getD ks i 0 ≡ key → ⊥) → has (take n ks) key ≡ has (drop (i + 1) (take n ks)) key
-    has-on e = has-more ∙ rw (ne-eqb (getD ks i 0) key e)
-
-  pub has-none : n ≤ i → false ≡ has (take n ks) key
+  pub has-on : i < n → (next : Bool) → next ≡ (found || eqb (getD ks i 0) key) → has (take n ks) key ≡ (next || has (drop (i + 1) (take n ks)) key)
   unfolding has
-  has-none h = let l : length (take n ks) ≤ i = rw first-keys h in sym (inv ∙ rw (drop-of-length-le (take n ks) l))
+  has-on more next is =
+      let h : i < length (take n ks) = rw first-keys more in
+      inv ∙ rw (add-one i, drop-cons (take n ks) i 0 h, getD-take n ks i 0 more, is) (or-assoc found _ _)
+
+  pub has-all : n ≤ i → found ≡ has (take n ks) key
+  unfolding has
+  has-all h = let l : length (take n ks) ≤ i = rw first-keys h in sym (inv ∙ rw (drop-of-length-le (take n ks) l) (or-no found))
 
 -- ---- a name whose key is unlike all others is not taken
 

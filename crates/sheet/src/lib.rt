@@ -1,5 +1,6 @@
 // Reads a sheet: document 01, 'The sheet' and 'Order of reading'.
 ghost use mathlib.Core.Path.{_≡_};
+ghost use mathlib.Core.Bool.{_||_};
 ghost use mathlib.Core.List.{[]};
 ghost use Prim.Native.Nat.{_+_, _≤_, _<_, _%_, _^_};
 ghost use lib.ListN.{length, take};
@@ -150,19 +151,24 @@ fn key(name: &[u8]) -> u32
     mix as u32
 }
 
-// Is a key among the keys of the first names?
+fn either(a: bool, b: bool) -> bool
+    ensures { λ r. ⌜ r ≡ (a || b) ⌝ }
+{
+    a | b
+}
+
+// Is a key among the first ones? It does not end at the first that is equal, so that several are compared at once.
 fn key_among(keys: &[u32; 256], names: usize, key: u32) -> bool
     requires { ⌜ (names ≤ 256) × (length (now keys) ≡ 256) ⌝ }
     ensures { λ r. ⌜ r ≡ has (take names (now (keys .entry))) key ⌝ }
 {
+    let mut found = false;
     let mut i = 0;
     while i < names {
-        if keys[i] == key {
-            return true;
-        }
+        found = either(found, keys[i] == key);
         i += 1;
     }
-    false
+    found
 }
 
 // Is a name already taken? Its key only spares the comparison: names with one key are compared byte by byte.

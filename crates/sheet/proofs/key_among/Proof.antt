@@ -1,30 +1,31 @@
--- `sheet::key_among` meets its contract. The invariant: the key is among the first ones exactly if it is among those from i on.
+-- `sheet::key_among` meets its contract. The invariant: the key is among the first ones exactly if it was found or is among those from i on.
 use mathlib.Core.Path.{_≡_, refl}
+use mathlib.Core.Bool.{_||_}
 use Prim.Native.Nat.{_≤_, _-_}
 use borrow.Author.Needs.{needs}
 use lib.ListN.{take, drop}
 use Rattle.sheet.specs.Steps.{has}
-use Rattle.sheet.proofs.NameSteps.{has-here, has-on, has-none}
+use Rattle.sheet.proofs.NameSteps.{has-on, has-all}
 use Rattle.sheet.proofs.key_among.Statement.{statement}
 use Rattle.sheet.proofs.key_among.Tie as tie
 
 abbrev Inv-loop : tie.InvT-loop
-Inv-loop keys names key i₀ i = (i ≤ names) × (has (take names keys) key ≡ has (drop i (take names keys)) key)
+Inv-loop keys names key found₀ i₀ found i = (i ≤ names) × (has (take names keys) key ≡ (found || has (drop i (take names keys)) key))
 
 abbrev μ-loop : tie.MeasureT-loop
-μ-loop keys names key i₀ i = names - i
+μ-loop keys names key found₀ i₀ found i = names - i
 
 loop-holds : tie.Need-loop-holds Inv-loop μ-loop
 loop-holds c = (search needs, refl)
 
-mul-if1 : tie.Need-mul-if1 Inv-loop μ-loop
-mul-if1 c = search needs
+mul-either : tie.Need-mul-either Inv-loop μ-loop
+mul-either c = search needs
 
-element-copy-out-if1 : tie.Need-element-copy-out-if1 Inv-loop μ-loop
-element-copy-out-if1 c = search needs
+element-copy-out-either : tie.Need-element-copy-out-either Inv-loop μ-loop
+element-copy-out-either c = search needs
 
-returns : tie.Need-returns Inv-loop μ-loop
-returns c = search has-here
+either-requires : tie.Need-either-requires Inv-loop μ-loop
+either-requires c κs = search needs
 
 add-i : tie.Need-add-i Inv-loop μ-loop
 add-i c = search needs
@@ -33,10 +34,10 @@ loop-less : tie.Need-loop-less Inv-loop μ-loop
 loop-less c = search needs
 
 loop-again : tie.Need-loop-again Inv-loop μ-loop
-loop-again c = (search needs, search has-on)
+loop-again c = (search needs, search (has-on, needs))
 
-returns-2 : tie.Need-returns-2 Inv-loop μ-loop
-returns-2 c = search has-none
+returns : tie.Need-returns Inv-loop μ-loop
+returns c = search (has-all, needs)
 
 pub key-among-spec : {M : Type 1} → statement M
 key-among-spec =
@@ -45,10 +46,10 @@ key-among-spec =
     Inv-loop
     μ-loop
     loop-holds
-    mul-if1
-    element-copy-out-if1
-    returns
+    mul-either
+    element-copy-out-either
+    either-requires
     add-i
     loop-less
     loop-again
-    returns-2)
+    returns)
