@@ -1,17 +1,16 @@
 -- The promise of building, exit by exit.
 use Prim.Native.Nat.{ℕ, _≤_}
 use native.Mathlib.Omega.{arith}
-use mathlib.Core.Path.{_≡_, refl, sym, ap, _∙_}
+use mathlib.Core.Path.{_≡_, sym, ap, _∙_}
 use mathlib.Core.List.{List}
 use lib.ListN.{length, take}
-use Rattle.outcome.specs.Outcome.{Outcome, given, refused, _>>=_, _>>_, part}
-use Rattle.outcome.specs.Lent.{filled, afterCall}
+use Rattle.outcome.specs.Outcome.{Outcome, given, refused, _>>_}
+use Rattle.outcome.specs.Lent.{filled}
 use Rattle.formula.specs.Formula.{Formula, leaves}
-use Rattle.contraction.specs.Rounds.{dwarf, roundsOf}
 use Rattle.contraction.specs.Height.{height}
 use Rattle.contraction.proofs.Size.{dwarf-few}
 use Rattle.sheet.specs.Sheet.{Sheet}
-use Rattle.dwarf.specs.Dwarfed.{Dwarfed, kindsOf, firstsOf, secondsOf}
+use Rattle.dwarf.specs.Dwarfed.{Dwarfed}
 use Rattle.dwarf.specs.declared.Built.{Built as Numbers}
 use Rattle.accepting.specs.Accepting.{accepted, rooms}
 use Rattle.accepting.specs.Prepared.{Stands, Says, roomsOf, Judged}
@@ -19,8 +18,8 @@ use Rattle.accepting.specs.declared.Prepared.{Prepared}
 use Rattle.accepting.specs.declared.Prepared.the-variants as prepared
 use Rattle.accepting.specs.declared.Rooms.{Rooms}
 use Rattle.accepting.specs.declared.Rooms.the-variants.{Enough, Short}
-use Rattle.jobs.specs.Building.{giving, building, Summary, summary, summaryOf}
-use Rattle.jobs.specs.Answer.{builtOf, Built}
+use Rattle.jobs.specs.Building.{giving, building, summary, summaryOf}
+use Rattle.jobs.specs.Answer.{Built}
 use Rattle.jobs.specs.declared.BuildAnswer.{BuildAnswer}
 use Rattle.jobs.specs.declared.BuildAnswer.the-variants as build
 

@@ -1,11 +1,11 @@
 -- The promise of classifying, exit by exit.
 use Prim.Native.Nat.{ℕ, _≤_}
 use native.Mathlib.Omega.{arith}
-use mathlib.Core.Path.{_≡_, refl, sym, ap, _∙_, subst}
+use mathlib.Core.Path.{_≡_, sym, ap, _∙_, subst}
 use mathlib.Core.List.{List}
 use lib.IntN.{ℤ}
 use lib.ListN.{length, take}
-use Rattle.outcome.specs.Outcome.{Outcome, given, refused, part}
+use Rattle.outcome.specs.Outcome.{Outcome, given, refused}
 use Rattle.formula.specs.Formula.{Formula, postfix, Over}
 use Rattle.sheet.specs.Sheet.{Sheet}
 use Rattle.dwarf.specs.declared.Built.{Built as Numbers}
@@ -23,7 +23,7 @@ use Rattle.jobs.specs.Answer.{classifiedOf, Classified}
 use Rattle.jobs.specs.declared.ClassifyAnswer.{ClassifyAnswer}
 use Rattle.jobs.specs.declared.ClassifyAnswer.the-variants as classify
 
-classifying-accepted : (ls : List ℕ) (ps : List ℤ) (ss : List ℕ) (a b c : ℕ) (s : List ℕ) (x : Sheet) → accepted s ≡ given x
+pub classifying-accepted : (ls : List ℕ) (ps : List ℤ) (ss : List ℕ) (a b c : ℕ) (s : List ℕ) (x : Sheet) → accepted s ≡ given x
     → classifying s ls ps ss a b c ≡ classified (x .formula) (length (x .names)) ls ps ss a b c
 unfolding classifying
 classifying-accepted ls ps ss a b c s x is = rw is

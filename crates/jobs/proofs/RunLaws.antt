@@ -1,18 +1,17 @@
 -- The promise of a toggle run, exit by exit.
-use Prim.Native.Nat.{ℕ, zero, suc, _≤_, _<_}
+use Prim.Native.Nat.{ℕ, _≤_, _<_}
 use native.Mathlib.Omega.{arith}
 use mathlib.Core.Path.{_≡_, refl, sym, ap, _∙_}
 use mathlib.Core.Bool.{Bool, true, false}
 use mathlib.Core.List.{List, [], _∷_}
-use lib.Dec.{ltb, eqb}
+use lib.Dec.{ltb}
 use borrow.Author.Tests.{eq-eqb, ne-eqb}
 use lib.ListN.{length}
-use Rattle.outcome.specs.Outcome.{Outcome, given, refused, _>>=_, _>>_, part}
-use Rattle.formula.specs.Formula.{Formula, Over}
+use Rattle.outcome.specs.Outcome.{Outcome, given, refused, _>>_}
+use Rattle.formula.specs.Formula.{Formula}
 use Rattle.formula.proofs.Laws.{over-more}
 use Rattle.contraction.specs.Rounds.{dwarf}
 use Rattle.sheet.specs.Sheet.{Sheet}
-use Rattle.dwarf.specs.Dwarfed.{Dwarfed}
 use Rattle.dwarf.specs.declared.Built.{Built as Numbers}
 use Rattle.labels.specs.Arrays.{Holds, Tree}
 use Rattle.toggles.specs.Ran as toggled
@@ -25,7 +24,7 @@ use Rattle.accepting.specs.declared.Prepared.the-variants as prepared
 use Rattle.accepting.specs.declared.Rooms.{Rooms}
 use Rattle.accepting.specs.declared.Rooms.the-variants.{Enough, Short}
 use Rattle.jobs.specs.Running.{toggling, running}
-use Rattle.jobs.specs.Answer.{ranOf, Ran}
+use Rattle.jobs.specs.Answer.{Ran}
 use Rattle.jobs.specs.declared.RunAnswer.{RunAnswer}
 use Rattle.jobs.specs.declared.RunAnswer.the-variants as run
 

@@ -2,11 +2,10 @@
 use Prim.Native.Nat.{ℕ}
 use mathlib.Core.List.{List}
 use lib.ListN.{length}
-use Rattle.outcome.specs.Outcome.{Outcome, given, refused, _>>=_, _>>_}
+use Rattle.outcome.specs.Outcome.{Outcome, given, _>>=_, _>>_}
 use Rattle.formula.specs.Formula.{Formula, leaves}
 use Rattle.contraction.specs.Rounds.{dwarf, roundsOf}
 use Rattle.contraction.specs.Height.{height}
-use Rattle.sheet.specs.Sheet.{Sheet}
 use Rattle.accepting.specs.Accepting.{accepted, rooms}
 
 -- The formula whose records are given: 9 for kinds, firsts, seconds, one entry a dwarf node each.

@@ -3,8 +3,7 @@ use Prim.Native.Nat.{ℕ}
 use mathlib.Core.List.{List}
 use lib.IntN.{ℤ}
 use lib.ListN.{length}
-use Rattle.outcome.specs.Outcome.{Outcome, given, refused, _>>=_, _>>_}
-use Rattle.sheet.specs.Sheet.{Sheet}
+use Rattle.outcome.specs.Outcome.{Outcome, _>>=_}
 use Rattle.accepting.specs.Accepting.{accepted}
 use Rattle.lines.specs.Lines.{Wall, classified}
 

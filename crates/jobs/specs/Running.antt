@@ -3,10 +3,9 @@ use Prim.Native.Nat.{ℕ}
 use mathlib.Core.List.{List}
 use lib.Dec.{eqb}
 use lib.ListN.{length}
-use Rattle.outcome.specs.Outcome.{Outcome, given, refused, need, _>>=_, _>>_}
+use Rattle.outcome.specs.Outcome.{Outcome, given, need, _>>=_, _>>_}
 use Rattle.formula.specs.Formula.{Formula}
 use Rattle.contraction.specs.Rounds.{dwarf}
-use Rattle.sheet.specs.Sheet.{Sheet}
 use Rattle.accepting.specs.Accepting.{accepted, rooms}
 use Rattle.toggles.specs.Ran.{firstWrong}
 

@@ -8,16 +8,23 @@ ghost use mathlib.Core.Path.{_≡_};
 ghost use Prim.Native.Nat.{_≤_};
 ghost use lib.ListN.{length, take};
 ghost use Rattle.outcome.specs.Lent.{filled};
-ghost use Rattle.tokens.specs.Tokens.{Shelves};
-ghost use Rattle.accepting.specs.Prepared.{Roomy};
-ghost use Rattle.sheet.specs.Answer.{answerOf, told};
 ghost use Rattle.formula.specs.Formula.{Formula};
+ghost use Rattle.sheet.specs.Answer.{answerOf, told};
+ghost use Rattle.tokens.specs.Tokens.{Shelves};
 ghost use Rattle.dwarf.specs.Dwarfed.{Dwarfed};
-ghost use Rattle.jobs.specs.Building.{giving, building};
+ghost use Rattle.accepting.specs.Prepared.{Roomy};
 ghost use Rattle.labels.specs.Arrays.{Tree, Holds};
+ghost use Rattle.jobs.specs.Building.{giving, building};
 ghost use Rattle.jobs.specs.Running.{toggling, running};
 ghost use Rattle.jobs.specs.Classifying.{classifying};
 ghost use Rattle.jobs.specs.Answer.{Built as Promise, Ran, Classified};
+
+// Reads a sheet.
+pub fn read(sheet: &[u8]) -> ReadAnswer
+    ensures { λ r. ⌜ answerOf r ≡ told (now (sheet .entry)) ⌝ }
+{
+    sheet::read(sheet)
+}
 
 // What building answers.
 pub enum BuildAnswer {
@@ -31,13 +38,6 @@ pub enum BuildAnswer {
         number: u8,
         place: usize,
     },
-}
-
-// Reads a sheet.
-pub fn read(sheet: &[u8]) -> ReadAnswer
-    ensures { λ r. ⌜ answerOf r ≡ told (now (sheet .entry)) ⌝ }
-{
-    sheet::read(sheet)
 }
 
 // Gives the first n records to the lent lists.

@@ -1,3 +1,4 @@
+-- `accepting::judge_rooms` meets its contract: the first list that is too short refuses.
 use borrow.Author.Needs.{needs}
 use Rattle.accepting.proofs.RoomLaws.{first-short, second-short, third-short, enough}
 use Rattle.accepting.proofs.judge_rooms.Statement.{statement}
@@ -5,19 +6,15 @@ use Rattle.accepting.proofs.judge_rooms.Tie as tie
 use Rattle.accepting.proofs.judge_rooms.Reads as reads
 use Rattle.accepting.proofs.judge_rooms.Lts as lts
 
--- src/lib.rt:80:9
 returns : tie.Need-returns
 returns c = search (first-short, needs)
 
--- src/lib.rt:83:9
 returns-2 : tie.Need-returns-2
 returns-2 c = search (second-short, needs)
 
--- src/lib.rt:86:9
 returns-3 : tie.Need-returns-3
 returns-3 c = search (third-short, needs)
 
--- src/lib.rt:69:1
 returns-4 : tie.Need-returns-4
 returns-4 c = search (enough, needs)
 

@@ -1,69 +1,51 @@
+-- `jobs::classify` meets its promise: a refused sheet ends it, and an accepted one's lines are classified.
 use Rattle.jobs.proofs.ClassifyLaws.{sheet-refused, few-names, few-codes, lines-walls, lines-refused}
 use borrow.Author.Needs.{needs}
 use Rattle.jobs.proofs.classify.Statement.{statement}
 use Rattle.jobs.proofs.classify.Tie as tie
-use Rattle.jobs.proofs.classify.Reads as reads
-use Rattle.jobs.proofs.classify.Lts as lts
-use Rattle.accepting.proofs.prepare.Reads as prepare-reads
-use Rattle.walls.proofs.classify.Reads as classify-reads
 
--- src/lib.rt:208:11
 prepare-requires : tie.Need-prepare-requires
 prepare-requires c κs = search needs
 
--- src/lib.rt:209:29
 enum-known-number : tie.Need-enum-known-number
 enum-known-number c = search needs
 
--- src/lib.rt:211:13
 enum-known-names : tie.Need-enum-known-names
 enum-known-names c = search needs
 
--- src/lib.rt:214:20
 classify-requires : tie.Need-classify-requires
 classify-requires c κs = search (few-names, few-codes, needs)
 
--- src/lib.rt:225:32
 enum-known-walls : tie.Need-enum-known-walls
 enum-known-walls c = search needs
 
--- src/lib.rt:226:34
 enum-known-number-2 : tie.Need-enum-known-number-2
 enum-known-number-2 c = search needs
 
--- src/lib.rt:192:1
 returns : tie.Need-returns
 returns c = search (sheet-refused, needs)
 
--- src/lib.rt:192:1
 same-length : tie.Need-same-length
 same-length c = search needs
 
--- src/lib.rt:192:1
 same-length-2 : tie.Need-same-length-2
 same-length-2 c = search needs
 
--- src/lib.rt:192:1
 same-length-3 : tie.Need-same-length-3
 same-length-3 c = search needs
 
--- src/lib.rt:192:1
 returns-2 : tie.Need-returns-2
 returns-2 c = search (lines-walls, needs)
 
--- src/lib.rt:192:1
 same-length-4 : tie.Need-same-length-4
 same-length-4 c = search needs
 
--- src/lib.rt:192:1
 same-length-5 : tie.Need-same-length-5
 same-length-5 c = search needs
 
--- src/lib.rt:192:1
 same-length-6 : tie.Need-same-length-6
 same-length-6 c = search needs
 
--- src/lib.rt:192:1
 returns-3 : tie.Need-returns-3
 returns-3 c = search (lines-refused, needs)
 

@@ -1,55 +1,42 @@
-use Rattle.accepting.proofs.RoomLaws.{judged-roomy}
+-- `jobs::run_toggles` meets its contract: the toggles and the answer lists are judged, then the run is given.
 use Rattle.jobs.proofs.RunLaws.{toggle-wrong, run-short, run-roomy, run-given}
 use borrow.Author.Needs.{needs}
+use Rattle.accepting.proofs.RoomLaws.{judged-roomy}
 use Rattle.jobs.proofs.run_toggles.Statement.{statement}
 use Rattle.jobs.proofs.run_toggles.Tie as tie
-use Rattle.jobs.proofs.run_toggles.Reads as reads
-use Rattle.jobs.proofs.run_toggles.Lts as lts
-use Rattle.accepting.proofs.judge_rooms.Reads as judge-rooms-reads
-use Rattle.toggles.proofs.first_wrong.Reads as first-wrong-reads
-use Rattle.toggles.proofs.run.Reads as run-reads
 
--- src/lib.rt:139:9
 first-wrong-requires : tie.Need-first-wrong-requires
 first-wrong-requires c κs = search needs
 
--- src/lib.rt:141:9
 returns : tie.Need-returns
 returns c = search (toggle-wrong, needs)
 
--- src/lib.rt:149:11
 judge-rooms-requires : tie.Need-judge-rooms-requires
 judge-rooms-requires c κs = search needs
 
--- src/lib.rt:150:22
 enum-known-place : tie.Need-enum-known-place
 enum-known-place c = search needs
 
--- src/lib.rt:152:59
 enum-told : tie.Need-enum-told
 enum-told c = search needs
 
--- src/lib.rt:152:13
 run-requires : tie.Need-run-requires
-run-requires c κs = let roomy = judged-roomy _ _ _ _ _ _ _ (c .before .before .before .before .before .judge-rooms .ensures) (c .before .before .before .enum-told .given .1) in (search needs, (run-roomy _ _ _ _ _ roomy _ _ (c .before .before .before .before .before .before .before .first-wrong .ensures) (c .before .before .before .before .before .before .if1 .left) (c .before .before .before .before .before .before .before .before .before .before .before .before .pre .1), search needs))
+run-requires c κs =
+    let roomy = judged-roomy _ _ _ _ _ _ _ (c .before .before .before .before .before .judge-rooms .ensures) (c .before .before .before .enum-told .given .1) in
+    (search needs, (run-roomy _ _ _ _ _ roomy _ _ (c .before .before .before .before .before .before .before .first-wrong .ensures) (c .before .before .before .before .before .before .if1 .left) (c .before .before .before .before .before .before .before .before .before .before .before .before .pre .1), search needs))
 
--- src/lib.rt:123:1
 returns-2 : tie.Need-returns-2
 returns-2 c = search (run-short, needs)
 
--- src/lib.rt:123:1
 same-length : tie.Need-same-length
 same-length c = search needs
 
--- src/lib.rt:123:1
 same-length-2 : tie.Need-same-length-2
 same-length-2 c = search needs
 
--- src/lib.rt:123:1
 same-length-3 : tie.Need-same-length-3
 same-length-3 c = search needs
 
--- src/lib.rt:123:1
 returns-3 : tie.Need-returns-3
 returns-3 c = search (run-given, needs)
 
