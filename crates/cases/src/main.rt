@@ -16,10 +16,8 @@ use making::formula;
 use making::header;
 use making::many_names;
 use making::name;
-use making::names;
 use making::push_all;
 use making::sheet;
-use making::start;
 use sheet::ReadAnswer;
 use showing::next;
 use showing::refused;
@@ -212,283 +210,213 @@ fn worked() -> Draft {
     sheet(b"ABC", b"ABC|-")
 }
 
-fn reading() {
-    read(
-        b"Port and PORT",
-        formula(name(name(header(), b"Port"), b"PORT"), b"AB|"),
-    );
-    read(
-        b"Port twice",
-        formula(name(name(header(), b"Port"), b"Port"), b"AB|"),
-    );
-    read(
-        b"name of 32 bytes",
-        formula(name(header(), b"abcdefghijklmnopqrstuvwxyz012345"), b"A"),
-    );
-    read(
-        b"name of 33 bytes",
-        formula(name(header(), b"abcdefghijklmnopqrstuvwxyz0123456"), b"A"),
-    );
+// A sheet of these bytes.
+fn bare(case: &[u8], bytes: &[u8]) {
+    read(case, push_all(empty(), bytes));
+}
+
+// A header, and these bytes after it.
+fn after(case: &[u8], bytes: &[u8]) {
+    read(case, push_all(header(), bytes));
+}
+
+fn one_name(case: &[u8], first: &[u8]) {
+    read(case, formula(name(header(), first), b"A"));
+}
+
+fn two_names(case: &[u8], first: &[u8], second: &[u8]) {
+    let s = name(name(header(), first), second);
+    read(case, formula(s, b"AB|"));
+}
+
+fn of_two(case: &[u8], text: &[u8]) {
+    read(case, sheet(b"AB", text));
+}
+
+fn names_read() {
+    two_names(b"Port and PORT", b"Port", b"PORT");
+    two_names(b"Port twice", b"Port", b"Port");
+    one_name(b"name of 32 bytes", b"abcdefghijklmnopqrstuvwxyz012345");
+    one_name(b"name of 33 bytes", b"abcdefghijklmnopqrstuvwxyz0123456");
+}
+
+fn sizes_read() {
+    let most = many_names(256);
     read(b"formula of 4094 bytes", comb(4094));
     read(b"formula of 4095 bytes", push_all(comb(4095), b"\x00"));
-    read(
-        b"256 names, code 255",
-        field(many_names(256), 3, b"\x00\xFF"),
-    );
-    read(
-        b"256 names, code 256",
-        field(many_names(256), 3, b"\x01\x00"),
-    );
+    read(b"256 names, code 255", field(most, 3, b"\x00\xFF"));
+    read(b"256 names, code 256", field(most, 3, b"\x01\x00"));
     read(b"257 names", formula(many_names(257), b"A"));
 }
 
 fn ends_too_soon() {
-    read(b"no byte", empty());
-    read(b"half a length", push_all(header(), b"\x02\x00"));
-    read(b"half a name", push_all(header(), b"\x02\x00\x02A"));
-    read(b"no formula", names(b"AB"));
-    read(
-        b"half a formula",
-        push_all(start(names(b"A"), 3, 2), b"\x00"),
-    );
+    bare(b"no byte", b"");
+    after(b"half a length", b"\x02\x00");
+    after(b"half a name", b"\x02\x00\x02A");
+    after(b"no formula", b"\x02\x00\x01A\x02\x00\x01B");
+    after(b"half a formula", b"\x02\x00\x01A\x03\x00\x02\x00");
+}
+
+fn tags_wrong() {
+    bare(b"name first", b"\x02\x00\x01A");
+    after(b"unknown tag", b"\x04\x00\x01A");
+    after(b"header twice", b"\x01\x00\x02\x00\x01");
+    after(b"formula before any name", b"\x03\x00\x02\x00\x00");
+    read(b"byte after the formula", push_all(worked(), b"\x00"));
 }
 
 fn fields_wrong() {
-    read(b"name first", name(empty(), b"A"));
-    read(b"Unknown tag", field(header(), 4, b"A"));
-    read(b"header twice", field(header(), 1, b"\x00\x01"));
-    read(b"formula before any name", formula(header(), b"A"));
-    read(
-        b"byte after the formula",
-        push_all(sheet(b"A", b"A"), b"\x00"),
-    );
-    read(b"header of 1 byte", field(empty(), 1, b"\x01"));
-    read(b"edition 2", field(empty(), 1, b"\x00\x02"));
-    read(b"empty name", name(header(), b""));
-    read(b"name with a space", name(name(header(), b"A"), b"a b"));
-    read(b"name with byte 7F", name(header(), b"A\x7F"));
-    read(b"name with ! and ~", formula(name(header(), b"!~"), b"A"));
+    bare(b"header of 1 byte", b"\x01\x00\x01\x01");
+    bare(b"edition 2", b"\x01\x00\x02\x00\x02");
+    one_name(b"empty name", b"");
+    two_names(b"name with a space", b"A", b"a b");
+    one_name(b"name with byte 7F", b"A\x7F");
+    one_name(b"name with ! and ~", b"!~");
 }
 
 fn formulas_wrong() {
-    read(b"formula of no length", field(names(b"A"), 3, b""));
-    read(
-        b"formula of odd length",
-        field(names(b"A"), 3, b"\x00\x00\x00"),
-    );
-    read(b"unknown operation", sheet(b"AB", b"AB?"));
-    read(b"code of no shape", sheet(b"AB", b"AC|"));
-    read(b"one operand waiting", sheet(b"AB", b"A|B"));
-    read(b"two operands left", sheet(b"AB", b"AB"));
+    after(b"formula of no length", b"\x02\x00\x01A\x03\x00\x00");
+    after(b"formula of odd length", b"\x02\x00\x01A\x03\x00\x01\x00");
+    of_two(b"unknown operation", b"AB?");
+    of_two(b"code of no shape", b"AC|");
+    of_two(b"one operand waiting", b"A|B");
+    of_two(b"two operands left", b"AB");
 }
 
-fn building() {
+// The tree of a formula, which names the case.
+fn tree(text: &[u8]) {
+    build(text, sheet(b"ABCDE", text), all());
+}
+
+fn trees() {
     build(b"worked sheet", worked(), all());
-    build(b"one leaf", sheet(b"A", b"A"), all());
-    build(b"A exclusive A", sheet(b"A", b"AA^"), all());
-    build(
-        b"A B union C difference D intersection E exclusive",
-        sheet(b"ABCDE", b"AB|C-D&E^"),
-        all(),
-    );
-    build(
-        b"A B union C D union intersection",
-        sheet(b"ABCD", b"AB|CD|&"),
-        all(),
-    );
-    build(
-        b"left and right raked",
-        sheet(b"ABCDE", b"ABCD&-|E-"),
-        all(),
-    );
+    tree(b"A");
+    tree(b"AA^");
+    tree(b"AB|C-D&E^");
+    tree(b"AB|CD|&");
+    tree(b"ABCD&-|E-");
     summary(b"1024 leaves", comb(4094));
-    build(b"formula wrong, no room", sheet(b"A", b"A|"), lent(0, 0, 0));
-    build(b"kinds too short", worked(), lent(5, 5, 5));
-    build(b"firsts too short", worked(), lent(6, 5, 5));
-    build(b"seconds too short", worked(), lent(6, 6, 5));
-    build(b"just room enough", worked(), lent(6, 6, 6));
+    summary(b"formula of height 4", sheet(b"A", b"AAAA|||AAA|AA||||"));
 }
 
-fn running() {
-    run(b"toggles A B C A", worked(), &[0, 1, 2, 0], all());
-    run(b"toggles B C", worked(), &[1, 2], all());
-    run(b"no toggles", worked(), &[], all());
-    run(b"toggle of one leaf", sheet(b"A", b"A"), &[0], all());
-    run(b"toggle of A exclusive A", sheet(b"A", b"AA^"), &[0], all());
-    run(
-        b"toggle of a shape with no leaf",
-        sheet(b"ABC", b"AC&"),
-        &[1, 0, 2],
-        all(),
-    );
-    run(
-        b"toggles E A B D",
-        sheet(b"ABCDE", b"AB|C-D&E^"),
-        &[4, 0, 1, 3],
-        all(),
-    );
+fn trees_refused() {
+    let s = worked();
+    build(b"formula wrong, no room", sheet(b"A", b"A|"), lent(0, 0, 0));
+    build(b"kinds too short", s, lent(5, 5, 5));
+    build(b"firsts too short", s, lent(6, 5, 5));
+    build(b"seconds too short", s, lent(6, 6, 5));
+    build(b"just room enough", s, lent(6, 6, 6));
+}
+
+// Toggles on a formula, which names the case.
+fn toggled(text: &[u8], toggles: &[u16]) {
+    run(text, sheet(b"ABCDE", text), toggles, all());
+}
+
+fn runs() {
+    let s = worked();
+    run(b"toggles A B C A", s, &[0, 1, 2, 0], all());
+    run(b"toggles B C", s, &[1, 2], all());
+    run(b"no toggles", s, &[], all());
+    toggled(b"A", &[0]);
+    toggled(b"AA^", &[0]);
+    toggled(b"AC&", &[1, 0, 2]);
+    toggled(b"AB|C-D&E^", &[4, 0, 1, 3]);
 }
 
 fn runs_refused() {
-    run(b"toggle of shape 3", worked(), &[0, 3, 4], lent(0, 0, 0));
+    let s = worked();
+    let abca = [0u16, 1, 2, 0];
+    run(b"toggle of shape 3", s, &[0, 3, 4], lent(0, 0, 0));
     run(b"toggles on no sheet", empty(), &[9], lent(0, 0, 0));
-    run(b"roots too short", worked(), &[0, 1, 2, 0], lent(3, 3, 5));
-    run(b"counts too short", worked(), &[0, 1, 2, 0], lent(4, 3, 5));
-    run(b"labels too short", worked(), &[0, 1, 2, 0], lent(4, 4, 5));
-    run(
-        b"just room enough for a run",
-        worked(),
-        &[0, 1, 2, 0],
-        lent(4, 4, 6),
-    );
+    run(b"roots too short", s, &abca, lent(3, 3, 5));
+    run(b"counts too short", s, &abca, lent(4, 3, 5));
+    run(b"labels too short", s, &abca, lent(4, 4, 5));
+    run(b"just room enough for a run", s, &abca, lent(4, 4, 6));
 }
 
-fn classifying() {
-    let both = [0u32, 0, 0, 0];
-    classify(
-        b"A less B",
-        sheet(b"AB", b"AB-"),
-        &both,
-        &[0, 40, 60, 100],
-        &[0, 1, 1, 0],
-        all(),
-    );
-    classify(
-        b"B less A",
-        sheet(b"AB", b"BA-"),
-        &both,
-        &[0, 40, 60, 100],
-        &[0, 1, 1, 0],
-        all(),
-    );
-    classify(
-        b"A union B",
-        sheet(b"AB", b"AB|"),
-        &both,
-        &[0, 50, 50, 90],
-        &[0, 0, 1, 1],
-        all(),
-    );
-    classify(
-        b"A intersection B",
-        sheet(b"AB", b"AB&"),
-        &both,
-        &[0, 50, 50, 90],
-        &[0, 0, 1, 1],
-        all(),
-    );
-    classify(
-        b"A at 10 and 10",
-        sheet(b"A", b"A"),
-        &[0, 0],
-        &[10, 10],
-        &[0, 0],
-        all(),
-    );
-    classify(
-        b"no crossings",
-        sheet(b"A", b"A"),
-        &[],
-        &[],
-        &[],
-        lent(0, 0, 0),
-    );
-    classify(
-        b"whole range",
-        sheet(b"A", b"A"),
-        &[0, 0, 4294967295, 4294967295],
-        &[-2147483648, 2147483647, -7, -5],
-        &[0, 0, 0, 0],
-        lent(2, 2, 2),
-    );
+// Crossings of a formula, which names the case.
+fn crossed(text: &[u8], lines: &[u32], positions: &[i32], shapes: &[u16]) {
+    classify(text, sheet(b"AB", text), lines, positions, shapes, all());
 }
 
-fn crossings_refused() {
-    let a = [0u16, 0, 0, 0];
+fn two_shapes() {
+    let l = [0u32, 0, 0, 0];
+    let bore = [0i32, 40, 60, 100];
+    let touch = [0i32, 50, 50, 90];
+    crossed(b"AB-", &l, &bore, &[0, 1, 1, 0]);
+    crossed(b"BA-", &l, &bore, &[0, 1, 1, 0]);
+    crossed(b"AB|", &l, &touch, &[0, 0, 1, 1]);
+    crossed(b"AB&", &l, &touch, &[0, 0, 1, 1]);
+}
+
+fn one_shape() {
+    let s = sheet(b"A", b"A");
+    let l = [0u32, 0, 4294967295, 4294967295];
+    let p = [-2147483648i32, 2147483647, -7, -5];
+    classify(b"A at 10 and 10", s, &[0, 0], &[10, 10], &[0, 0], all());
+    classify(b"no crossings", s, &[], &[], &[], lent(0, 0, 0));
+    classify(b"whole range", s, &l, &p, &[0, 0, 0, 0], lent(2, 2, 2));
+}
+
+fn oddness() {
+    let l = [0u32, 0, 1, 1, 1, 2];
+    let p = [1i32, 2, 3, 4, 5, 6];
+    let aabaab = [0u16, 0, 1, 0, 0, 1];
     classify(b"A at 5 only", worked(), &[0], &[5], &[0], lent(0, 0, 0));
-    classify(
-        b"B once on line 1",
-        worked(),
-        &[0, 0, 1, 1, 1, 2],
-        &[1, 2, 3, 4, 5, 6],
-        &[0, 0, 1, 0, 0, 1],
-        all(),
-    );
-    classify(
-        b"crossing of shape 3",
-        worked(),
-        &[0, 0],
-        &[5, 4],
-        &[0, 3],
-        all(),
-    );
-    classify(
-        b"line number falls",
-        worked(),
-        &[1, 1, 0, 0],
-        &[0, 1, 2, 3],
-        &a,
-        all(),
-    );
-    classify(
-        b"position falls",
-        worked(),
-        &[0, 0, 1, 1],
-        &[0, 1, 0, -1],
-        &a,
-        all(),
-    );
-    classify(
-        b"A line more",
-        worked(),
-        &[0, 0, 0],
-        &[0, 1],
-        &[7, 7],
-        all(),
-    );
-    classify(b"a position less", worked(), &[0, 0], &[0], &[7, 7], all());
-    classify(
-        b"a shape more",
-        worked(),
-        &[0, 0],
-        &[0, 1],
-        &[7, 7, 7],
-        all(),
-    );
-    classify(
-        b"wall lines too short",
-        worked(),
-        &[0, 0, 1, 1],
-        &[0, 1, 0, 1],
-        &a,
-        lent(1, 1, 1),
-    );
-    classify(
-        b"starts too short",
-        worked(),
-        &[0, 0, 1, 1],
-        &[0, 1, 0, 1],
-        &a,
-        lent(2, 1, 1),
-    );
-    classify(
-        b"ends too short",
-        worked(),
-        &[0, 0, 1, 1],
-        &[0, 1, 0, 1],
-        &a,
-        lent(2, 2, 1),
-    );
+    classify(b"B once on line 1", worked(), &l, &p, &aabaab, all());
+}
+
+fn wrong(case: &[u8], lines: &[u32], positions: &[i32], shapes: &[u16]) {
+    classify(case, worked(), lines, positions, shapes, all());
+}
+
+fn items_wrong() {
+    wrong(b"crossing of shape 3", &[0, 0], &[5, 4], &[0, 3]);
+    wrong(b"line falls", &[1, 1, 0, 0], &[0, 1, 2, 3], &[0, 0, 0, 0]);
+    wrong(b"place falls", &[0, 0, 1, 1], &[0, 1, 0, -1], &[0, 0, 0, 0]);
+}
+
+fn lengths_differ() {
+    wrong(b"a line more", &[0, 0, 0], &[0, 1], &[7, 7]);
+    wrong(b"a position less", &[0, 0], &[0], &[7, 7]);
+    wrong(b"a shape more", &[0, 0], &[0, 1], &[7, 7, 7]);
+}
+
+fn walls_short() {
+    let s = worked();
+    let l = [0u32, 0, 1, 1];
+    let p = [0i32, 1, 0, 1];
+    let a = [0u16, 0, 0, 0];
+    classify(b"wall lines too short", s, &l, &p, &a, lent(1, 1, 1));
+    classify(b"starts too short", s, &l, &p, &a, lent(2, 1, 1));
+    classify(b"ends too short", s, &l, &p, &a, lent(2, 2, 1));
+    classify(b"just room enough for walls", s, &l, &p, &a, lent(2, 2, 2));
+}
+
+fn sheets() {
+    names_read();
+    sizes_read();
+    ends_too_soon();
+    tags_wrong();
+    fields_wrong();
+    formulas_wrong();
+}
+
+fn lines() {
+    two_shapes();
+    one_shape();
+    oddness();
+    items_wrong();
+    lengths_differ();
+    walls_short();
 }
 
 fn main() {
-    reading();
-    ends_too_soon();
-    fields_wrong();
-    formulas_wrong();
-    building();
-    running();
+    sheets();
+    trees();
+    trees_refused();
+    runs();
     runs_refused();
-    classifying();
-    crossings_refused();
+    lines();
 }

@@ -13,7 +13,7 @@ pub fn empty() -> Draft {
     }
 }
 
-pub fn push(s: Draft, x: u8) -> Draft {
+fn push(s: Draft, x: u8) -> Draft {
     let mut bytes = s.bytes;
     let n = s.length;
     if n < 4200 {
@@ -41,7 +41,7 @@ fn low_byte(n: usize) -> u8 {
 }
 
 // A field's tag and length.
-pub fn start(s: Draft, tag: u8, length: usize) -> Draft {
+fn start(s: Draft, tag: u8, length: usize) -> Draft {
     push(push(push(s, tag), low_byte(length / 256)), low_byte(length))
 }
 
@@ -58,7 +58,7 @@ pub fn name(s: Draft, letters: &[u8]) -> Draft {
 }
 
 // A name for each letter.
-pub fn names(letters: &[u8]) -> Draft {
+fn names(letters: &[u8]) -> Draft {
     let mut t = header();
     let mut i: usize = 0;
     while i < letters.len() {

@@ -1,3 +1,4 @@
+// Judges crossing lists in one pass, and the room in the answer lists: document 01's refusals 13, 10, 11, 12 and 9.
 ghost use mathlib.Core.Path.{_≡_};
 ghost use mathlib.Core.List.{List};
 ghost use Prim.Native.Nat.{ℕ, _+_, _<_, _≤_};

@@ -1,3 +1,4 @@
+// Compress: pairs each longest chain of one-child nodes from the top, in one pass over the tokens of a tree.
 use tokens::Filled;
 ghost use mathlib.Core.Path.{_≡_};
 ghost use mathlib.Core.List.{List};

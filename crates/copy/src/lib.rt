@@ -1,3 +1,4 @@
+// Gives entries of an array to a lent list.
 ghost use mathlib.Core.Path.{_≡_};
 ghost use Prim.Native.Nat.{_≤_};
 ghost use lib.ListN.{length, take};

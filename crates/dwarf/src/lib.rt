@@ -1,3 +1,4 @@
+// Builds the dwarf tree of a formula from its codes in postfix order: leaves numbered, then rounds while more than one node remains.
 use tokens::Filled;
 ghost use mathlib.Core.Path.{_≡_};
 ghost use mathlib.Core.List.{[]};

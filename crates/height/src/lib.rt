@@ -1,3 +1,4 @@
+// The height of a dwarf tree, by one pass over its records.
 ghost use mathlib.Core.Path.{_≡_};
 ghost use Prim.Native.Nat.{_+_, _≤_, _<_, max};
 ghost use lib.ListN.{length, getD, take};

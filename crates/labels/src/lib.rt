@@ -1,3 +1,4 @@
+// Labels: one by its kind, all of them afresh; each node's parent and the leaves of each shape.
 ghost use mathlib.Core.Path.{_≡_};
 ghost use mathlib.Core.Bool.{true, false};
 ghost use mathlib.Core.List.{[], _∷_};

@@ -1,3 +1,4 @@
+// Rake: takes every leaf of a tree away, judged as the round found it, in one pass over its tokens.
 use tokens::Filled;
 ghost use mathlib.Core.Path.{_≡_};
 ghost use mathlib.Core.Bool.{false};

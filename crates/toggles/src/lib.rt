@@ -1,3 +1,4 @@
+// Toggles: the walk up from a leaf with its count, a toggle of a shape, and a run over a toggle list.
 ghost use mathlib.Core.Path.{_≡_};
 ghost use mathlib.Core.List.{List};
 ghost use Prim.Native.Nat.{ℕ, suc, _-_, _<_, _≤_};

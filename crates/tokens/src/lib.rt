@@ -1,3 +1,4 @@
+// The arrays that the passes of a contraction share: tokens and records put one after the other.
 ghost use mathlib.Core.Path.{_≡_};
 ghost use mathlib.Core.List.{[], _∷_, _++_};
 ghost use Prim.Native.Nat.{_+_, _<_};

@@ -1,3 +1,4 @@
+// The line job for a formula in an array of codes: crossings judged, then their walls written.
 ghost use mathlib.Core.Path.{_≡_};
 ghost use Prim.Native.Nat.{_-_, _*_, _<_, _≤_};
 ghost use lib.ListN.{length, take};
