@@ -1,5 +1,5 @@
 -- The bytes of the shapes, and how many shapes are inside.
-use Prim.Native.Nat.{ℕ, zero, suc, _+_, _<_, _≤_}
+use Prim.Native.Nat.{ℕ, zero, suc, _+_, _-_, _*_, _<_, _≤_}
 use native.Mathlib.Nat.{lt-irrefl}
 use native.Mathlib.Omega.{arith}
 use mathlib.Core.Path.{_≡_, refl, sym, ap, _∙_, fun-ext, subst}
@@ -7,12 +7,12 @@ use mathlib.Core.Bool.{Bool, true, false, not, cond, _||_}
 use mathlib.Core.List.{List}
 use borrow.Author.Tests.{eqb-true, eqb-false, eq-eqb, ne-eqb, lt-ltb}
 use lib.Dec.{eqb, ltb}
-use lib.ListN.{length, getD, set, replicate}
+use lib.ListN.{length, getD, set, replicate, length-set}
 use lib.Seq.{getD-set-same, getD-set-other}
 use Rattle.formula.specs.States.{State, outside}
 use Rattle.formula.specs.Flips.{flipped}
 use Rattle.lines.specs.Lines.{anyInside}
-use Rattle.checking.specs.Steps.{stateOf, ones}
+use Rattle.checking.specs.Steps.{stateOf, ones, Held}
 
 flipped-same : (s : ℕ) (st : State) → flipped s st s ≡ not (st s)
 flipped-same s st = rw (eq-eqb s s refl)
@@ -21,7 +21,7 @@ flipped-other : (s t : ℕ) (st : State) → (t ≡ s → ⊥) → flipped s st 
 flipped-other s t st h = rw (ne-eqb t s h)
 
 -- a store of the other state
-pub flipped-set : (a : List ℕ) (s v : ℕ) → s < length a → not (eqb v 0) ≡ not (stateOf a s) → stateOf (set a s v) ≡ flipped s (stateOf a)
+flipped-set : (a : List ℕ) (s v : ℕ) → s < length a → not (eqb v 0) ≡ not (stateOf a s) → stateOf (set a s v) ≡ flipped s (stateOf a)
 flipped-set a s v h e = fun-ext (λ t. go t (eqb t s) refl)
   where
     go : (t : ℕ) (b : Bool) → eqb t s ≡ b → stateOf (set a s v) t ≡ flipped s (stateOf a) t
@@ -43,7 +43,7 @@ ones-same zero f g h = refl
 ones-same (suc n) f g h = rw (h n (omega arith), ones-same n f g (λ t k. h t (omega arith)))
 
 -- one more below n, or one less
-pub ones-more : (n s : ℕ) (st : State) → s < n → st s ≡ false → ones n (flipped s st) ≡ suc (ones n st)
+ones-more : (n s : ℕ) (st : State) → s < n → st s ≡ false → ones n (flipped s st) ≡ suc (ones n st)
 unfolding ones
 ones-more zero s st h e = let z : ⊥ = omega arith in absurd z
 ones-more (suc n) s st h e = go (eqb n s) refl (ones-more n s st)
@@ -66,7 +66,7 @@ flipped-twice s st = fun-ext (λ t. go t (eqb t s) refl (st t))
     go t true q false = rw q
     go t false q v = rw q
 
-pub ones-less : (n s : ℕ) (st : State) → s < n → st s ≡ true → suc (ones n (flipped s st)) ≡ ones n st
+ones-less : (n s : ℕ) (st : State) → s < n → st s ≡ true → suc (ones n (flipped s st)) ≡ ones n st
 ones-less n s st h e = sym (ones-more n s (flipped s st) h (flipped-same s st ∙ ap not e)) ∙ ap (ones n) (flipped-twice s st)
 
 zero-at : (n s : ℕ) → _≡_ {A = ℕ} (getD (replicate n 0) s 0) 0
@@ -77,7 +77,7 @@ zero-at (suc n) (suc s) = zero-at n s
 pub none-inside : (n : ℕ) → stateOf (replicate n 0) ≡ outside
 none-inside n = fun-ext (λ s. ap (λ (k : ℕ). not (eqb k 0)) (zero-at n s))
 
-pub ones-outside : (n : ℕ) → ones n outside ≡ 0
+ones-outside : (n : ℕ) → ones n outside ≡ 0
 unfolding ones
 ones-outside zero = refl
 ones-outside (suc n) = rw (ones-outside n)
@@ -90,3 +90,32 @@ ones-any (suc n) st = by (st n) (ones-any n st)
     by : (b : Bool) → ltb 0 (ones n st) ≡ anyInside n st → ltb 0 (cond b 1 0 + ones n st) ≡ (b || anyInside n st)
     by true h = lt-ltb 0 (1 + ones n st) (omega arith)
     by false h = ap (ltb 0) (let e : 0 + ones n st ≡ ones n st = omega arith in e) ∙ h
+
+-- ---- the bytes, one toggled
+
+pub held-none : Held (replicate 256 0) 0
+held-none = record { sized = refl; small = λ s. omega (arith, zero-at 256 s); counted = rw (none-inside 256) (sym (ones-outside 256)) }
+
+module _ {a : List ℕ} {n : ℕ} (k : Held a n) (s : ℕ) (h : s < 256) where
+  pub flip-count : ones 256 (flipped s (stateOf a)) + 2 * getD a s 0 ≡ n + 1
+  flip-count = by (getD a s 0) refl (k .small s)
+    where
+      by : (b : ℕ) → getD a s 0 ≡ b → b ≤ 1 → ones 256 (flipped s (stateOf a)) + 2 * b ≡ n + 1
+      by zero e l = omega (arith, k .counted, ones-more 256 s (stateOf a) h (rw e))
+      by (suc zero) e l = omega (arith, k .counted, ones-less 256 s (stateOf a) h (rw e))
+      by (suc (suc b)) e l = absurd (omega arith)
+
+  pub flip-state : stateOf (set a s (1 - getD a s 0)) ≡ flipped s (stateOf a)
+  flip-state = flipped-set a s (1 - getD a s 0) (omega (arith, k .sized)) (by (getD a s 0) (k .small s))
+    where
+      by : (b : ℕ) → b ≤ 1 → not (eqb (1 - b) 0) ≡ not (not (eqb b 0))
+      by zero l = refl
+      by (suc zero) l = refl
+      by (suc (suc b)) l = absurd (omega arith)
+
+  pub flip-held : Held (set a s (1 - getD a s 0)) (n + 1 - 2 * getD a s 0)
+  flip-held = record { sized = simp length-set (k .sized); small = λ t. by t (eqb t s) refl; counted = rw flip-state (omega (arith, flip-count)) }
+    where
+      by : (t : ℕ) (b : Bool) → eqb t s ≡ b → getD (set a s (1 - getD a s 0)) t 0 ≤ 1
+      by t true q = rw (eqb-true t s q, getD-set-same a s (1 - getD a s 0) 0 (omega (arith, k .sized))) (omega arith)
+      by t false q = rw (getD-set-other a s t (1 - getD a s 0) 0 (eqb-false t s q)) (k .small t)

@@ -1,26 +1,17 @@
 // Judges crossing lists in one pass, and the room in the answer lists: document 01's refusals 13, 10, 11, 12 and 9.
 ghost use mathlib.Core.Path.{_≡_};
-ghost use mathlib.Core.List.{List};
-ghost use Prim.Native.Nat.{ℕ, _+_, _<_, _≤_};
-ghost use lib.IntN.{ℤ, pos};
+ghost use Prim.Native.Nat.{_<_, _≤_};
+ghost use lib.IntN.{pos};
 ghost use lib.ListN.{getD, length};
 ghost use lib.Signed.{ltZ};
 ghost use Rattle.formula.specs.Flips.{flipped};
-ghost use Rattle.lines.specs.Lines.{crossings, falls, judged, roomy};
-ghost use Rattle.lines.specs.Steps.{item};
+ghost use Rattle.lines.specs.Lines.{crossings, judged, roomy};
 ghost use Rattle.checking.specs.Verdicts.{verdict};
-ghost use Rattle.checking.specs.Steps.{asked, prior, stateOf, ones, lineEndsAt, left};
+ghost use Rattle.checking.specs.Steps.{asked, askedUneven, Shown, Held, stateOf};
 
 pub enum Verdict {
     Fine,
     Refused(u8, usize),
-}
-
-// How many shapes are inside, and the last entry of the first line that ended with one inside.
-pub struct Seen {
-    pub inside: usize,
-    pub uneven: bool,
-    pub place: usize,
 }
 
 fn wide(s: u16) -> usize
@@ -37,105 +28,87 @@ pub fn below(at: &[i32], i: usize, j: usize) -> bool
     at[i] < at[j]
 }
 
-// The item at i falls behind the one before it.
-fn falls_at(line: &[u32], at: &[i32], i: usize) -> bool
+// What the item at i shows of the one before it, with n shapes inside: 11, 12, or 0 for neither.
+// One function answers both, so that the two lines are compared once.
+fn shown(line: &[u32], at: &[i32], i: usize, n: usize) -> u8
     requires { ⌜ (i < length (now line)) × (i < length (now at)) ⌝ }
-    ensures { λ r. ⌜ ((ss : List ℕ) → r ≡ falls (prior (now (line .entry)) (now (at .entry)) ss i) (item (now (line .entry)) (now (at .entry)) ss i)) ⌝ }
+    ensures { λ r. ⌜ Shown (now (line .entry)) (now (at .entry)) n i r ⌝ }
 {
     if i == 0 {
-        return false;
+        return 0;
     }
     let l0 = line[i - 1];
     let l1 = line[i];
     if l1 == l0 {
-        return below(at, i, i - 1);
-    }
-    l1 < l0
-}
-
-// Shape s crossed once, where n shapes are inside.
-fn toggle(st: &mut [u8; 256], s: usize, n: usize) -> usize
-    requires { ⌜ (s < 256) × (length (now st) ≡ 256) ⌝ }
-    requires { ⌜ n ≡ ones 256 (stateOf (now st)) ⌝ }
-    ensures { λ r. ⌜ (stateOf (now (st .exit)) ≡ flipped s (stateOf (now (st .entry)))) × (length (now (st .exit)) ≡ 256) ⌝ }
-    ensures { λ r. ⌜ r ≡ ones 256 (flipped s (stateOf (now (st .entry)))) ⌝ }
-{
-    if st[s] == 0 {
-        st[s] = 1;
-        n + 1
-    } else {
-        st[s] = 0;
-        n - 1
-    }
-}
-
-fn line_ends(line: &[u32], i: usize) -> bool
-    requires { ⌜ i < length (now line) ⌝ }
-    ensures { λ r. ⌜ r ≡ lineEndsAt (now (line .entry)) i ⌝ }
-{
-    let j = i + 1;
-    if j == line.len() {
-        return true;
-    }
-    line[j] != line[i]
-}
-
-// The crossing at i of shape s: only the first line that ends uneven is kept.
-fn cross(line: &[u32], st: &mut [u8; 256], i: usize, s: usize, seen: Seen) -> Seen
-    requires { ⌜ (i < length (now line)) × (s < 256) × (length (now st) ≡ 256) ⌝ }
-    requires { ⌜ seen .inside ≡ ones 256 (stateOf (now st)) ⌝ }
-    ensures { λ r. ⌜ (r .inside ≡ ones 256 (stateOf (now (st .exit)))) × (length (now (st .exit)) ≡ 256) ⌝ }
-    ensures { λ r. ⌜ ((ps : List ℤ) (ss : List ℕ) → length ps ≡ length (now (line .entry)) → length ss ≡ length (now (line .entry)) → s ≡ getD ss i 0 → left (now (line .entry)) ps ss (now (st .entry)) seen i ≡ left (now (line .entry)) ps ss (now (st .exit)) r (i + 1)) ⌝ }
-{
-    let n = toggle(st, s, seen.inside);
-    if line_ends(line, i) {
-        if seen.uneven {
-            return Seen {
-                inside: n,
-                uneven: true,
-                place: seen.place,
-            };
+        if below(at, i, i - 1) {
+            return 11;
         }
-        return Seen {
-            inside: n,
-            uneven: 0 < n,
-            place: i,
-        };
+        return 0;
     }
-    Seen {
-        inside: n,
-        uneven: seen.uneven,
-        place: seen.place,
+    if l1 < l0 {
+        return 11;
     }
+    if 0 < n {
+        return 12;
+    }
+    0
 }
 
-// 10 and 11 item by item, then 12: one pass over the lists.
+// Shape s crossed once, where n shapes are inside. No branch, since no processor foresees which way it would go.
+fn toggle(st: &mut [u8; 256], s: usize, n: usize) -> usize
+    requires { ⌜ (s < 256) × Held (now st) n ⌝ }
+    ensures { λ r. ⌜ Held (now (st .exit)) r × (stateOf (now (st .exit)) ≡ flipped s (stateOf (now (st .entry)))) ⌝ }
+{
+    let b = st[s];
+    st[s] = 1 - b;
+    n + 1 - 2 * (b as usize)
+}
+
+// 10 and 11 from the item at j on; where none is met, 12 for the line that ended uneven before it.
+fn pass_uneven(names: usize, line: &[u32], at: &[i32], shape: &[u16], j: usize) -> Verdict
+    requires { ⌜ (length (now at) ≡ length (now line)) × (length (now shape) ≡ length (now line)) × (0 < j) × (j ≤ length (now line)) ⌝ }
+    ensures { λ r. ⌜ verdict r ≡ askedUneven names (now (line .entry)) (now (at .entry)) (now (shape .entry)) j ⌝ }
+{
+    let mut i = j;
+    while i < line.len() {
+        if names <= wide(shape[i]) {
+            return Verdict::Refused(10, i);
+        }
+        if shown(line, at, i, 0) == 11 {
+            return Verdict::Refused(11, i);
+        }
+        i += 1;
+    }
+    Verdict::Refused(12, j - 1)
+}
+
+// 10 and 11 item by item, and 12 from the item after the line, which shows that it ended: one pass over the lists.
 fn pass(names: usize, line: &[u32], at: &[i32], shape: &[u16]) -> Verdict
     requires { ⌜ (length (now at) ≡ length (now line)) × (length (now shape) ≡ length (now line)) × (names ≤ 256) ⌝ }
     ensures { λ r. ⌜ verdict r ≡ asked names (crossings (now (line .entry)) (now (at .entry)) (now (shape .entry))) ⌝ }
 {
     let mut st = [0u8; 256];
-    let mut seen = Seen {
-        inside: 0,
-        uneven: false,
-        place: 0,
-    };
+    let mut n: usize = 0;
     let mut i: usize = 0;
     while i < line.len() {
         let s = wide(shape[i]);
         if names <= s {
             return Verdict::Refused(10, i);
         }
-        if falls_at(line, at, i) {
+        let m = shown(line, at, i, n);
+        if m == 11 {
             return Verdict::Refused(11, i);
         }
-        seen = cross(line, &mut st, i, s, seen);
+        if m == 12 {
+            return pass_uneven(names, line, at, shape, i);
+        }
+        n = toggle(&mut st, s, n);
         i += 1;
     }
-    if seen.uneven {
-        return Verdict::Refused(12, seen.place);
+    if n == 0 {
+        return Verdict::Fine;
     }
-    Verdict::Fine
+    Verdict::Refused(12, i - 1)
 }
 
 // The crossing lists: 13, then 10 and 11, then 12.

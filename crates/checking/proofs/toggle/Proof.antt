@@ -1,49 +1,45 @@
--- A store of the other state is the shape toggled, and the count goes with it.
+-- The byte turned, 0 for 1 and 1 for 0, is the shape toggled, and the count goes with it.
 use native.Mathlib.Omega.{arith}
 use denote.Ref.{now}
 use borrow.Author.Needs.{needs}
-use borrow.Author.Tests.{eq-eqb, ne-eqb}
-use lib.ListN.{length-set}
 use Rattle.checking.specs.Steps.{stateOf}
-use Rattle.checking.proofs.States.{flipped-set, ones-le, ones-more, ones-less}
+use Rattle.checking.proofs.States.{ones-le, flip-count, flip-state, flip-held}
 use Rattle.checking.proofs.toggle.Statement.{statement}
 use Rattle.checking.proofs.toggle.Tie as tie
 
-element-copy-out-if1 : tie.Need-element-copy-out-if1
-element-copy-out-if1 c = search needs
+element-copy-out-b : tie.Need-element-copy-out-b
+element-copy-out-b c = search needs
+
+sub-st : tie.Need-sub-st
+sub-st c = omega (arith, c .before .pre .1 .small (c .before .args .s))
 
 element-write-st : tie.Need-element-write-st
 element-write-st c = search needs
 
 add-result : tie.Need-add-result
-add-result c = omega (arith, ones-le 256 (stateOf (now (c .before .before .args .st))))
+add-result c = omega (arith, c .before .pre .1 .counted, ones-le 256 (stateOf (now (c .before .args .st))))
 
-element-write-st-2 : tie.Need-element-write-st-2
-element-write-st-2 c = search needs
+cast-result : tie.Need-cast-result
+cast-result c = omega (arith, c .before .pre .1 .small (c .before .args .s))
+
+mul-result : tie.Need-mul-result
+mul-result c = omega (arith, c .before .pre .1 .small (c .before .args .s))
 
 sub-result : tie.Need-sub-result
-sub-result c = omega (arith, ones-less 256 (c .before .before .args .s) (stateOf (now (c .before .before .args .st))) (c .before .before .pre .0 .0) (rw (ne-eqb _ _ (c .if1 .left))))
+sub-result c = omega (arith, flip-count (c .before .pre .1) (c .before .args .s) (c .before .pre .0))
 
 returns : tie.Need-returns
-returns c = (
-  (flipped-set (now (c .before .before .args .st)) (c .before .before .args .s) 1 (omega arith) (rw (eq-eqb _ _ (c .if1 .taken))), simp length-set (c .before .before .pre .0 .1)),
-  omega (arith, ones-more 256 (c .before .before .args .s) (stateOf (now (c .before .before .args .st))) (c .before .before .pre .0 .0) (rw (eq-eqb _ _ (c .if1 .taken)))),
-)
-
-returns-2 : tie.Need-returns-2
-returns-2 c = (
-  (flipped-set (now (c .before .before .args .st)) (c .before .before .args .s) 0 (omega arith) (rw (ne-eqb _ _ (c .if1 .left))), simp length-set (c .before .before .pre .0 .1)),
-  omega (arith, ones-less 256 (c .before .before .args .s) (stateOf (now (c .before .before .args .st))) (c .before .before .pre .0 .0) (rw (ne-eqb _ _ (c .if1 .left)))),
-)
+returns c = (flip-held (c .before .pre .1) (c .before .args .s) (c .before .pre .0), flip-state (c .before .pre .1) (c .before .args .s) (c .before .pre .0))
 
 pub toggle-spec : {M : Type 1} → statement M
 toggle-spec =
     tie.close
     (tie.spec
-    element-copy-out-if1
+    element-copy-out-b
+    sub-st
     element-write-st
     add-result
-    element-write-st-2
+    cast-result
+    mul-result
     sub-result
-    returns
-    returns-2)
+    returns)
