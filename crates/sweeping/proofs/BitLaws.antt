@@ -11,9 +11,9 @@ use lib.Dec.{eqb}
 use lib.ListN.{getD}
 use lib.Pow.{shr-shr}
 use Rattle.formula.specs.Formula.{exclusive, meaning}
-use Rattle.words.specs.Words.{digit, bit}
-use Rattle.words.specs.Rows.{cell}
-use Rattle.words.proofs.Digits.{bit-xor, bit-ones, shift-bit}
+use Rattle.rows.specs.Words.{digit, bit}
+use Rattle.rows.specs.Rows.{cell}
+use Rattle.rows.proofs.Digits.{bit-xor, bit-ones, shift-bit}
 
 bit-shift : (w j b : ℕ) → bit (w / 2 ^ j) b ≡ bit w (j + b)
 bit-shift w j b = sym (shift-bit (w / 2 ^ j) b) ∙ ap (λ (x : ℕ). eqb (x % 2) 1) (shr-shr w j b) ∙ shift-bit w (j + b)

@@ -17,8 +17,8 @@ use Rattle.formula.proofs.States.{after-append}
 use Rattle.lines.specs.Lines.{crossings, Wall, endsGroup, opened, closed, wallsFrom}
 use Rattle.lines.specs.Steps.{item}
 use Rattle.lines.proofs.Items.{drop-item, drop-all, after-item}
-use Rattle.words.specs.Words.{bit}
-use Rattle.words.specs.Rows.{cell}
+use Rattle.rows.specs.Words.{bit}
+use Rattle.rows.specs.Rows.{cell}
 use Rattle.sweeping.specs.Steps.{groupEndsAt, openOf, wallAt, Within, Room, Put, Stepped, upto, Passed, Same, Swept, Alike, Written}
 use Rattle.sweeping.specs.declared.Run.{Run}
 use Rattle.sweeping.proofs.StepLaws.{step-same}

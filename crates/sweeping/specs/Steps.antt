@@ -14,7 +14,7 @@ use Rattle.formula.specs.States.{State, outside}
 use Rattle.formula.specs.Flips.{after}
 use Rattle.outcome.specs.Lent.{filled}
 use Rattle.lines.specs.Lines.{crossings, Wall, opened, closed, wallsFrom}
-use Rattle.words.specs.Words.{bit}
+use Rattle.rows.specs.Words.{bit}
 use Rattle.sweeping.specs.declared.Run.{Run}
 
 -- the i-th crossing is the last of those that act together

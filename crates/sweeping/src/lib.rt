@@ -4,8 +4,8 @@ ghost use mathlib.Core.Bool.{false};
 ghost use Prim.Native.Nat.{ℕ, _+_, _-_, _<_, _≤_};
 ghost use lib.IntN.{pos};
 ghost use lib.ListN.{getD, length, set};
-ghost use Rattle.words.specs.Words.{bit};
-ghost use Rattle.words.specs.Rows.{cell, columns};
+ghost use Rattle.rows.specs.Words.{bit};
+ghost use Rattle.rows.specs.Rows.{cell, columns};
 ghost use Rattle.sweeping.specs.Steps.{groupEndsAt, wallAt, Within, Room, Put, Stepped, Swept, Alike};
 
 // Where a wall began.

@@ -15,7 +15,7 @@ use Rattle.lines.proofs.Judgement.{both, judged-lengths, judged-named}
 use Rattle.lines.proofs.Items.{named-shape}
 use Rattle.checking.specs.Verdicts.{verdict}
 use Rattle.checking.specs.declared.Verdict.{Verdict}
-use Rattle.words.specs.Rows.{Below}
+use Rattle.rows.specs.Rows.{Below}
 use Rattle.walls.specs.Classified.{Classified}
 use Rattle.sweeping.specs.Steps.{Room, Written}
 use Rattle.walls.specs.declared.LinesAnswer.the-variants.{Walls, Refused}

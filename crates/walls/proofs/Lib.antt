@@ -1,2 +1,3 @@
 mod JobLaws
+mod Evenness
 pub mod Only

@@ -4,7 +4,8 @@ ghost use Prim.Native.Nat.{_-_, _*_, _<_, _≤_};
 ghost use lib.ListN.{length, take};
 ghost use Rattle.formula.specs.Formula.{Formula, postfix, Over};
 ghost use Rattle.lines.specs.Lines.{crossings, walls};
-ghost use Rattle.words.specs.Rows.{wide, columns, Below, mostWaiting};
+ghost use Rattle.rows.specs.Rows.{wide, columns, Below, Even};
+ghost use Rattle.words.specs.Blocks.{mostWaiting};
 ghost use Rattle.sweeping.specs.Steps.{Room, Written};
 ghost use Rattle.walls.specs.Classified.{Classified};
 
@@ -16,7 +17,7 @@ pub enum LinesAnswer {
 // The end of the block that starts at a.
 fn block_end(a: usize, n: usize) -> usize
     requires { ⌜ a < n ⌝ }
-    ensures { λ r. ⌜ (a < r) × (r ≤ n) × (r - a ≤ columns) ⌝ }
+    ensures { λ r. ⌜ (a < r) × (r ≤ n) × (r - a ≤ columns) × (r < n → r - a ≡ columns) ⌝ }
 {
     if n - a < 512 {
         return n;
@@ -38,15 +39,15 @@ fn blocks(
     we: &mut [i32],
 ) -> usize
     requires { ⌜ (length (now codes) ≡ 2048) × (n ≤ 2048) × (names ≤ 256) × (mostWaiting 0 (take n (now codes)) * wide ≤ length (now st)) × (wide ≤ length (now st)) ⌝ }
-    requires { ⌜ (length (now at) ≡ length (now line)) × (length (now shape) ≡ length (now line)) × Below names (now shape) × Room (length (now line)) (now wl) (now ws) (now we) ⌝ }
+    requires { ⌜ (length (now at) ≡ length (now line)) × (length (now shape) ≡ length (now line)) × Below names (now shape) × Even (now line) (now shape) × Room (length (now line)) (now wl) (now ws) (now we) ⌝ }
     ensures { λ r. ⌜ ((f : Formula) → take n (now (codes .entry)) ≡ postfix f → Over names f → Written (walls f (crossings (now (line .entry)) (now (at .entry)) (now (shape .entry)))) (now (wl .entry)) (now (ws .entry)) (now (we .entry)) r (now (wl .exit)) (now (ws .exit)) (now (we .exit))) ⌝ }
 {
-    let mut rows = [0u64; 2048];
+    let mut shapes = [0u64; 2048];
     let mut r = sweeping::outside();
     let mut a: usize = 0;
     while a < line.len() {
         let e = block_end(a, line.len());
-        let row = words::block(codes, n, names, &mut rows, st, shape, a, e);
+        let row = words::block(codes, n, names, &mut shapes, st, line, shape, a, e);
         r = sweeping::sweep(row, line, at, wl, ws, we, a, e, r);
         a = e;
     }
@@ -66,7 +67,7 @@ fn write(
     we: &mut [i32],
 ) -> usize
     requires { ⌜ (length (now codes) ≡ 2048) × (n ≤ 2048) × (names ≤ 256) ⌝ }
-    requires { ⌜ (length (now at) ≡ length (now line)) × (length (now shape) ≡ length (now line)) × Below names (now shape) × Room (length (now line)) (now wl) (now ws) (now we) ⌝ }
+    requires { ⌜ (length (now at) ≡ length (now line)) × (length (now shape) ≡ length (now line)) × Below names (now shape) × Even (now line) (now shape) × Room (length (now line)) (now wl) (now ws) (now we) ⌝ }
     ensures { λ r. ⌜ ((f : Formula) → take n (now (codes .entry)) ≡ postfix f → Over names f → Written (walls f (crossings (now (line .entry)) (now (at .entry)) (now (shape .entry)))) (now (wl .entry)) (now (ws .entry)) (now (we .entry)) r (now (wl .exit)) (now (ws .exit)) (now (we .exit))) ⌝ }
 {
     if words::most_waiting(codes, n) <= 32 {

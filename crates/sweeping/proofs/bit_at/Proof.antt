@@ -1,6 +1,6 @@
 -- A bit, as the machine takes it.
 use borrow.Author.Needs.{needs}
-use Rattle.words.proofs.Digits.{shift-bit}
+use Rattle.rows.proofs.Digits.{shift-bit}
 use Rattle.sweeping.proofs.bit_at.Statement.{statement}
 use Rattle.sweeping.proofs.bit_at.Tie as tie
 

@@ -2,7 +2,7 @@
 use Prim.Native.Nat.{_+_, _-_, _*_, _≤_, _<_}
 use native.Mathlib.Omega.{arith}
 use mathlib.Core.Path.{_≡_}
-use Rattle.words.specs.Rows.{cell}
+use Rattle.rows.specs.Rows.{cell}
 use Rattle.sweeping.proofs.PassLaws.{room-same, swept-none, swept-word, swept-end}
 use Rattle.sweeping.specs.Steps.{Swept}
 use Rattle.sweeping.proofs.sweep.Statement.{statement}

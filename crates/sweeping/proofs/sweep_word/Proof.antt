@@ -1,7 +1,7 @@
 -- From one bit that differs to the next, and then over the rest of the word.
 use Prim.Native.Nat.{_+_, _-_, _≤_}
 use native.Mathlib.Omega.{arith}
-use Rattle.words.specs.Words.{bit}
+use Rattle.rows.specs.Words.{bit}
 use Rattle.sweeping.proofs.PassLaws.{room-same, swept-first, swept-change, swept-rest, swept-end}
 use Rattle.sweeping.specs.Steps.{Swept}
 use Rattle.sweeping.proofs.sweep_word.Statement.{statement}

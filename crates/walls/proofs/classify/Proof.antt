@@ -2,6 +2,7 @@
 use denote.Ref.{now}
 use borrow.Author.Needs.{needs}
 use Rattle.lines.proofs.Judgement.{judged-lengths}
+use Rattle.walls.proofs.Evenness.{judged-out}
 use Rattle.walls.proofs.JobLaws.{told, half-room, judged-below, classified-judged, classified-roomy, classified-walls}
 use Rattle.walls.proofs.classify.Statement.{statement}
 use Rattle.walls.proofs.classify.Tie as tie
@@ -36,7 +37,7 @@ write-requires : tie.Need-write-requires
 write-requires c κs = let s = c .before .before .before .before .before .before .before .before .before .before .before .before .args in
     let j = told _ _ _ (c .before .before .before .before .before .before .before .before .judge .ensures) (c .before .before .before .before .before .before .enum-told .given .1) in
     let l = judged-lengths (s .names) (now (s .line)) (now (s .at)) (now (s .shape)) j in
-    (c .before .before .before .before .before .before .before .before .before .before .before .before .pre, (l .0, l .1, judged-below (s .names) (now (s .line)) (now (s .at)) (now (s .shape)) j, half-room _ _ _ _ (told _ _ _ (c .before .before .before .before .before .room .ensures) (c .before .before .before .enum-told2 .given .1))))
+    (c .before .before .before .before .before .before .before .before .before .before .before .before .pre, (l .0, l .1, judged-below (s .names) (now (s .line)) (now (s .at)) (now (s .shape)) j, judged-out (s .names) (now (s .line)) (now (s .at)) (now (s .shape)) (c .before .before .before .before .before .before .before .before .before .before .before .before .pre .2) j, half-room _ _ _ _ (told _ _ _ (c .before .before .before .before .before .room .ensures) (c .before .before .before .enum-told2 .given .1))))
 
 same-length : tie.Need-same-length
 same-length c = search needs

@@ -1,25 +1,25 @@
--- `words::fill_word` meets its contract.
+-- `rows::replay` meets its contract.
 use mathlib.Core.List.{[]}
-use borrow.Author.Needs.{needs}
 use Prim.Native.Nat.{_-_, _≤_}
 use lib.ListN.{length, take}
-use Rattle.words.specs.Steps.{Turned}
-use Rattle.words.proofs.Fills.{turned-none, turned-step, turned-end, below-at}
-use Rattle.words.proofs.fill_word.Statement.{statement}
-use Rattle.words.proofs.fill_word.Tie as tie
-use Rattle.words.proofs.fill_word.Reads as reads
-use Rattle.words.proofs.fill_word.Lts as lts
-use Rattle.words.proofs.index.Reads as index-reads
-use Rattle.words.proofs.turn.Reads as turn-reads
+use Rattle.rows.specs.Steps.{Replayed}
+use borrow.Author.Needs.{needs}
+use Rattle.rows.proofs.Fills.{replayed-none, replayed-more, replayed-end, below-at}
+use Rattle.rows.proofs.replay.Statement.{statement}
+use Rattle.rows.proofs.replay.Tie as tie
+use Rattle.rows.proofs.replay.Reads as reads
+use Rattle.rows.proofs.replay.Lts as lts
+use Rattle.rows.proofs.index.Reads as index-reads
+use Rattle.rows.proofs.turn.Reads as turn-reads
 
 abbrev Inv-loop : tie.InvT-loop
-Inv-loop words₀ k part j₀ words j = (j ≤ length part) × Turned words₀ words k (take j part)
+Inv-loop words₀ k part i₀ words i = (i ≤ length part) × Replayed words₀ words k (take i part)
 
 abbrev μ-loop : tie.MeasureT-loop
-μ-loop words₀ k part j₀ words j = length part - j
+μ-loop words₀ k part i₀ words i = length part - i
 
 loop-holds : tie.Need-loop-holds Inv-loop μ-loop
-loop-holds c = (search needs, turned-none _ _ [])
+loop-holds c = (search needs, replayed-none _ _ [])
 
 mul-index : tie.Need-mul-index Inv-loop μ-loop
 mul-index c = search needs
@@ -33,20 +33,20 @@ index-requires c κs = search needs
 turn-requires : tie.Need-turn-requires Inv-loop μ-loop
 turn-requires c κs = (search needs, search (below-at, needs), search needs, search needs)
 
-add-j : tie.Need-add-j Inv-loop μ-loop
-add-j c = search needs
+add-i : tie.Need-add-i Inv-loop μ-loop
+add-i c = search needs
 
 loop-less : tie.Need-loop-less Inv-loop μ-loop
 loop-less c = search needs
 
 loop-again : tie.Need-loop-again Inv-loop μ-loop
-loop-again c = (search needs, search (turned-step, needs))
+loop-again c = (search needs, search (replayed-more, needs))
 
 returns : tie.Need-returns Inv-loop μ-loop
-returns c = search (turned-end, needs)
+returns c = search (replayed-end, needs)
 
-pub fill-word-spec : {M : Type 1} → statement M
-fill-word-spec =
+pub replay-spec : {M : Type 1} → statement M
+replay-spec =
     tie.close
     (tie.spec
     Inv-loop
@@ -56,7 +56,7 @@ fill-word-spec =
     shared-slice-read-index
     index-requires
     turn-requires
-    add-j
+    add-i
     loop-less
     loop-again
     returns)
