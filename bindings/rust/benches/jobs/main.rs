@@ -20,15 +20,33 @@ fn main() {
         return println!("benchmark: the answers of {} rows agree", rows.len());
     }
     heading();
-    let above: Vec<String> = rows.into_iter().filter_map(|mut row| line(&mut row)).collect();
-    match above.len() {
-        0 => println!("\nNo row is above {MOST} times the plain one."),
-        count => println!("\nAbove {MOST} times the plain one, {count} rows: {}.", above.join("; ")),
+    let said: Vec<Said> = rows.into_iter().map(|mut row| line(&mut row)).collect();
+    verdict(&said, "above 1.5 times the plain one", |row| row.plain > 1.5);
+    verdict(&said, "at 256 leaves or more less than 5 times faster than walking", |row| row.walk.is_some_and(|walk| walk < 5.0));
+    for leaves in [256, 1024] {
+        let walks = said.iter().filter(|row| row.leaves == leaves).filter_map(|row| row.walk);
+        let (least, most) = walks.fold((f64::INFINITY, 0.0), |(least, most): (f64, f64), walk| (least.min(walk), most.max(walk)));
+        println!("At {leaves} leaves classify is {least:.1} to {most:.1} times faster than walking.");
     }
 }
 
-/// What the library may take at most, in times of the plain one.
-const MOST: f64 = 1.5;
+/// What a row says of the library's time.
+struct Said {
+    what: String,
+    leaves: usize,
+    /// The library's time, in times of the plain one's.
+    plain: f64,
+    /// The walk's time, in times of the library's; where the formula has 256 leaves or more.
+    walk: Option<f64>,
+}
+
+fn verdict(said: &[Said], what: &str, is_so: fn(&Said) -> bool) {
+    let rows: Vec<&str> = said.iter().filter(|row| is_so(row)).map(|row| row.what.as_str()).collect();
+    match rows.len() {
+        0 => println!("\nNo row is {what}."),
+        count => println!("\n{count} rows are {what}: {}.", rows.join("; ")),
+    }
+}
 
 fn heading() {
     let date = Command::new("date").args(["-u", "+%F"]).output().map(|said| String::from_utf8_lossy(&said.stdout).trim().to_string());
@@ -49,21 +67,26 @@ fn heading() {
     println!("- `walk`: plain Rust that flips leaves and walks up the contracted tree at each crossing.");
     println!("- `copy`: a plain copy of the call's lists, those read and those written.\n");
     println!("All lists are made before and lent again at each turn; none is cleared.\n");
-    println!("| job | formula | leaves | lists | library | plain | walk | copy | library / plain | library / copy |");
-    println!("|---|---|--:|---|--:|--:|--:|--:|--:|--:|");
+    println!("| job | formula | leaves | lists | library | plain | walk | copy | library / plain | walk / library | library / copy |");
+    println!("|---|---|--:|---|--:|--:|--:|--:|--:|--:|--:|");
 }
 
-/// Times and prints a row; names it if it is above what it may be.
-fn line(row: &mut Row) -> Option<String> {
+/// Times and prints a row.
+fn line(row: &mut Row) -> Said {
     let mut functions: Vec<&mut dyn FnMut()> = vec![&mut row.library, &mut row.plain, &mut row.copy];
     functions.extend(row.walk.as_mut().map(|walk| walk as &mut dyn FnMut()));
     let times: Vec<f64> = best(&mut functions).into_iter().map(|time| time / row.items as f64).collect();
-    let walk = times.get(3).map_or(String::new(), |time| format!("{time:.2}"));
     let (library, plain, copy) = (times[0], times[1], times[2]);
+    let [walk, faster] =
+        times.get(3).map_or([String::new(), String::new()], |time| [format!("{time:.2}"), format!("{:.1}", time / library)]);
     let what = format!("{} | {} | {} | {}", row.job, row.formula, row.leaves, row.lists);
-    let ratio = library / plain;
-    println!("| {what} | {library:.2} | {plain:.2} | {walk} | {copy:.2} | {ratio:.2} | {:.0} |", library / copy);
-    (ratio > MOST).then(|| what.replace(" |", ","))
+    println!("| {what} | {library:.2} | {plain:.2} | {walk} | {copy:.2} | {:.2} | {faster} | {:.0} |", library / plain, library / copy);
+    Said {
+        what: what.replace(" |", ","),
+        leaves: row.leaves,
+        plain: library / plain,
+        walk: times.get(3).filter(|_| row.leaves >= 256).map(|time| time / library),
+    }
 }
 
 /// The best time of a call in nanoseconds, for each function. They take turns, so that a slow moment of the machine hits all.
