@@ -6,6 +6,7 @@ use mathlib.Core.Path.{_≡_, refl, sym, ap, _∙_, fun-ext, subst}
 use mathlib.Core.Bool.{Bool, true, false, not, cond, _||_}
 use mathlib.Core.List.{List}
 use borrow.Author.Tests.{eqb-true, eqb-false, eq-eqb, ne-eqb, lt-ltb}
+use lib.Bits.{bitXor}
 use lib.Dec.{eqb, ltb}
 use lib.ListN.{length, getD, set, replicate, length-set}
 use lib.Seq.{getD-set-same, getD-set-other}
@@ -105,17 +106,22 @@ module _ {a : List ℕ} {n : ℕ} (k : Held a n) (s : ℕ) (h : s < 256) where
       by (suc zero) e l = omega (arith, k .counted, ones-less 256 s (stateOf a) h (rw e))
       by (suc (suc b)) e l = absurd (omega arith)
 
-  pub flip-state : stateOf (set a s (1 - getD a s 0)) ≡ flipped s (stateOf a)
-  flip-state = flipped-set a s (1 - getD a s 0) (omega (arith, k .sized)) (by (getD a s 0) (k .small s))
+  pub flip-state : stateOf (set a s (bitXor (getD a s 0) 1)) ≡ flipped s (stateOf a)
+  flip-state = flipped-set a s (bitXor (getD a s 0) 1) (omega (arith, k .sized)) (by (getD a s 0) (k .small s))
     where
-      by : (b : ℕ) → b ≤ 1 → not (eqb (1 - b) 0) ≡ not (not (eqb b 0))
+      by : (b : ℕ) → b ≤ 1 → not (eqb (bitXor b 1) 0) ≡ not (not (eqb b 0))
       by zero l = refl
       by (suc zero) l = refl
       by (suc (suc b)) l = absurd (omega arith)
 
-  pub flip-held : Held (set a s (1 - getD a s 0)) (n + 1 - 2 * getD a s 0)
+  small : (b : ℕ) → b ≤ 1 → bitXor b 1 ≤ 1
+  small zero l = omega arith
+  small (suc zero) l = omega arith
+  small (suc (suc b)) l = absurd (omega arith)
+
+  pub flip-held : Held (set a s (bitXor (getD a s 0) 1)) (n + 1 - 2 * getD a s 0)
   flip-held = record { sized = simp length-set (k .sized); small = λ t. by t (eqb t s) refl; counted = rw flip-state (omega (arith, flip-count)) }
     where
-      by : (t : ℕ) (b : Bool) → eqb t s ≡ b → getD (set a s (1 - getD a s 0)) t 0 ≤ 1
-      by t true q = rw (eqb-true t s q, getD-set-same a s (1 - getD a s 0) 0 (omega (arith, k .sized))) (omega arith)
-      by t false q = rw (getD-set-other a s t (1 - getD a s 0) 0 (eqb-false t s q)) (k .small t)
+      by : (t : ℕ) (b : Bool) → eqb t s ≡ b → getD (set a s (bitXor (getD a s 0) 1)) t 0 ≤ 1
+      by t true q = rw (eqb-true t s q, getD-set-same a s (bitXor (getD a s 0) 1) 0 (omega (arith, k .sized))) (small (getD a s 0) (k .small s))
+      by t false q = rw (getD-set-other a s t (bitXor (getD a s 0) 1) 0 (eqb-false t s q)) (k .small t)

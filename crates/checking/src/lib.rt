@@ -60,7 +60,7 @@ fn toggle(st: &mut [u8; 256], s: usize, n: usize) -> usize
     ensures { λ r. ⌜ Held (now (st .exit)) r × (stateOf (now (st .exit)) ≡ flipped s (stateOf (now (st .entry)))) ⌝ }
 {
     let b = st[s];
-    st[s] = 1 - b;
+    st[s] = b ^ 1;
     n + 1 - 2 * (b as usize)
 }
 

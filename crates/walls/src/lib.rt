@@ -38,7 +38,7 @@ fn blocks(
     ws: &mut [i32],
     we: &mut [i32],
 ) -> usize
-    requires { ⌜ (length (now codes) ≡ 2048) × (n ≤ 2048) × (names ≤ 256) × (mostWaiting 0 (take n (now codes)) * wide ≤ length (now st)) × (wide ≤ length (now st)) ⌝ }
+    requires { ⌜ (length (now codes) ≡ 2048) × (n ≤ 2048) × (names ≤ 256) × (mostWaiting 0 (take n (now codes)) * wide ≤ length (now st)) ⌝ }
     requires { ⌜ (length (now at) ≡ length (now line)) × (length (now shape) ≡ length (now line)) × Below names (now shape) × Even (now line) (now shape) × Room (length (now line)) (now wl) (now ws) (now we) ⌝ }
     ensures { λ r. ⌜ ((f : Formula) → take n (now (codes .entry)) ≡ postfix f → Over names f → Written (walls f (crossings (now (line .entry)) (now (at .entry)) (now (shape .entry)))) (now (wl .entry)) (now (ws .entry)) (now (we .entry)) r (now (wl .exit)) (now (ws .exit)) (now (we .exit))) ⌝ }
 {

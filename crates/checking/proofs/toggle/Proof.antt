@@ -10,9 +10,6 @@ use Rattle.checking.proofs.toggle.Tie as tie
 element-copy-out-b : tie.Need-element-copy-out-b
 element-copy-out-b c = search needs
 
-sub-st : tie.Need-sub-st
-sub-st c = omega (arith, c .before .pre .1 .small (c .before .args .s))
-
 element-write-st : tie.Need-element-write-st
 element-write-st c = search needs
 
@@ -36,7 +33,6 @@ toggle-spec =
     tie.close
     (tie.spec
     element-copy-out-b
-    sub-st
     element-write-st
     add-result
     cast-result

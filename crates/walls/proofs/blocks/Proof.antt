@@ -71,7 +71,7 @@ block-requires : tie.Need-block-requires Inv-loop μ-loop
 block-requires c κs = let s = c .before .before .before .before .before .before .before .before .before .before in
     let l = c .before .before .before .before .loop .inv in
     let b = c .before .before .block-end .ensures in
-    ((s .pre .0 .0, s .pre .0 .1, omega (arith, s .pre .0 .3, l .stack), omega (arith, s .pre .0 .4, l .stack)), ((l .long, s .pre .0 .2, s .pre .1 .1, s .pre .1 .2, s .pre .1 .3), (b .0, b .1, b .2, l .stand (omega (arith, b .0, b .1)))))
+    ((s .pre .0 .0, s .pre .0 .1, omega (arith, s .pre .0 .3, l .stack)), ((l .long, s .pre .0 .2, s .pre .1 .1, s .pre .1 .2, s .pre .1 .3), (b .0, b .1, b .2, l .stand (omega (arith, b .0, b .1)))))
 
 sweep-requires : tie.Need-sweep-requires Inv-loop μ-loop
 sweep-requires c κs = let s = c .before .before .before .before .before .before .before .before .before .before .before .before .before .before .before .before in

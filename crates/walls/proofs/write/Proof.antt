@@ -14,7 +14,7 @@ slice-aggregate-blocks c = search needs
 
 blocks-requires : tie.Need-blocks-requires
 blocks-requires c κs = let s = c .before .before .before .before .before .before .before .before .before in
-    ((s .pre .0 .0, s .pre .0 .1, s .pre .0 .2, omega (arith, c .before .before .before .before .before .most-waiting .ensures, c .before .before .before .before .if1 .taken), omega arith), s .pre .1)
+    ((s .pre .0 .0, s .pre .0 .1, s .pre .0 .2, omega (arith, c .before .before .before .before .before .most-waiting .ensures, c .before .before .before .before .if1 .taken)), s .pre .1)
 
 same-length : tie.Need-same-length
 same-length c = search needs
@@ -33,7 +33,7 @@ slice-aggregate-blocks-2 c = search needs
 
 blocks-requires-2 : tie.Need-blocks-requires-2
 blocks-requires-2 c κs = let s = c .before .before .before .before .before .before .before .before .before in
-    ((s .pre .0 .0, s .pre .0 .1, s .pre .0 .2, omega (arith, s .pre .0 .1, most-codes (now (s .args .codes)) (s .args .n)), omega arith), s .pre .1)
+    ((s .pre .0 .0, s .pre .0 .1, s .pre .0 .2, omega (arith, s .pre .0 .1, most-codes (now (s .args .codes)) (s .args .n))), s .pre .1)
 
 same-length-4 : tie.Need-same-length-4
 same-length-4 c = search needs
