@@ -1,0 +1,58 @@
+-- `showing::printing::show_u16` is safe and ends: i rises to n.
+use Prim.Native.Nat.{_≤_, _-_}
+use borrow.Author.Needs.{needs}
+use Rattle.showing.proofs.printing.show_u16.Statement.{statement}
+use Rattle.showing.proofs.printing.show_u16.Tie as tie
+
+abbrev Inv-loop : tie.InvT-loop
+Inv-loop name list n i₀ i = i ≤ n
+
+abbrev μ-loop : tie.MeasureT-loop
+μ-loop name list n i₀ i = n - i
+
+heading-requires : tie.Need-heading-requires Inv-loop μ-loop
+heading-requires c κs = search needs
+
+loop-holds : tie.Need-loop-holds Inv-loop μ-loop
+loop-holds c = search needs
+
+mul-next-u16 : tie.Need-mul-next-u16 Inv-loop μ-loop
+mul-next-u16 c = search needs
+
+element-copy-out-next-u16 : tie.Need-element-copy-out-next-u16 Inv-loop μ-loop
+element-copy-out-next-u16 c = search needs
+
+next-u16-requires : tie.Need-next-u16-requires Inv-loop μ-loop
+next-u16-requires c κs = search needs
+
+add-i : tie.Need-add-i Inv-loop μ-loop
+add-i c = search needs
+
+loop-less : tie.Need-loop-less Inv-loop μ-loop
+loop-less c = search needs
+
+loop-again : tie.Need-loop-again Inv-loop μ-loop
+loop-again c = search needs
+
+returns : tie.Need-returns Inv-loop μ-loop
+returns c = search needs
+
+returns-2 : tie.Need-returns-2 Inv-loop μ-loop
+returns-2 c = search needs
+
+pub show-u16-spec : {M : Type 1} → statement M
+show-u16-spec =
+    tie.close
+    (tie.spec
+    Inv-loop
+    μ-loop
+    heading-requires
+    loop-holds
+    mul-next-u16
+    element-copy-out-next-u16
+    next-u16-requires
+    add-i
+    loop-less
+    loop-again
+    returns
+    returns-2)
