@@ -4,9 +4,35 @@ use sheet::ReadAnswer;
 ghost use mathlib.Core.Path.{_≡_};
 ghost use lib.ListN.{length};
 ghost use Rattle.tokens.specs.Tokens.{Shelves};
-ghost use Rattle.accepting.specs.Prepared.{Says, Judged};
+ghost use Rattle.accepting.specs.Prepared.{SaysCoded, Says, Judged};
 
-// What is prepared: the number of names, of codes, and what is built; or the refusal of the sheet or of its height.
+// What is accepted: the number of names and of codes; or the refusal of the sheet.
+pub enum Acceptance {
+    Given { names: usize, codes: usize },
+    Refused { number: u8, place: usize },
+}
+
+// A sheet's codes in an array. 8 needs no test: no formula of a sheet has a dwarf tree taller than 57.
+pub fn accept(sheet: &[u8], codes: &mut [u16; 2048]) -> Acceptance
+    requires { ⌜ length (now codes) ≡ 2048 ⌝ }
+    ensures { λ _. ⌜ length (now (codes .exit)) ≡ 2048 ⌝ }
+    ensures { λ r. ⌜ SaysCoded (now (sheet .entry)) (now (codes .exit)) r ⌝ }
+{
+    match sheet::read(sheet) {
+        ReadAnswer::Refused { number, place } => Acceptance::Refused { number, place },
+        ReadAnswer::Read {
+            names,
+            leaves: _,
+            first,
+            past,
+        } => {
+            let n = sheet::fill_codes(sheet, first, past, codes);
+            Acceptance::Given { names, codes: n }
+        }
+    }
+}
+
+// What is prepared: the number of names, of codes, and what is built; or the refusal of the sheet.
 pub enum Prepared {
     Ready {
         names: usize,
@@ -19,9 +45,7 @@ pub enum Prepared {
     },
 }
 
-// The highest dwarf tree.
-pub const TALLEST: usize = 57;
-
+// A sheet's codes and its dwarf tree in arrays.
 pub fn prepare(
     sheet: &[u8],
     codes: &mut [u16; 2048],
@@ -33,27 +57,14 @@ pub fn prepare(
     ensures { λ _. ⌜ (length (now (codes .exit)) ≡ 2048) × Shelves (now (kinds .exit)) (now (firsts .exit)) (now (seconds .exit)) ⌝ }
     ensures { λ r. ⌜ Says (now (sheet .entry)) (now (codes .exit)) (now (kinds .exit)) (now (firsts .exit)) (now (seconds .exit)) r ⌝ }
 {
-    match sheet::read(sheet) {
-        ReadAnswer::Refused { number, place } => Prepared::Refused { number, place },
-        ReadAnswer::Read {
-            names,
-            leaves: _,
-            first,
-            past,
-        } => {
-            let n = sheet::fill_codes(sheet, first, past, codes);
+    match accept(sheet, codes) {
+        Acceptance::Refused { number, place } => Prepared::Refused { number, place },
+        Acceptance::Given { names, codes: n } => {
             let built = dwarf::build(codes, n, kinds, firsts, seconds);
-            if TALLEST < built.height {
-                Prepared::Refused {
-                    number: 8,
-                    place: 0,
-                }
-            } else {
-                Prepared::Ready {
-                    names,
-                    codes: n,
-                    built,
-                }
+            Prepared::Ready {
+                names,
+                codes: n,
+                built,
             }
         }
     }

@@ -7,3 +7,4 @@ pub mod Size
 pub mod Over
 pub mod Leaves
 pub mod Paths
+pub mod Tall

@@ -70,7 +70,7 @@ module _ (s codes k f e ks fs ss : List ℕ) (r : Prepared) (says : Says s codes
     stands = rw is at says
 
     pub few-nodes : b .nodes ≤ 3072
-    few-nodes = let st = stands .1 in omega (arith, st .built .nodes-are, dwarf-few (stands .0 .formula) (st .facts .few-leaves))
+    few-nodes = let st = stands .1 in omega (arith, st .built .nodes-are, dwarf-few (stands .0 .formula) (st .coded .facts .few-leaves))
 
     pub sheet-built : (a : BuildAnswer) (ks′ fs′ ss′ : List ℕ)
         → ((g : Formula) → Dwarfed g k f e b → Built (giving g (length ks) (length fs) (length ss)) ks fs ss a ks′ fs′ ss′)
@@ -79,5 +79,5 @@ module _ (s codes k f e ks fs ss : List ℕ) (r : Prepared) (says : Says s codes
     sheet-built a ks′ fs′ ss′ gives =
         let st = stands .1 in
         let g = stands .0 .formula in
-        let is-so : building s (length ks) (length fs) (length ss) ≡ giving g (length ks) (length fs) (length ss) = rw (st .is) in
+        let is-so : building s (length ks) (length fs) (length ss) ≡ giving g (length ks) (length fs) (length ss) = rw (st .coded .is) in
         rw is-so (gives g (st .built))

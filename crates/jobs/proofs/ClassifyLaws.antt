@@ -8,16 +8,15 @@ use lib.ListN.{length, take}
 use Rattle.outcome.specs.Outcome.{Outcome, given, refused}
 use Rattle.formula.specs.Formula.{Formula, postfix, Over}
 use Rattle.sheet.specs.Sheet.{Sheet}
-use Rattle.dwarf.specs.declared.Built.{Built as Numbers}
 use Rattle.lines.specs.Lines.{Wall, classified}
 use Rattle.walls.specs.Classified as walls
 use Rattle.walls.specs.Classified.{answered}
 use Rattle.walls.specs.declared.LinesAnswer.{LinesAnswer}
 use Rattle.walls.specs.declared.LinesAnswer.the-variants as lines
 use Rattle.accepting.specs.Accepting.{accepted}
-use Rattle.accepting.specs.Prepared.{Stands, Says}
-use Rattle.accepting.specs.declared.Prepared.{Prepared}
-use Rattle.accepting.specs.declared.Prepared.the-variants as prepared
+use Rattle.accepting.specs.Prepared.{Coded, SaysCoded}
+use Rattle.accepting.specs.declared.Acceptance.{Acceptance}
+use Rattle.accepting.specs.declared.Acceptance.the-variants as acceptance
 use Rattle.jobs.specs.Classifying.{classifying}
 use Rattle.jobs.specs.Answer.{classifiedOf, Classified}
 use Rattle.jobs.specs.declared.ClassifyAnswer.{ClassifyAnswer}
@@ -28,18 +27,18 @@ pub classifying-accepted : (ls : List ℕ) (ps : List ℤ) (ss : List ℕ) (a b 
 unfolding classifying
 classifying-accepted ls ps ss a b c s x is = rw is
 
-module _ (s codes k f e : List ℕ) (ls : List ℕ) (ps : List ℤ) (ss : List ℕ) (wl : List ℕ) (ws we : List ℤ) (r : Prepared) (says : Says s codes k f e r) where
+module _ (s codes : List ℕ) (ls : List ℕ) (ps : List ℤ) (ss : List ℕ) (wl : List ℕ) (ws we : List ℤ) (r : Acceptance) (says : SaysCoded s codes r) where
   abbrev job : Outcome (List Wall)
   job = classifying s ls ps ss (length wl) (length ws) (length we)
 
-  pub sheet-refused : (number place : ℕ) → r ≡ prepared.Refused number place → Classified job wl ws we (classify.Refused number place) wl ws we
+  pub sheet-refused : (number place : ℕ) → r ≡ acceptance.Refused number place → Classified job wl ws we (classify.Refused number place) wl ws we
   unfolding classifying
   sheet-refused number place is =
       let a : accepted s ≡ refused number place = rw is at says in
       record { answer = rw a; lines-list = rw a; starts-list = rw a; ends-list = rw a }
 
-  module _ (names n : ℕ) (b : Numbers) (is : r ≡ prepared.Ready names n b) where
-    stands : (x : Sheet) × Stands s x names n b codes k f e
+  module _ (names n : ℕ) (is : r ≡ acceptance.Given names n) where
+    stands : (x : Sheet) × Coded s x names n codes
     stands = rw is at says
 
     pub few-names : names ≤ 256

@@ -105,7 +105,7 @@ module _ (s codes k f e ts rs cs ls : List ℕ) (r : Prepared) (says : Says s co
     stands = rw is at says
 
     pub few-names : names ≤ 256
-    few-names = let st = stands .1 in omega (arith, st .names-are, st .facts .good-names .few)
+    few-names = let st = stands .1 in omega (arith, st .coded .names-are, st .coded .facts .good-names .few)
 
     holds : Holds k f e (b .leaves) (b .nodes) (stands .0 .formula)
     holds =
@@ -113,8 +113,8 @@ module _ (s codes k f e ts rs cs ls : List ℕ) (r : Prepared) (says : Says s co
         record {
           leaves-are = st .built .leaves-are;
           nodes-are = st .built .nodes-are;
-          few = st .facts .few-leaves;
-          named = over-more (stands .0 .formula) _ 256 (st .facts .good-names .few) (st .facts .over);
+          few = st .coded .facts .few-leaves;
+          named = over-more (stands .0 .formula) _ 256 (st .coded .facts .good-names .few) (st .coded .facts .over);
           kinds-are = st .built .kinds-are;
           firsts-are = st .built .firsts-are;
           seconds-are = st .built .seconds-are;
@@ -130,5 +130,5 @@ module _ (s codes k f e ts rs cs ls : List ℕ) (r : Prepared) (says : Says s co
         let st = stands .1 in
         let g = stands .0 .formula in
         let is-so : running s ts (length rs) (length cs) (length ls) ≡ toggling g names ts (length rs) (length cs) (length ls) =
-        running-accepted ts (length rs) (length cs) (length ls) s (stands .0) (st .is) ∙ ap (λ m. toggling g m ts (length rs) (length cs) (length ls)) (sym (st .names-are)) in
+        running-accepted ts (length rs) (length cs) (length ls) s (stands .0) (st .coded .is) ∙ ap (λ m. toggling g m ts (length rs) (length cs) (length ls)) (sym (st .coded .names-are)) in
         rw is-so (gives g holds)

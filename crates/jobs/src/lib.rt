@@ -1,4 +1,5 @@
 // The jobs that a host or a program calls. None asks anything of its caller; each is promised by one record of specs/.
+use accepting::Acceptance;
 use accepting::Prepared;
 use accepting::Rooms;
 use dwarf::Built;
@@ -202,16 +203,9 @@ pub fn classify(
         (now («wall_lines» .entry)) (now (starts .entry)) (now (ends .entry)) r (now («wall_lines» .exit)) (now (starts .exit)) (now (ends .exit)) ⌝ }
 {
     let mut codes = [0u16; 2048];
-    let mut k = [0u16; 3072];
-    let mut f = [0u16; 3072];
-    let mut s = [0u16; 3072];
-    match accepting::prepare(sheet, &mut codes, &mut k, &mut f, &mut s) {
-        Prepared::Refused { number, place } => ClassifyAnswer::Refused { number, place },
-        Prepared::Ready {
-            names,
-            codes: n,
-            built: _,
-        } => match walls::classify(
+    match accepting::accept(sheet, &mut codes) {
+        Acceptance::Refused { number, place } => ClassifyAnswer::Refused { number, place },
+        Acceptance::Given { names, codes: n } => match walls::classify(
             &codes,
             n,
             names,

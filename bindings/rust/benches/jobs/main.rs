@@ -61,7 +61,7 @@ fn heading() {
     println!(
         "Nanoseconds an item, the best of many turns: an item is a leaf for read and build, a toggle for run, a crossing for classify."
     );
-    println!("Each time is of a whole call, which for run and classify includes reading the sheet and contracting its formula.\n");
+    println!("Each time is of a whole call: run and classify include reading the sheet, and run and `walk` contracting its formula.\n");
     println!("- `library`: the proved library, called through the Rust crate.");
     println!("- `plain`: safe Rust of the same method.");
     println!("- `walk`: plain Rust that flips leaves and walks up the contracted tree at each crossing.");

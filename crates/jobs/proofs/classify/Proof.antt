@@ -4,8 +4,8 @@ use borrow.Author.Needs.{needs}
 use Rattle.jobs.proofs.classify.Statement.{statement}
 use Rattle.jobs.proofs.classify.Tie as tie
 
-prepare-requires : tie.Need-prepare-requires
-prepare-requires c κs = search needs
+accept-requires : tie.Need-accept-requires
+accept-requires c κs = search needs
 
 enum-known-number : tie.Need-enum-known-number
 enum-known-number c = search needs
@@ -53,7 +53,7 @@ pub classify-spec : {M : Type 1} → statement M
 classify-spec =
     tie.close
     (tie.spec
-    prepare-requires
+    accept-requires
     enum-known-number
     enum-known-names
     classify-requires
