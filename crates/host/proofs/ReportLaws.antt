@@ -37,9 +37,7 @@ module _ {o : Outcome Formula} {ks fs ss : List ℕ} {a : BuildAnswer} {ks′ fs
   build-as v is =
       record {
         report = ap buildReport (sym is ∙ built .answer);
-        kinds-list = built .kinds-list;
-        firsts-list = built .firsts-list;
-        seconds-list = built .seconds-list;
+        lists = built .lists;
       }
 
   pub build-reported : {l n r h : ℕ} → a ≡ build.Built l n r h → Built o ks fs ss (buildReport (given (summary l n r h))) ks′ fs′ ss′
@@ -53,9 +51,7 @@ module _ {o : Outcome Formula} {ts rs cs ls : List ℕ} {a : RunAnswer} {rs′ c
   run-as v is =
       record {
         report = ap runReport (sym is ∙ ran .answer);
-        roots-list = ran .roots-list;
-        counts-list = ran .counts-list;
-        labels-list = ran .labels-list;
+        lists = ran .lists;
       }
 
   pub run-reported : {n : ℕ} → a ≡ run.Ran n → Ran o ts rs cs ls (runReport (given n)) rs′ cs′ ls′
@@ -69,9 +65,7 @@ module _ {o : Outcome (List Wall)} {wl : List ℕ} {ws we : List ℤ} {a : Class
   classify-as v is =
       record {
         report = ap classifyReport (sym is ∙ done .answer);
-        lines-list = done .lines-list;
-        starts-list = done .starts-list;
-        ends-list = done .ends-list;
+        lists = done .lists;
       }
 
   pub classify-reported : {n : ℕ} → a ≡ classify.Walls n → Classified o wl ws we (classifyReport (given n)) wl′ ws′ we′

@@ -2,21 +2,16 @@
 -- A report has number 0, place 0 and the values; or the refusal's number and place, and no values.
 use Prim.Native.Nat.{ℕ}
 use mathlib.Core.Path.{_≡_}
-use mathlib.Core.List.{List, map}
+use mathlib.Core.List.{List}
 use lib.IntN.{ℤ}
 use lib.ListN.{length}
 use Rattle.outcome.specs.Outcome.{Outcome, given, refused, part}
-use Rattle.outcome.specs.Lent.{afterCall}
 use Rattle.formula.specs.Formula.{Formula}
-use Rattle.formula.specs.States.{toggledBy}
 use Rattle.contraction.specs.Rounds.{dwarf}
 use Rattle.sheet.specs.Answer.{Numbers, numbers}
-use Rattle.dwarf.specs.Dwarfed.{kindsOf, firstsOf, secondsOf}
-use Rattle.labels.specs.Labels.{labels as labelsOf}
-use Rattle.toggles.specs.Toggles.{toggleRun}
-use Rattle.toggles.specs.Demand.{roots as rootsOf}
 use Rattle.lines.specs.Lines.{Wall}
 use Rattle.jobs.specs.Building.{Summary, summary, summaryOf}
+use Rattle.jobs.specs.Answer.{BuiltLists, RanLists, WallLists}
 use Rattle.host.specs.declared.ReadReport.{ReadReport}
 use Rattle.host.specs.declared.BuildReport.{BuildReport}
 use Rattle.host.specs.declared.RunReport.{RunReport}
@@ -45,18 +40,12 @@ classifyReport (refused number place) = record { number = number; place = place;
 -- Of the job's outcome and the lists as lent: the report r, and the lists after the call.
 pub record Built (o : Outcome Formula) (kinds firsts seconds : List ℕ) (r : BuildReport) (kinds′ firsts′ seconds′ : List ℕ) : Type 0 where
   pub report : r ≡ buildReport (part summaryOf o)
-  pub kinds-list : kinds′ ≡ afterCall (part (λ f. kindsOf (dwarf f)) o) kinds
-  pub firsts-list : firsts′ ≡ afterCall (part (λ f. firstsOf (dwarf f)) o) firsts
-  pub seconds-list : seconds′ ≡ afterCall (part (λ f. secondsOf (dwarf f)) o) seconds
+  pub lists : BuiltLists o kinds firsts seconds kinds′ firsts′ seconds′
 
 pub record Ran (o : Outcome Formula) (toggles roots counts labels : List ℕ) (r : RunReport) (roots′ counts′ labels′ : List ℕ) : Type 0 where
   pub report : r ≡ runReport (part (λ f. length (dwarf f)) o)
-  pub roots-list : roots′ ≡ afterCall (part (λ f. rootsOf f toggles) o) roots
-  pub counts-list : counts′ ≡ afterCall (part (λ f. toggleRun f toggles .counts) o) counts
-  pub labels-list : labels′ ≡ afterCall (part (λ f. labelsOf (toggledBy toggles) (dwarf f)) o) labels
+  pub lists : RanLists o toggles roots counts labels roots′ counts′ labels′
 
 pub record Classified (o : Outcome (List Wall)) (lines : List ℕ) (starts ends : List ℤ) (r : ClassifyReport) (lines′ : List ℕ) (starts′ ends′ : List ℤ) : Type 0 where
   pub report : r ≡ classifyReport (part length o)
-  pub lines-list : lines′ ≡ afterCall (part (map (λ (w : Wall). w .line)) o) lines
-  pub starts-list : starts′ ≡ afterCall (part (map (λ (w : Wall). w .start)) o) starts
-  pub ends-list : ends′ ≡ afterCall (part (map (λ (w : Wall). w .end)) o) ends
+  pub lists : WallLists o lines starts ends lines′ starts′ ends′

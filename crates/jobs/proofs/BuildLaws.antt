@@ -27,7 +27,7 @@ use Rattle.jobs.specs.declared.BuildAnswer.the-variants as build
 build-refused : (o : Outcome Formula) (ks fs ss : List ℕ) (number place : ℕ) → o ≡ refused number place
     → Built o ks fs ss (build.Refused number place) ks fs ss
 build-refused o ks fs ss number place is =
-    record { answer = rw is; kinds-list = rw is; firsts-list = rw is; seconds-list = rw is }
+    record { answer = rw is; lists = record { kinds-list = rw is; firsts-list = rw is; seconds-list = rw is } }
 
 summary-is : (g : Formula) (k f e : List ℕ) (b : Numbers) → Dwarfed g k f e b → summary (b .leaves) (b .nodes) (b .rounds) (b .height) ≡ summaryOf g
 summary-is g k f e b d = rw (d .leaves-are, d .nodes-are, d .rounds-are, d .height-is)
@@ -51,9 +51,12 @@ module _ (k f e : List ℕ) (b : Numbers) (ks fs ss : List ℕ) (q : Rooms)
       let is : giving g (length ks) (length fs) (length ss) ≡ given g = giving-is g d (given tt) (ap roomsOf enough) in
       record {
         answer = rw is (ap given (summary-is g k f e b d));
-        kinds-list = rw is (hk ∙ ap (λ new. filled new ks) (d .kinds-are));
-        firsts-list = rw is (hf ∙ ap (λ new. filled new fs) (d .firsts-are));
-        seconds-list = rw is (hs ∙ ap (λ new. filled new ss) (d .seconds-are));
+        lists =
+            record {
+              kinds-list = rw is (hk ∙ ap (λ new. filled new ks) (d .kinds-are));
+              firsts-list = rw is (hf ∙ ap (λ new. filled new fs) (d .firsts-are));
+              seconds-list = rw is (hs ∙ ap (λ new. filled new ss) (d .seconds-are));
+            };
       }
 
 -- the sheet is refused, or stands in the arrays

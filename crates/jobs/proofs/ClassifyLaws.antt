@@ -35,7 +35,7 @@ module _ (s codes : List ℕ) (ls : List ℕ) (ps : List ℤ) (ss : List ℕ) (w
   unfolding classifying
   sheet-refused number place is =
       let a : accepted s ≡ refused number place = rw is at says in
-      record { answer = rw a; lines-list = rw a; starts-list = rw a; ends-list = rw a }
+      record { answer = rw a; lists = record { lines-list = rw a; starts-list = rw a; ends-list = rw a } }
 
   module _ (names n : ℕ) (is : r ≡ acceptance.Given names n) where
     stands : (x : Sheet) × Coded s x names n codes
@@ -65,9 +65,12 @@ module _ (s codes : List ℕ) (ls : List ℕ) (ps : List ℤ) (ss : List ℕ) (w
           let c = given-walls in
           record {
             answer = rw job-is (same ∙ c .answer);
-            lines-list = rw job-is (c .lines);
-            starts-list = rw job-is (c .starts);
-            ends-list = rw job-is (c .ends);
+            lists =
+                record {
+                  lines-list = rw job-is (c .lines);
+                  starts-list = rw job-is (c .starts);
+                  ends-list = rw job-is (c .ends);
+                };
           }
 
       pub lines-walls : (count : ℕ) → a ≡ lines.Walls count → Classified job wl ws we (classify.Walls count) wl′ ws′ we′

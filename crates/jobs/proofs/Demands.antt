@@ -48,7 +48,7 @@ module _ (o : Outcome Formula) (number place : ℕ) where
       → (o ≡ refused number place) × (ks′ ≡ ks) × (fs′ ≡ fs) × (ss′ ≡ ss)
   build-refusal ks fs ss ks′ fs′ ss′ b =
       let is = part-refused summaryOf o number place (b .answer) in
-      (is, rw is at (b .kinds-list), rw is at (b .firsts-list), rw is at (b .seconds-list))
+      (is, rw is at (b .lists .kinds-list), rw is at (b .lists .firsts-list), rw is at (b .lists .seconds-list))
 
   pub build-refuses : (ks fs ss : List ℕ) (r : BuildAnswer) (ks′ fs′ ss′ : List ℕ) → Built o ks fs ss r ks′ fs′ ss′ → o ≡ refused number place → r ≡ build.Refused number place
   build-refuses ks fs ss r ks′ fs′ ss′ b is = builtOf-same r (build.Refused number place) (b .answer ∙ ap (part summaryOf) is)
@@ -57,7 +57,7 @@ module _ (o : Outcome Formula) (number place : ℕ) where
       → (o ≡ refused number place) × (rs′ ≡ rs) × (cs′ ≡ cs) × (ls′ ≡ ls)
   run-refusal ts rs cs ls rs′ cs′ ls′ r =
       let is = part-refused (λ f. length (dwarf f)) o number place (r .answer) in
-      (is, rw is at (r .roots-list), rw is at (r .counts-list), rw is at (r .labels-list))
+      (is, rw is at (r .lists .roots-list), rw is at (r .lists .counts-list), rw is at (r .lists .labels-list))
 
   pub run-refuses : (ts rs cs ls : List ℕ) (r : RunAnswer) (rs′ cs′ ls′ : List ℕ) → Ran o ts rs cs ls r rs′ cs′ ls′ → o ≡ refused number place → r ≡ run.Refused number place
   run-refuses ts rs cs ls r rs′ cs′ ls′ a is = ranOf-same r (run.Refused number place) (a .answer ∙ ap (part (λ f. length (dwarf f))) is)
@@ -67,7 +67,7 @@ module _ (o : Outcome (List Wall)) (number place : ℕ) (ls : List ℕ) (ss es :
       → (o ≡ refused number place) × (ls′ ≡ ls) × (ss′ ≡ ss) × (es′ ≡ es)
   classify-refusal ls′ ss′ es′ c =
       let is = part-refused length o number place (c .answer) in
-      (is, rw is at (c .lines-list), rw is at (c .starts-list), rw is at (c .ends-list))
+      (is, rw is at (c .lists .lines-list), rw is at (c .lists .starts-list), rw is at (c .lists .ends-list))
 
   pub classify-refuses : (r : ClassifyAnswer) (ls′ : List ℕ) (ss′ es′ : List ℤ) → Classified o ls ss es r ls′ ss′ es′ → o ≡ refused number place → r ≡ classify.Refused number place
   classify-refuses r ls′ ss′ es′ c is = classifiedOf-same r (classify.Refused number place) (c .answer ∙ ap (part length) is)
@@ -148,7 +148,7 @@ module _ (s : List ℕ) (x : Sheet) (is : accepted s ≡ given x) (ts rs cs ls :
   pub root-after-toggle : (i : ℕ) → i < length ts → getD rs′ i 0 ≡ bit (inside (x .formula) (toggledBy (take (i + 1) ts)))
   root-after-toggle i h =
       let f = x .formula in
-      let listed : rs′ ≡ filled (rootsOf f ts) rs = rw (answered .0) at (ran .roots-list) in
+      let listed : rs′ ≡ filled (rootsOf f ts) rs = rw (answered .0) at (ran .lists .roots-list) in
       let long : length (rootsOf f ts) ≡ length ts = ap length (sym (run-roots f ts)) ∙ length-roots _ _ ts in
       ap (λ l. getD l i 0) listed ∙ List·getD-append (rootsOf f ts) _ 0 i (omega arith) ∙ rw add-one (roots-at f [] ts i h)
 
@@ -156,7 +156,7 @@ module _ (s : List ℕ) (x : Sheet) (is : accepted s ≡ given x) (ts rs cs ls :
   pub count-of-toggle : (i : ℕ) → i < length ts → getD cs′ i 0 ≡ getD (toggleRun (x .formula) ts .counts) i 0
   count-of-toggle i h =
       let f = x .formula in
-      let listed : cs′ ≡ filled (toggleRun f ts .counts) cs = rw (answered .0) at (ran .counts-list) in
+      let listed : cs′ ≡ filled (toggleRun f ts .counts) cs = rw (answered .0) at (ran .lists .counts-list) in
       ap (λ l. getD l i 0) listed ∙ List·getD-append (toggleRun f ts .counts) _ 0 i (omega (arith, length-counts (dwarf f) (labelsOf outside (dwarf f)) ts))
 
   -- and is at most the leaves of that shape times the contracted tree's height.
@@ -167,7 +167,7 @@ module _ (s : List ℕ) (x : Sheet) (is : accepted s ≡ given x) (ts rs cs ls :
   pub label-afresh : (d : ℕ) → d < nodes → getD ls′ d 0 ≡ getD (labelsOf (toggledBy ts) (dwarf (x .formula))) d 0
   label-afresh d h =
       let f = x .formula in
-      let listed : ls′ ≡ filled (labelsOf (toggledBy ts) (dwarf f)) ls = rw (answered .0) at (ran .labels-list) in
+      let listed : ls′ ≡ filled (labelsOf (toggledBy ts) (dwarf f)) ls = rw (answered .0) at (ran .lists .labels-list) in
       ap (λ l. getD l d 0) listed ∙ List·getD-append (labelsOf (toggledBy ts) (dwarf f)) _ 0 d (omega (arith, answered .1, length-labels (toggledBy ts) (dwarf f)))
 
 -- Two toggle lists in which each shape is toggled an odd number of times in both or an even number in both leave the same label at every node.
@@ -206,4 +206,4 @@ pub walls-listed : (o : Outcome (List Wall)) (ls : List ℕ) (ss es : List ℤ) 
     × (ls′ ≡ filled (map (λ (w : Wall). w .line) ws) ls) × (ss′ ≡ filled (map (λ (w : Wall). w .start) ws) ss) × (es′ ≡ filled (map (λ (w : Wall). w .end) ws) es)
 walls-listed o ls ss es n ls′ ss′ es′ c =
     let a = part-given length o n (c .answer) in
-    (a .0, a .1, sym (a .2), rw (a .1) at (c .lines-list), rw (a .1) at (c .starts-list), rw (a .1) at (c .ends-list))
+    (a .0, a .1, sym (a .2), rw (a .1) at (c .lists .lines-list), rw (a .1) at (c .lists .starts-list), rw (a .1) at (c .lists .ends-list))

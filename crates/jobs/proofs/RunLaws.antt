@@ -30,7 +30,7 @@ use Rattle.jobs.specs.declared.RunAnswer.the-variants as run
 
 run-refused : (o : Outcome Formula) (ts rs cs ls : List ℕ) (number place : ℕ) → o ≡ refused number place → Ran o ts rs cs ls (run.Refused number place) rs cs ls
 run-refused o ts rs cs ls number place is =
-    record { answer = rw is; roots-list = rw is; counts-list = rw is; labels-list = rw is }
+    record { answer = rw is; lists = record { roots-list = rw is; counts-list = rw is; labels-list = rw is } }
 
 firstWrong-most : (names : ℕ) (ts : List ℕ) → firstWrong names ts ≤ length ts
 firstWrong-most names [] = omega arith
@@ -81,9 +81,12 @@ module _ (names nodes : ℕ) (ts rs cs ls : List ℕ) (w : ℕ) (first : w ≡ f
       let r = ran g h in
       record {
         answer = rw is (ap given (h .nodes-are));
-        roots-list = rw is (r .roots-are);
-        counts-list = rw is (r .counts-are);
-        labels-list = rw is (r .labels-are);
+        lists =
+            record {
+              roots-list = rw is (r .roots-are);
+              counts-list = rw is (r .counts-are);
+              labels-list = rw is (r .labels-are);
+            };
       }
 
 running-accepted : (ts : List ℕ) (roots counts labels : ℕ) (s : List ℕ) (x : Sheet) → accepted s ≡ given x

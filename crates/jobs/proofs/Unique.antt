@@ -65,9 +65,9 @@ pub build-unique : (o : Outcome Formula) (ks fs ss : List ℕ) (r q : BuildAnswe
     → (r ≡ q) × (ks₁ ≡ ks₂) × (fs₁ ≡ fs₂) × (ss₁ ≡ ss₂)
 build-unique o ks fs ss r q ks₁ fs₁ ss₁ ks₂ fs₂ ss₂ a b = (
   builtOf-same r q (a .answer ∙ sym (b .answer)),
-  a .kinds-list ∙ sym (b .kinds-list),
-  a .firsts-list ∙ sym (b .firsts-list),
-  a .seconds-list ∙ sym (b .seconds-list),
+  a .lists .kinds-list ∙ sym (b .lists .kinds-list),
+  a .lists .firsts-list ∙ sym (b .lists .firsts-list),
+  a .lists .seconds-list ∙ sym (b .lists .seconds-list),
 )
 
 pub run-unique : (o : Outcome Formula) (ts rs cs ls : List ℕ) (r q : RunAnswer) (rs₁ cs₁ ls₁ rs₂ cs₂ ls₂ : List ℕ)
@@ -75,9 +75,9 @@ pub run-unique : (o : Outcome Formula) (ts rs cs ls : List ℕ) (r q : RunAnswer
     → (r ≡ q) × (rs₁ ≡ rs₂) × (cs₁ ≡ cs₂) × (ls₁ ≡ ls₂)
 run-unique o ts rs cs ls r q rs₁ cs₁ ls₁ rs₂ cs₂ ls₂ a b = (
   ranOf-same r q (a .answer ∙ sym (b .answer)),
-  a .roots-list ∙ sym (b .roots-list),
-  a .counts-list ∙ sym (b .counts-list),
-  a .labels-list ∙ sym (b .labels-list),
+  a .lists .roots-list ∙ sym (b .lists .roots-list),
+  a .lists .counts-list ∙ sym (b .lists .counts-list),
+  a .lists .labels-list ∙ sym (b .lists .labels-list),
 )
 
 pub classify-unique : (o : Outcome (List Wall)) (ls : List ℕ) (ss es : List ℤ) (r q : ClassifyAnswer) (ls₁ : List ℕ) (ss₁ es₁ : List ℤ) (ls₂ : List ℕ) (ss₂ es₂ : List ℤ)
@@ -85,7 +85,7 @@ pub classify-unique : (o : Outcome (List Wall)) (ls : List ℕ) (ss es : List �
     → (r ≡ q) × (ls₁ ≡ ls₂) × (ss₁ ≡ ss₂) × (es₁ ≡ es₂)
 classify-unique o ls ss es r q ls₁ ss₁ es₁ ls₂ ss₂ es₂ a b = (
   classifiedOf-same r q (a .answer ∙ sym (b .answer)),
-  a .lines-list ∙ sym (b .lines-list),
-  a .starts-list ∙ sym (b .starts-list),
-  a .ends-list ∙ sym (b .ends-list),
+  a .lists .lines-list ∙ sym (b .lists .lines-list),
+  a .lists .starts-list ∙ sym (b .lists .starts-list),
+  a .lists .ends-list ∙ sym (b .lists .ends-list),
 )
