@@ -18,7 +18,7 @@ use Rattle.toggles.specs.Ran as toggled
 use Rattle.toggles.specs.Ran.{firstWrong, Room}
 use Rattle.toggles.proofs.RanLaws.{none-wrong}
 use Rattle.accepting.specs.Accepting.{accepted, rooms}
-use Rattle.accepting.specs.Prepared.{Stands, Says, roomsOf, Judged, Roomy}
+use Rattle.accepting.specs.Prepared.{Stands, Says, roomsOf, Judged}
 use Rattle.accepting.specs.declared.Prepared.{Prepared}
 use Rattle.accepting.specs.declared.Prepared.the-variants as prepared
 use Rattle.accepting.specs.declared.Rooms.{Rooms}
@@ -52,13 +52,13 @@ all-known : (names : ℕ) (ts : List ℕ) (w : ℕ) → w ≡ firstWrong names t
 all-known names ts w first past = let most = firstWrong-most names ts in omega arith
 
 -- there is room for the run
-pub run-roomy : (ts rs cs : List ℕ) (nodes long : ℕ) → Roomy (length ts) (length rs) (length ts) (length cs) nodes long
+pub run-roomy : (ts rs cs : List ℕ) → length ts ≤ length rs → length ts ≤ length cs
     → (names w : ℕ) → w ≡ firstWrong names ts → length ts ≤ w → names ≤ 256 → Room ts rs cs
-run-roomy ts rs cs nodes long roomy names w first past few =
+run-roomy ts rs cs for-roots for-counts names w first past few =
     record {
       named = λ i h. let below = none-wrong names ts (all-known names ts w first past) i h in omega arith;
-      for-roots = roomy .first;
-      for-counts = roomy .second;
+      for-roots = for-roots;
+      for-counts = for-counts;
     }
 
 -- every toggle is a shape of the sheet; the answer lists are judged, and the run is given

@@ -4,7 +4,7 @@ use native.Mathlib.Omega.{arith}
 use native.Mathlib.Numerals.{add-one, add-two}
 use native.Mathlib.Nat.{add-assoc, add-zero}
 use mathlib.Core.Path.{_≡_, refl, sym, ap, _∙_}
-use mathlib.Core.Bool.{Bool, true, false, cond, _&&_}
+use mathlib.Core.Bool.{Bool, true, false, cond, _&&_, and-false}
 use mathlib.Core.List.{List, [], _∷_, _++_, append-assoc, append-nil}
 use mathlib.Core.Option.{Option, none, some}
 use lib.ListN.{length, take, drop, set, length-set, drop-of-length-le}
@@ -127,8 +127,8 @@ module _ (n tag first : ℕ) (p : List ℕ) (i w l : ℕ) (all : Outcome ℕ) (i
     pub count-high : n ≤ c → 0xFFF3 < c → refused 7 (first + i) ≡ all
     count-high h high = sym (count-more ∙ rw (le-ltb c n h, operation-high c high))
 
-    pub count-few : n ≤ c → 0xFFF0 ≤ c → c ≤ 0xFFF3 → w < 2 → refused 7 (first + i) ≡ all
-    count-few h low high k = sym (count-more ∙ rw (le-ltb c n h, operation-yes c low high, lt-leb 2 w k))
+    pub count-few : n ≤ c → w < 2 → refused 7 (first + i) ≡ all
+    count-few h k = sym (count-more ∙ rw (le-ltb c n h, lt-leb 2 w k, and-false))
 
   module _ (done : length p ≤ i) where
     pub count-one : w ≡ 1 → given l ≡ all

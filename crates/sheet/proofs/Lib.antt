@@ -6,6 +6,7 @@ pub mod Cases
 pub mod Prefixes
 pub mod NameSteps
 pub mod CodeSteps
+pub mod Bounds
 pub mod Asked
 pub mod Reading
 pub mod Told

@@ -3,7 +3,7 @@ use Prim.Native.Nat.{ℕ, zero, suc, _+_, _-_, _≤_, _<_}
 use native.Mathlib.Omega.{arith}
 use native.Mathlib.Numerals.{add-one}
 use mathlib.Core.Path.{_≡_, refl, sym, ap, _∙_}
-use mathlib.Core.Bool.{Bool, true, false, _&&_, _||_}
+use mathlib.Core.Bool.{Bool, true, false, _&&_, _||_, and-false}
 use mathlib.Core.List.{List, [], _∷_, map}
 use lib.ListN.{length, getD, take, drop, drop-of-length-le}
 use lib.Seq.{drop-cons, getD-take, length-take-le}
@@ -24,8 +24,8 @@ module _ (b : List ℕ) (i : ℕ) (inv : allGood b ≡ allGood (drop i b)) where
   pub good-low : i < length b → getD b i 0 < 0x21 → false ≡ allGood b
   good-low h l = sym (good-more h ∙ rw (lt-leb 0x21 (getD b i 0) l))
 
-  pub good-high : i < length b → 0x21 ≤ getD b i 0 → 0x7E < getD b i 0 → false ≡ allGood b
-  good-high h l k = sym (good-more h ∙ rw (le-leb 0x21 (getD b i 0) l, lt-leb (getD b i 0) 0x7E k))
+  pub good-high : i < length b → 0x7E < getD b i 0 → false ≡ allGood b
+  good-high h k = sym (good-more h ∙ rw (lt-leb (getD b i 0) 0x7E k, and-false))
 
   pub good-on : i < length b → 0x21 ≤ getD b i 0 → getD b i 0 ≤ 0x7E → allGood b ≡ allGood (drop (i + 1) b)
   good-on h l k = good-more h ∙ rw (le-leb 0x21 (getD b i 0) l, le-leb (getD b i 0) 0x7E k)

@@ -115,7 +115,3 @@ module _ (ks fs ss : List ℕ) (leaves nodes : ℕ) (sh : Shaped ks fs ss leaves
 
       pub toggling-on : Toggling ks fs ss leaves nodes s l₀ b ms (n + m)
       toggling-on = record { from = suc a; inside = h; here = next-is; few = toggling-few; same = at-leaf }
-
-      pub toggling-up : a < b
-      toggling-up =
-          ⊎-elim (λ e. omega (arith, e, next-is, sh .few)) (λ z. omega (arith, z .1, next-is)) (found ks fs ss (isOf s) (nodes - suc a) (suc a))

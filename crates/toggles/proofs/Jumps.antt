@@ -11,8 +11,8 @@ use lib.ListN.{getD, set, take}
 use lib.Seq.{getD-take, take-set-lt}
 use Rattle.formula.specs.States.{outside}
 use Rattle.contraction.specs.Records.{Rec, over}
-use Rattle.labels.specs.Labels.{label}
-use Rattle.labels.specs.Steps.{recAt, recs, seek, Shaped}
+use Rattle.labels.specs.Labels.{label, isOf}
+use Rattle.labels.specs.Steps.{recAt, recs, seek, Shaped, Parents, Chains}
 use Rattle.labels.proofs.Rules.{label-local}
 use Rattle.labels.proofs.Fills.{seek-here, seek-past, seek-none, recs-more}
 use Rattle.toggles.specs.Toggles.{Steps, steps, reworked, walk, toggle}
@@ -85,9 +85,12 @@ module _ (ks fs ss : List ℕ) (nodes : ℕ) where
     pub few : n ≤ node
     pub same : walk (later c₀) (suc c₀) c₀ (take nodes l₀) ≡ plus n (walk (later node) (suc node) node (take nodes ls))
 
+pub nearer : (m c b : ℕ) → c < m → c < b → m - b < m - c
+nearer m c b h l = omega arith
+
 module _ (ks fs ss : List ℕ) (leaves nodes : ℕ) (sh : Shaped ks fs ss leaves nodes) where
   -- a record that stands over c comes after it
-  pub parent-later : (c : ℕ) → c < nodes → seek (over c) 0 (recs ks fs ss 0 nodes) ≡ seek (over c) (suc c) (later ks fs ss nodes c)
+  parent-later : (c : ℕ) → c < nodes → seek (over c) 0 (recs ks fs ss 0 nodes) ≡ seek (over c) (suc c) (later ks fs ss nodes c)
   parent-later c h =
       let e : nodes ≡ suc c + (nodes - suc c) = omega arith in
       let z : 0 + suc c ≡ suc c = omega arith in
@@ -97,8 +100,19 @@ module _ (ks fs ss : List ℕ) (leaves nodes : ℕ) (sh : Shaped ks fs ss leaves
       before : (i : ℕ) → i < suc c → over c (recAt ks fs ss i) ≡ false
       before i b = cases (over c (recAt ks fs ss i)) (λ q. absurd (omega (arith, sh .below i c (omega arith) q))) (λ q. q)
 
-  pub parent-above : (c : ℕ) → c < nodes → c < seek (over c) (suc c) (later ks fs ss nodes c)
-  parent-above c h = ⊎-elim (λ e. omega (arith, e, sh .room)) (λ w. omega (arith, w .1)) (found ks fs ss (over c) (nodes - suc c) (suc c))
+  -- what is looked for after c is found after it, and 65535, where nothing is found, is larger too
+  sought-after : (p : Rec → Bool) (c : ℕ) → c < nodes → c < seek p (suc c) (later ks fs ss nodes c)
+  sought-after p c h = ⊎-elim (λ e. omega (arith, e, sh .room)) (λ w. omega (arith, w .1)) (found ks fs ss p (nodes - suc c) (suc c))
+
+  -- a node's parent and the next leaf of a leaf's shape have larger numbers, so a loop that goes on to either ends
+  pub parent-after : (ps : List ℕ) → Parents ks fs ss nodes ps → (c b : ℕ) → c < nodes → b ≡ getD ps c 0 → c < b
+  parent-after ps up c b h e = omega (arith, e ∙ up .up c h ∙ parent-later c h, sought-after (over c) c h)
+
+  pub leaf-node : (c : ℕ) → c < leaves → c < nodes
+  leaf-node c h = omega (arith, sh .within)
+
+  pub next-after : (hs ns : List ℕ) → Chains ks fs ss leaves nodes hs ns → (c b : ℕ) → c < leaves → b ≡ getD ns c 0 → c < b
+  next-after hs ns ch c b h e = omega (arith, e ∙ ch .next c h, sought-after (isOf (getD fs c 0)) c (leaf-node c h))
 
   -- a label worked out on the whole array is worked out on its first entries
   same-label : (ls : List ℕ) (p : ℕ) → p < nodes → reworked (take nodes ls) (recAt ks fs ss p) ≡ label outside ls (recAt ks fs ss p)
@@ -151,10 +165,12 @@ module _ (ks fs ss : List ℕ) (leaves nodes : ℕ) (sh : Shaped ks fs ss leaves
           node = p;
           inside = h;
           up = u ∙ parent-later p h;
-          few = omega (arith, g .few, g .up, parent-above (g .node) (g .inside));
+          few = omega (arith, g .few, g .up, sought-after (over (g .node)) (g .node) (g .inside));
           same =
               a .1 ∙ ap (plus n) (walk-on r (later ks fs ss nodes p) p (g .node) (take nodes ls) (a .0)
               (ne-eqb _ _ (λ z. o (e ∙ sym (same-label ls p h) ∙ z ∙ getD-take nodes ls p 0 h)))
               ∙ ap (λ ms. steps (walk (later ks fs ss nodes p) (suc p) p ms .labels) (suc (walk (later ks fs ss nodes p) (suc p) p ms .count))) new)
               ∙ ap (steps (walk (later ks fs ss nodes p) (suc p) p (take nodes (set ls p v)) .labels)) (omega arith);
         }
+
+pub ruleset onward = (nearer, parent-after, next-after, leaf-node)

@@ -1,5 +1,6 @@
 -- `jobs::run_toggles` meets its contract: the toggles and the answer lists are judged, then the run is given.
 use Rattle.jobs.proofs.RunLaws.{toggle-wrong, run-short, run-roomy, run-given}
+use native.Mathlib.Omega.{arith}
 use borrow.Author.Needs.{needs}
 use Rattle.accepting.proofs.RoomLaws.{judged-roomy}
 use Rattle.jobs.proofs.run_toggles.Statement.{statement}
@@ -23,7 +24,7 @@ enum-told c = search needs
 run-requires : tie.Need-run-requires
 run-requires c κs =
     let roomy = judged-roomy _ _ _ _ _ _ _ (c .before .before .before .before .before .judge-rooms .ensures) (c .before .before .before .enum-told .given .1) in
-    (search needs, (run-roomy _ _ _ _ _ roomy _ _ (c .before .before .before .before .before .before .before .first-wrong .ensures) (c .before .before .before .before .before .before .if1 .left) (c .before .before .before .before .before .before .before .before .before .before .before .before .pre .1), search needs))
+    (search needs, (run-roomy _ _ _ (omega arith) (omega arith) _ _ (c .before .before .before .before .before .before .before .first-wrong .ensures) (c .before .before .before .before .before .before .if1 .left) (c .before .before .before .before .before .before .before .before .before .before .before .before .pre .1), search needs))
 
 returns-2 : tie.Need-returns-2
 returns-2 c = search (run-short, needs)

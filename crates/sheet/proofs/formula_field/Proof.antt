@@ -2,6 +2,7 @@
 use Rattle.sheet.specs.Sheet as paper
 use Rattle.sheet.proofs.Names.{walk-length}
 use Rattle.sheet.proofs.Asked.{asked, formula-good, formula-wrong}
+use Rattle.sheet.proofs.Bounds.{bounds}
 use borrow.Author.Needs.{needs}
 use Rattle.sheet.proofs.formula_field.Statement.{statement}
 use Rattle.sheet.proofs.formula_field.Tie as tie
@@ -25,11 +26,11 @@ two-requires c κs = search needs
 
 returns-3 : tie.Need-returns-3
 unfolding paper.formulaAt paper.lengthAt paper.pastAt paper.bytesAt
-returns-3 c = rw walk-length (search asked depth 20)
+returns-3 c = rw walk-length (search (asked, bounds) depth 20)
 
 returns-4 : tie.Need-returns-4
 unfolding paper.formulaAt paper.lengthAt paper.pastAt paper.bytesAt
-returns-4 c = rw walk-length (search asked depth 20)
+returns-4 c = rw walk-length (search (asked, bounds) depth 20)
 
 returns-5 : tie.Need-returns-5
 unfolding paper.formulaAt paper.lengthAt paper.pastAt paper.bytesAt

@@ -5,6 +5,7 @@ use native.Mathlib.Omega.{arith}
 use borrow.Author.Needs.{needs}
 use lib.ListN.{length, drop}
 use Rattle.sheet.specs.Sheet.{allGood}
+use Rattle.sheet.proofs.Bounds.{bounds}
 use Rattle.sheet.proofs.NameSteps.{good-low, good-high, good-on, good-all}
 use Rattle.sheet.proofs.good_bytes.Statement.{statement}
 use Rattle.sheet.proofs.good_bytes.Tie as tie
@@ -22,10 +23,10 @@ shared-slice-read-x : tie.Need-shared-slice-read-x Inv-loop μ-loop
 shared-slice-read-x c = omega arith
 
 returns : tie.Need-returns Inv-loop μ-loop
-returns c = search good-low
+returns c = search (good-low, bounds)
 
 returns-2 : tie.Need-returns-2 Inv-loop μ-loop
-returns-2 c = search good-high
+returns-2 c = search (good-high, bounds)
 
 add-i : tie.Need-add-i Inv-loop μ-loop
 add-i c = omega arith

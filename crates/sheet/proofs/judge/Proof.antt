@@ -9,6 +9,7 @@ use Rattle.outcome.specs.Outcome.{part}
 use Rattle.formula.specs.Formula.{leaves as leavesOf}
 use Rattle.sheet.specs.Sheet.{codesOf, formulaOf}
 use Rattle.sheet.specs.Steps.{counted}
+use Rattle.sheet.proofs.Bounds.{bounds}
 use Rattle.sheet.proofs.CodeSteps.{formulaOf-counted, count-leaf, count-operation, count-low, count-high, count-few, count-one, count-other}
 use Rattle.sheet.proofs.judge.Statement.{statement}
 use Rattle.sheet.proofs.judge.Tie as tie
@@ -52,13 +53,13 @@ add-t12 : tie.Need-add-t12 Inv-loop μ-loop
 add-t12 c = search needs
 
 returns-2 : tie.Need-returns-2 Inv-loop μ-loop
-returns-2 c = search count-high
+returns-2 c = search (count-high, bounds)
 
 add-t13 : tie.Need-add-t13 Inv-loop μ-loop
 add-t13 c = search needs
 
 returns-3 : tie.Need-returns-3 Inv-loop μ-loop
-returns-3 c = search count-few
+returns-3 c = search (count-few, bounds)
 
 sub-waiting : tie.Need-sub-waiting Inv-loop μ-loop
 sub-waiting c = search needs

@@ -2,13 +2,14 @@
 use Rattle.sheet.specs.Sheet as paper
 use Rattle.sheet.proofs.Names.{walk-length}
 use Rattle.sheet.proofs.Asked.{asked}
+use Rattle.sheet.proofs.Bounds.{bounds}
 use borrow.Author.Needs.{needs}
 use Rattle.sheet.proofs.name_field.Statement.{statement}
 use Rattle.sheet.proofs.name_field.Tie as tie
 
 returns : tie.Need-returns
 unfolding paper.nameAt paper.lengthAt paper.pastAt paper.bytesAt
-returns c = rw walk-length (search asked depth 20)
+returns c = rw walk-length (search (asked, bounds) depth 20)
 
 add-a : tie.Need-add-a
 add-a c = search needs
@@ -29,7 +30,7 @@ returns-3 c = rw walk-length (search asked depth 20)
 
 returns-4 : tie.Need-returns-4
 unfolding paper.nameAt paper.lengthAt paper.pastAt paper.bytesAt
-returns-4 c = rw walk-length (search asked depth 20)
+returns-4 c = rw walk-length (search (asked, bounds) depth 20)
 
 add-e : tie.Need-add-e
 add-e c = search needs

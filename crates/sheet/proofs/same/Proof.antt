@@ -27,7 +27,8 @@ shared-slice-read-if2-2 : tie.Need-shared-slice-read-if2-2 Inv-loop μ-loop
 shared-slice-read-if2-2 c = search needs
 
 returns-2 : tie.Need-returns-2 Inv-loop μ-loop
-returns-2 c = search same-off
+returns-2 c = let l = c .before .before .before .before .before .loop in
+    same-off _ _ (l .i) (l .inv .1) (search needs) (search needs) (λ e. c .if2 .taken (rw e))
 
 add-i : tie.Need-add-i Inv-loop μ-loop
 add-i c = search needs

@@ -18,13 +18,13 @@ loop-holds : tie.Need-loop-holds Inv-loop μ-loop
 loop-holds c = let s = c .before .before in (omega arith, s .pre .0, (λ h. omega arith), swept-none _ _ _ _ _ _ _ _ _ (s .pre .4))
 
 word-end-requires : tie.Need-word-end-requires Inv-loop μ-loop
-word-end-requires c κs = c .loop-test .taken
+word-end-requires c κs = omega (arith, c .before .loop .inv .0, c .before .loop .inv .1)
 
 mul-w : tie.Need-mul-w Inv-loop μ-loop
-mul-w c = let s = c .before .before .before .before .before in omega (arith, s .pre .2, c .before .before .loop .inv .2 (c .before .loop-test .taken), c .before .loop-test .taken)
+mul-w c = let s = c .before .before .before .before .before in omega (arith, s .pre .2, c .before .before .loop .inv .2 (omega (arith, c .word-end .ensures)), c .word-end .ensures)
 
 array-read-w : tie.Need-array-read-w Inv-loop μ-loop
-array-read-w c = let s = c .before .before .before .before .before in omega (arith, s .pre .2, c .before .before .loop .inv .2 (c .before .loop-test .taken), c .before .loop-test .taken)
+array-read-w c = let s = c .before .before .before .before .before in omega (arith, s .pre .2, c .before .before .loop .inv .2 (omega (arith, c .word-end .ensures)), c .word-end .ensures)
 
 sweep-word-requires : tie.Need-sweep-word-requires Inv-loop μ-loop
 sweep-word-requires c κs = let s = c .before .before .before .before .before .before .before .before in
@@ -33,7 +33,9 @@ sweep-word-requires c κs = let s = c .before .before .before .before .before .b
     (omega (arith, b .0), omega (arith, b .1, s .pre .1), b .2, s .pre .3, l .inv .3 .within, room-same _ _ _ _ _ _ _ (l .inv .3 .same) (s .pre .5))
 
 add-k : tie.Need-add-k Inv-loop μ-loop
-add-k c = let s = c .before .before .before .before .before .before .before .before .before .before .before .before .before in omega (arith, s .pre .2, c .before .before .before .before .before .before .before .before .before .before .loop .inv .2 (c .before .before .before .before .before .before .before .before .before .loop-test .taken), c .before .before .before .before .before .before .before .before .before .loop-test .taken)
+add-k c = let s = c .before .before .before .before .before .before .before .before .before .before .before .before .before in
+    let b = c .before .before .before .before .before .before .before .before .word-end .ensures in
+    omega (arith, s .pre .2, c .before .before .before .before .before .before .before .before .before .before .loop .inv .2 (omega (arith, b)), b)
 
 loop-less : tie.Need-loop-less Inv-loop μ-loop
 loop-less c = let b = c .before .before .before .before .before .before .before .before .word-end .ensures in omega (arith, b .0, b .1)
@@ -41,7 +43,7 @@ loop-less c = let b = c .before .before .before .before .before .before .before 
 loop-again : tie.Need-loop-again Inv-loop μ-loop
 loop-again c = let l = c .before .before .before .before .before .before .before .before .before .before .loop in
     let b = c .before .before .before .before .before .before .before .before .word-end .ensures in
-    let at = l .inv .2 (c .before .before .before .before .before .before .before .before .before .loop-test .taken) in (
+    let at = l .inv .2 (omega (arith, b)) in (
       omega (arith, l .inv .0, b .0),
       b .1,
       (λ h. omega (arith, b .3 h, at)),

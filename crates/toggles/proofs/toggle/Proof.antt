@@ -3,7 +3,8 @@ use Prim.Native.Nat.{_-_}
 use mathlib.Core.Path.{_∙_}
 use native.Mathlib.Omega.{arith}
 use borrow.Author.Needs.{needs}
-use Rattle.toggles.proofs.Chain.{Toggling, toggling-start, toggling-end, toggling-few, toggling-on, toggling-up}
+use Rattle.toggles.proofs.Chain.{Toggling, toggling-start, toggling-end, toggling-few, toggling-on}
+use Rattle.toggles.proofs.Jumps.{onward}
 use Rattle.toggles.proofs.toggle.Statement.{statement}
 use Rattle.toggles.proofs.toggle.Tie as tie
 
@@ -55,12 +56,7 @@ wide-requires-2 : tie.Need-wide-requires-2 Inv-loop μ-loop
 wide-requires-2 c κs = search needs
 
 loop-less : tie.Need-loop-less Inv-loop μ-loop
-loop-less c = let sh = c .before .before .before .before .before .before .before .before .before .before .pre .0 .shaped in
-    let g = c .before .before .before .before .before .before .before .loop .inv in
-    let h = c .before .before .before .before .before .before .loop-test .taken in
-    let up = rw (c .before .before .before .before .flip .ensures) at (c .before .before .walk .ensures) in
-    let next = c .wide2 .ensures ∙ c .before .before .before .before .before .before .before .before .before .before .pre .0 .chains .next _ h in
-    omega (arith, h, toggling-up _ _ _ _ _ sh _ _ _ _ _ g (c .before .before .walk .result) _ h up (c .wide2 .result) next)
+loop-less c = search onward
 
 loop-again : tie.Need-loop-again Inv-loop μ-loop
 loop-again c = let sh = c .before .before .before .before .before .before .before .before .before .before .pre .0 .shaped in

@@ -3,7 +3,7 @@ use Prim.Native.Nat.{_-_}
 use mathlib.Core.Path.{_∙_}
 use native.Mathlib.Omega.{arith}
 use borrow.Author.Needs.{needs}
-use Rattle.toggles.proofs.Jumps.{Going, going-start, going-end, going-stop, going-on, parent-later, parent-above}
+use Rattle.toggles.proofs.Jumps.{Going, going-start, going-end, going-stop, going-on, onward}
 use Rattle.toggles.proofs.walk.Statement.{statement}
 use Rattle.toggles.proofs.walk.Tie as tie
 
@@ -53,10 +53,7 @@ wide-requires-2 : tie.Need-wide-requires-2 Inv-loop μ-loop
 wide-requires-2 c κs = search needs
 
 loop-less : tie.Need-loop-less Inv-loop μ-loop
-loop-less c = let sh = c .before .before .before .before .before .before .before .before .before .before .pre .0 in
-    let h = c .before .before .before .before .before .before .loop-test .taken in
-    let up = c .wide2 .ensures ∙ c .before .before .before .before .before .before .before .before .before .before .pre .1 .0 .up _ h ∙ parent-later _ _ _ _ _ sh _ h in
-    omega (arith, up, parent-above _ _ _ _ _ sh _ h, h)
+loop-less c = search onward
 
 loop-again : tie.Need-loop-again Inv-loop μ-loop
 loop-again c = let sh = c .before .before .before .before .before .before .before .before .before .before .pre .0 in
