@@ -4,8 +4,8 @@ use native.Mathlib.Omega.{arith}
 use mathlib.Core.Path.{_≡_, refl, ap, _∙_}
 use mathlib.Core.List.{List}
 use borrow.Author.Tests.{le-leb}
-use lib.ListN.{length, take}
-use Rattle.outcome.specs.Outcome.{Outcome, given, refused, need, _>>=_, _>>_}
+use lib.ListN.{length}
+use Rattle.outcome.specs.Outcome.{Outcome, given, refused}
 use Rattle.formula.specs.Formula.{Formula, postfix}
 use Rattle.formula.proofs.Laws.{over-more}
 use Rattle.contraction.specs.Rounds.{dwarf}
@@ -20,10 +20,9 @@ use Rattle.sheet.proofs.Told.{Known, read-refused, accepted-fillable}
 use Rattle.dwarf.specs.Dwarfed.{Plans, Planned, Dwarfed}
 use Rattle.dwarf.specs.declared.Built.{Built}
 use Rattle.accepting.specs.Accepting.{tallest, accepted}
-use Rattle.accepting.specs.Prepared.{Coded, SaysCoded, Stands, Says}
+use Rattle.accepting.specs.Prepared.{Coded, SaysCoded, Says}
 use Rattle.accepting.specs.declared.Acceptance.{Acceptance}
 use Rattle.accepting.specs.declared.Acceptance.the-variants as acceptance
-use Rattle.accepting.specs.declared.Prepared.{Prepared}
 use Rattle.accepting.specs.declared.Prepared.the-variants as prepared
 
 -- ---- refusal 8 cannot come

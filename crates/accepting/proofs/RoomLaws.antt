@@ -1,11 +1,11 @@
 -- The answer lists judged in order: the first that is too short refuses, and where none is, there is room.
 use Prim.Native.Nat.{ℕ, _≤_, _<_}
-use mathlib.Core.Path.{_≡_, refl, sym, ap, _∙_}
+use mathlib.Core.Path.{_≡_, sym, ap, _∙_}
 use lib.Dec.{leb}
 use borrow.Author.Tests.{le-leb, lt-leb, leb-true}
-use Rattle.outcome.specs.Outcome.{Outcome, given, refused}
+use Rattle.outcome.specs.Outcome.{given}
 use Rattle.outcome.proofs.Questions.{need-yes, then-given}
-use Rattle.accepting.specs.Accepting.{room, rooms}
+use Rattle.accepting.specs.Accepting.{room}
 use Rattle.accepting.specs.Prepared.{roomsOf, Judged, Roomy}
 use Rattle.accepting.specs.declared.Rooms.{Rooms}
 use Rattle.accepting.specs.declared.Rooms.the-variants.{Enough, Short}

@@ -2,7 +2,7 @@
 use Prim.Native.Nat.{ℕ}
 use mathlib.Core.List.{List}
 use lib.Dec.{leb}
-use Rattle.outcome.specs.Outcome.{Outcome, given, refused, need, _>>=_, _>>_}
+use Rattle.outcome.specs.Outcome.{Outcome, given, need, _>>=_, _>>_}
 use Rattle.contraction.specs.Rounds.{dwarf}
 use Rattle.contraction.specs.Height.{height}
 use Rattle.sheet.specs.Sheet.{Sheet, reading}

@@ -1,13 +1,13 @@
 -- The rounds done without asking whether more than one node remains: at a single leaf a round makes nothing and leaves it as it is.
 -- As many rounds as there are nodes leave a single leaf, the last node made.
-use Prim.Native.Nat.{ℕ, zero, suc, _+_, _<_, _≤_}
+use Prim.Native.Nat.{ℕ, zero, suc, _+_, _≤_}
 use native.Mathlib.Omega.{arith}
 use mathlib.Core.Path.{_≡_, refl, sym, ap, ap₂, _∙_}
-use mathlib.Core.List.{List, [], _∷_, _++_}
+use mathlib.Core.List.{List, [], _++_}
 use lib.ListN.{length, length-append}
-use Rattle.formula.specs.Formula.{Op, Formula, leaf, node, leaves}
+use Rattle.formula.specs.Formula.{Formula, leaf, node, leaves}
 use Rattle.contraction.specs.Records.{Rec}
-use Rattle.contraction.specs.Rounds.{Work, tip, one, two, nodes, raked, compressed, roundMakes, roundLeaves, made, rounds, planted, leafRecs, enough, dwarf}
+use Rattle.contraction.specs.Rounds.{Work, tip, one, two, nodes, raked, compressed, roundMakes, roundLeaves, made, planted, leafRecs, enough, dwarf}
 use Rattle.contraction.proofs.Counts.{four-fifths, nodes-pos}
 
 -- what k rounds make, and the tree that they leave

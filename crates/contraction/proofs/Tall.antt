@@ -2,15 +2,14 @@
 use Prim.Native.Nat.{ℕ, zero, suc, _+_, _*_, _/_, _≤_}
 use native.Mathlib.Nat.{zero-add}
 use native.Mathlib.Omega.{arith}
-use mathlib.Core.Path.{_≡_, refl, sym, ap, _∙_, subst}
-use mathlib.Core.List.{List, [], _∷_, _++_}
-use mathlib.Core.Option.{none, some}
+use mathlib.Core.Path.{_≡_, refl, subst}
+use mathlib.Core.List.{List, [], _++_}
 use lib.ListN.{length, getD}
 use Rattle.formula.specs.Formula.{Op, Formula, leaf, node, leaves}
 use Rattle.contraction.specs.Records.{Rec, E-rec, R-left, R-right}
 use Rattle.contraction.specs.Rounds.{Work, tip, one, two, nodes, tipOf, rakeOne, rakeTwo, rakes, leftOne, leftTwo, raked}
 use Rattle.contraction.specs.Rounds.{compresses, compressed, roundMakes, roundLeaves, rounds, planted, leafRecs, enough, dwarf, roundsOf}
-use Rattle.contraction.specs.Height.{worked, longest, path, height}
+use Rattle.contraction.specs.Height.{path, height}
 use Rattle.contraction.proofs.Counts.{Many, four-fifths, nodes-pos}
 use Rattle.contraction.proofs.Rounds.{allMade, remains, dwarf-all, length-leafRecs, root}
 use Rattle.contraction.proofs.Worked.{Good, good-left, good-right, last-is, length-worked}

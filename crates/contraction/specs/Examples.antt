@@ -3,9 +3,9 @@ use Prim.Native.Nat.{ℕ}
 use mathlib.Core.Path.{_≡_, refl}
 use mathlib.Core.List.{List, [], _∷_}
 use lib.ListN.{length}
-use Rattle.formula.specs.Formula.{Op, union, intersection, difference, exclusive, Formula, leaf, node, leaves}
-use Rattle.contraction.specs.Records.{Rec, leafRec, E-rec, R-right, S-rec, C-rec}
-use Rattle.contraction.specs.Rounds.{Work, tip, one, two, rakes, raked, compresses, compressed, dwarf, roundsOf}
+use Rattle.formula.specs.Formula.{union, intersection, difference, exclusive, Formula, leaf, node, leaves}
+use Rattle.contraction.specs.Records.{Rec, E-rec, R-right, C-rec}
+use Rattle.contraction.specs.Rounds.{tip, one, two, rakes, raked, compresses, compressed, dwarf, roundsOf}
 use Rattle.contraction.specs.Height.{height}
 
 abbrev record-of : ℕ → ℕ → ℕ → Rec

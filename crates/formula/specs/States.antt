@@ -1,6 +1,6 @@
 -- The shapes' states: of each shape, whether it is inside. A shape is inside after an odd number of toggles or crossings.
 use Prim.Native.Nat.{ℕ, zero, suc, _+_}
-use mathlib.Core.Bool.{Bool, true, false, not, cond}
+use mathlib.Core.Bool.{Bool, false, not, cond}
 use mathlib.Core.List.{List, [], _∷_}
 use lib.Dec.{eqb}
 

@@ -1,17 +1,15 @@
 -- What is reported of an answer, by its case; and that the promises settle the reports.
 use Prim.Native.Nat.{ℕ}
-use mathlib.Core.Path.{_≡_, refl, sym, ap, _∙_}
+use mathlib.Core.Path.{_≡_, sym, ap, _∙_}
 use mathlib.Core.List.{List}
 use lib.IntN.{ℤ}
-use lib.ListN.{length}
-use Rattle.outcome.specs.Outcome.{Outcome, given, refused, part}
+use Rattle.outcome.specs.Outcome.{Outcome, given, refused}
 use Rattle.formula.specs.Formula.{Formula}
-use Rattle.contraction.specs.Rounds.{dwarf}
 use Rattle.sheet.specs.Answer.{Numbers, numbers, answerOf}
 use Rattle.sheet.specs.declared.ReadAnswer.{ReadAnswer}
 use Rattle.sheet.specs.declared.ReadAnswer.the-variants as read
 use Rattle.lines.specs.Lines.{Wall}
-use Rattle.jobs.specs.Building.{Summary, summary, summaryOf}
+use Rattle.jobs.specs.Building.{Summary, summary}
 use Rattle.jobs.specs.Answer as jobs
 use Rattle.jobs.specs.Answer.{builtOf, ranOf, classifiedOf}
 use Rattle.jobs.specs.declared.BuildAnswer.{BuildAnswer}
@@ -21,9 +19,6 @@ use Rattle.jobs.specs.declared.RunAnswer.the-variants as run
 use Rattle.jobs.specs.declared.ClassifyAnswer.{ClassifyAnswer}
 use Rattle.jobs.specs.declared.ClassifyAnswer.the-variants as classify
 use Rattle.host.specs.Report.{readReport, buildReport, runReport, classifyReport, Built, Ran, Classified}
-use Rattle.host.specs.declared.BuildReport.{BuildReport}
-use Rattle.host.specs.declared.RunReport.{RunReport}
-use Rattle.host.specs.declared.ClassifyReport.{ClassifyReport}
 
 module _ {o : Outcome Numbers} {a : ReadAnswer} (said : answerOf a ≡ o) where
   pub read-reported : {n l f e : ℕ} → a ≡ read.Read n l f e → readReport (given (numbers n l f e)) ≡ readReport o

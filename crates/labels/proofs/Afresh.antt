@@ -12,7 +12,6 @@ use Rattle.formula.specs.Formula.{Formula}
 use Rattle.formula.specs.States.{State}
 use Rattle.contraction.specs.Records.{Rec}
 use Rattle.contraction.specs.Rounds.{dwarf}
-use Rattle.contraction.specs.Height.{worked}
 use Rattle.contraction.proofs.Worked.{Each, Good, Steady, worked-good, length-worked}
 use Rattle.contraction.proofs.Order.{ChildrenBelow, children-smaller}
 use Rattle.contraction.proofs.Over.{over-below}

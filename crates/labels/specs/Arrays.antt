@@ -4,7 +4,6 @@ use mathlib.Core.Path.{_≡_}
 use mathlib.Core.List.{List, map}
 use lib.ListN.{length, take}
 use Rattle.formula.specs.Formula.{Formula, Over, leaves as leavesOf}
-use Rattle.contraction.specs.Records.{Rec}
 use Rattle.contraction.specs.Rounds.{dwarf}
 
 -- The first entries are the kinds, firsts and seconds of the dwarf tree of f, a formula within a sheet's limits: 1024 leaves, 256 names.

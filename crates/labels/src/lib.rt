@@ -2,11 +2,11 @@
 ghost use mathlib.Core.Path.{_≡_};
 ghost use mathlib.Core.Bool.{true, false};
 ghost use mathlib.Core.List.{[], _∷_};
-ghost use Prim.Native.Nat.{ℕ, _<_, _≤_};
+ghost use Prim.Native.Nat.{_<_, _≤_};
 ghost use lib.ListN.{getD, set, take};
 ghost use Rattle.formula.specs.Formula.{meaning as meaningOf, opAt};
 ghost use Rattle.formula.specs.States.{outside};
-ghost use Rattle.contraction.specs.Records.{Rec, children};
+ghost use Rattle.contraction.specs.Records.{children};
 ghost use Rattle.labels.specs.Labels.{bit as bitOf, on as isOn, pick as pickOf, table, left, right, rule, label as labelOf, labels as afresh};
 ghost use Rattle.labels.specs.Steps.{recAt, recs, Shaped, adopted, Parents, Chains};
 

@@ -9,7 +9,7 @@ use mathlib.Core.List.{List, [], _∷_, _++_, append-assoc, append-nil}
 use mathlib.Core.Option.{Option, none, some}
 use lib.ListN.{length, take, drop, set, length-set, drop-of-length-le}
 use lib.Seq.{drop-cons, length-take-le, take-suc-set}
-use lib.Dec.{ltb, leb, eqb}
+use lib.Dec.{ltb, leb}
 use borrow.Author.Tests.{lt-ltb, le-ltb, le-leb, lt-leb, ne-eqb}
 use Rattle.outcome.specs.Outcome.{Outcome, given, refused, _>>=_, part}
 use Rattle.formula.specs.Formula.{Op, union, intersection, difference, exclusive, code, Formula, leaf, node, leaves}

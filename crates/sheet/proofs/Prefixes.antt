@@ -11,7 +11,7 @@ use lib.Dec.{ltb, leb, eqb}
 use borrow.Author.Tests.{leb-true, leb-false, ltb-true, ltb-false, le-leb, lt-leb, lt-ltb}
 use Rattle.outcome.specs.Outcome.{Outcome, given, refused, need, _>>_, _>>=_}
 use Rattle.formula.specs.Formula.{Formula}
-use Rattle.sheet.specs.Sheet.{Sheet, Field, nameField, formulaField, endField, edition, mostNames, longestName, longestFormula, twoAt, lengthAt, pastAt, bytesAt, header, nameAt, formulaAt, fieldAt, onward, fields, reading}
+use Rattle.sheet.specs.Sheet.{Sheet, Field, nameField, formulaField, endField, mostNames, longestName, longestFormula, twoAt, lengthAt, pastAt, bytesAt, header, nameAt, formulaAt, fieldAt, onward, fields, reading}
 use Rattle.sheet.specs.Accepted.{mostBytes}
 use Rattle.outcome.proofs.Questions.{then-given, bind-given}
 use Rattle.sheet.proofs.Fields.{IsName, IsFormula, field-given, end-given}

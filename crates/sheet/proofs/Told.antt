@@ -1,10 +1,10 @@
 -- What an answer tells of the reading itself, for the rooms above: its sheet, and that the formula's codes can be put into an array.
 use Prim.Native.Nat.{ℕ}
 use native.Mathlib.Omega.{arith}
-use mathlib.Core.Path.{_≡_, refl}
+use mathlib.Core.Path.{_≡_}
 use mathlib.Core.List.{List}
 use lib.ListN.{length}
-use Rattle.outcome.specs.Outcome.{Outcome, given, refused, part}
+use Rattle.outcome.specs.Outcome.{given, refused}
 use Rattle.formula.specs.Formula.{leaves, postfix}
 use Rattle.sheet.specs.Sheet.{Sheet, between, codesOf, reading}
 use Rattle.sheet.specs.Accepted.{Accepted}

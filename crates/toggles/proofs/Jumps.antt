@@ -15,7 +15,7 @@ use Rattle.labels.specs.Labels.{label, isOf}
 use Rattle.labels.specs.Steps.{recAt, recs, seek, Shaped, Parents, Chains}
 use Rattle.labels.proofs.Rules.{label-local}
 use Rattle.labels.proofs.Fills.{seek-here, seek-past, seek-none, recs-more}
-use Rattle.toggles.specs.Toggles.{Steps, steps, reworked, walk, toggle}
+use Rattle.toggles.specs.Toggles.{Steps, steps, reworked, walk}
 use Rattle.toggles.proofs.Walks.{walk-skip, walk-stop, walk-on}
 
 -- by a test's two answers

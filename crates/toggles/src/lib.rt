@@ -1,7 +1,6 @@
 // Toggles: the walk up from a leaf with its count, a toggle of a shape, and a run over a toggle list.
 ghost use mathlib.Core.Path.{_≡_};
-ghost use mathlib.Core.List.{List};
-ghost use Prim.Native.Nat.{ℕ, suc, _-_, _<_, _≤_};
+ghost use Prim.Native.Nat.{suc, _-_, _<_, _≤_};
 ghost use lib.ListN.{length, take};
 ghost use Rattle.formula.specs.Formula.{Formula};
 ghost use Rattle.contraction.specs.Height.{last};
