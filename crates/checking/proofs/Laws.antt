@@ -19,7 +19,7 @@ use Rattle.lines.specs.Steps.{item, evenFrom}
 use Rattle.lines.proofs.Items.{drop-item, drop-all}
 use Rattle.lines.proofs.Judgement.{ordered-gives}
 use Rattle.lines.proofs.Even.{even-from}
-use Rattle.checking.specs.Steps.{asked, prior, begins, Shown, orderedFrom, askedUneven, Held, stateOf, due}
+use Rattle.checking.specs.Steps.{asked, prior, lineEnded, Shown, orderedFrom, askedUneven, Held, stateOf, due}
 use Rattle.checking.proofs.States.{ones-any}
 
 pub prior-pos : (ls : List ℕ) (ps : List ℤ) (ss : List ℕ) (i : ℕ) → (i ≡ 0 → ⊥) → prior ls ps ss i ≡ some (item ls ps ss (i - 1))
@@ -30,14 +30,14 @@ prior-pos ls ps ss (suc i) h = rw sub-one
 
 module _ {ls : List ℕ} {ps : List ℤ} {n i r : ℕ} (w : Shown ls ps n i r) (ss : List ℕ) where
   shown-11 : r ≡ 11 → falls (prior ls ps ss i) (item ls ps ss i) ≡ true
-  shown-11 = by _ (begins (prior ls ps ss i) (item ls ps ss i) && ltb 0 n) (w .is ss)
+  shown-11 = by _ (lineEnded (prior ls ps ss i) (item ls ps ss i) && ltb 0 n) (w .is ss)
     where
       by : (f g : Bool) → r ≡ cond f 11 (cond g 12 0) → r ≡ 11 → f ≡ true
       by true g e h = refl
       by false true e h = absurd (omega arith)
       by false false e h = absurd (omega arith)
 
-  shown-12 : r ≡ 12 → (begins (prior ls ps ss i) (item ls ps ss i) && ltb 0 n) ≡ true
+  shown-12 : r ≡ 12 → (lineEnded (prior ls ps ss i) (item ls ps ss i) && ltb 0 n) ≡ true
   shown-12 = by (falls (prior ls ps ss i) (item ls ps ss i)) _ (w .is ss)
     where
       by : (f g : Bool) → r ≡ cond f 11 (cond g 12 0) → r ≡ 12 → g ≡ true
@@ -46,13 +46,13 @@ module _ {ls : List ℕ} {ps : List ℤ} {n i r : ℕ} (w : Shown ls ps n i r) (
       by false false e h = absurd (omega arith)
 
   not-11 : (r ≡ 11 → ⊥) → falls (prior ls ps ss i) (item ls ps ss i) ≡ false
-  not-11 = by _ (begins (prior ls ps ss i) (item ls ps ss i) && ltb 0 n) (w .is ss)
+  not-11 = by _ (lineEnded (prior ls ps ss i) (item ls ps ss i) && ltb 0 n) (w .is ss)
     where
       by : (f g : Bool) → r ≡ cond f 11 (cond g 12 0) → (r ≡ 11 → ⊥) → f ≡ false
       by true g e h = absurd (h e)
       by false g e h = refl
 
-  not-12 : (r ≡ 11 → ⊥) → (r ≡ 12 → ⊥) → (begins (prior ls ps ss i) (item ls ps ss i) && ltb 0 n) ≡ false
+  not-12 : (r ≡ 11 → ⊥) → (r ≡ 12 → ⊥) → (lineEnded (prior ls ps ss i) (item ls ps ss i) && ltb 0 n) ≡ false
   not-12 = by (falls (prior ls ps ss i) (item ls ps ss i)) _ (w .is ss)
     where
       by : (f g : Bool) → r ≡ cond f 11 (cond g 12 0) → (r ≡ 11 → ⊥) → (r ≡ 12 → ⊥) → g ≡ false
@@ -63,7 +63,7 @@ module _ {ls : List ℕ} {ps : List ℤ} {n i r : ℕ} (w : Shown ls ps n i r) (
 pub shown-later : {ls : List ℕ} {ps : List ℤ} {n i r : ℕ} → Shown ls ps n i r → r ≡ 12 → 0 < i
 shown-later {ls} {ps} {n} {i} w left = by i (shown-12 w [] left)
   where
-    by : (i : ℕ) → (begins (prior ls ps [] i) (item ls ps [] i) && ltb 0 n) ≡ true → 0 < i
+    by : (i : ℕ) → (lineEnded (prior ls ps [] i) (item ls ps [] i) && ltb 0 n) ≡ true → 0 < i
     by zero e = absurd (false≢true e)
     by (suc i) e = omega arith
 
@@ -114,12 +114,12 @@ asked-even names xs few v q = by (ordered names none 0 xs) refl
     by (refused k p) e = refl
 
 module _ (ls : List ℕ) (ps : List ℤ) (ss : List ℕ) (e : length ps ≡ length ls) (f : length ss ≡ length ls) (st : State) (n : ℕ) (any : anyInside 256 st ≡ ltb 0 n) where
-  due-even : (i : ℕ) → i < length ls → (begins (prior ls ps ss i) (item ls ps ss i) && ltb 0 n) ≡ false → due ls ps ss st i ≡ due ls ps ss (flipped (getD ss i 0) st) (i + 1)
+  due-even : (i : ℕ) → i < length ls → (lineEnded (prior ls ps ss i) (item ls ps ss i) && ltb 0 n) ≡ false → due ls ps ss st i ≡ due ls ps ss (flipped (getD ss i 0) st) (i + 1)
   unfolding evenFrom due
   due-even zero h clear = rw (drop-item ls ps ss 0 e f h)
   due-even (suc i) h clear = rw (drop-item ls ps ss (suc i) e f h, any, clear, add-one (suc i))
 
-  due-uneven : (i : ℕ) → i < length ls → (begins (prior ls ps ss i) (item ls ps ss i) && ltb 0 n) ≡ true → due ls ps ss st i ≡ refused 12 (i - 1)
+  due-uneven : (i : ℕ) → i < length ls → (lineEnded (prior ls ps ss i) (item ls ps ss i) && ltb 0 n) ≡ true → due ls ps ss st i ≡ refused 12 (i - 1)
   unfolding due
   due-uneven zero h left = absurd (false≢true left)
   due-uneven (suc i) h left = rw (drop-item ls ps ss (suc i) e f h, any, left, sub-one)

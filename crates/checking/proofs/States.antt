@@ -5,28 +5,23 @@ use native.Mathlib.Omega.{arith}
 use mathlib.Core.Path.{_≡_, refl, sym, ap, _∙_, fun-ext, subst}
 use mathlib.Core.Bool.{Bool, true, false, not, cond, _||_}
 use mathlib.Core.List.{List}
-use borrow.Author.Tests.{eqb-true, eqb-false, eq-eqb, ne-eqb, lt-ltb}
+use borrow.Author.Tests.{eqb-true, eqb-false, lt-ltb}
 use lib.Bits.{bitXor}
 use lib.Dec.{eqb, ltb}
 use lib.ListN.{length, getD, set, replicate, length-set}
 use lib.Seq.{getD-set-same, getD-set-other}
 use Rattle.formula.specs.States.{State, outside}
 use Rattle.formula.specs.Flips.{flipped}
+use Rattle.formula.proofs.States.{flipped-here, flipped-other}
 use Rattle.lines.specs.Lines.{anyInside}
 use Rattle.checking.specs.Steps.{stateOf, ones, Held}
-
-flipped-same : (s : ℕ) (st : State) → flipped s st s ≡ not (st s)
-flipped-same s st = rw (eq-eqb s s refl)
-
-flipped-other : (s t : ℕ) (st : State) → (t ≡ s → ⊥) → flipped s st t ≡ st t
-flipped-other s t st h = rw (ne-eqb t s h)
 
 -- a store of the other state
 flipped-set : (a : List ℕ) (s v : ℕ) → s < length a → not (eqb v 0) ≡ not (stateOf a s) → stateOf (set a s v) ≡ flipped s (stateOf a)
 flipped-set a s v h e = fun-ext (λ t. go t (eqb t s) refl)
   where
     go : (t : ℕ) (b : Bool) → eqb t s ≡ b → stateOf (set a s v) t ≡ flipped s (stateOf a) t
-    go t true q = subst (λ (u : ℕ). stateOf (set a s v) u ≡ flipped s (stateOf a) u) (sym (eqb-true t s q)) (rw (getD-set-same a s v 0 h) (e ∙ sym (flipped-same s (stateOf a))))
+    go t true q = subst (λ (u : ℕ). stateOf (set a s v) u ≡ flipped s (stateOf a) u) (sym (eqb-true t s q)) (rw (getD-set-same a s v 0 h) (e ∙ sym (flipped-here s (stateOf a))))
     go t false q = rw (getD-set-other a s t v 0 (eqb-false t s q), q)
 
 pub ones-le : (n : ℕ) (st : State) → ones n st ≤ n
@@ -68,7 +63,7 @@ flipped-twice s st = fun-ext (λ t. go t (eqb t s) refl (st t))
     go t false q v = rw q
 
 ones-less : (n s : ℕ) (st : State) → s < n → st s ≡ true → suc (ones n (flipped s st)) ≡ ones n st
-ones-less n s st h e = sym (ones-more n s (flipped s st) h (flipped-same s st ∙ ap not e)) ∙ ap (ones n) (flipped-twice s st)
+ones-less n s st h e = sym (ones-more n s (flipped s st) h (flipped-here s st ∙ ap not e)) ∙ ap (ones n) (flipped-twice s st)
 
 zero-at : (n s : ℕ) → _≡_ {A = ℕ} (getD (replicate n 0) s 0) 0
 zero-at zero s = refl

@@ -21,14 +21,14 @@ abbrev pub prior : List ℕ → List ℤ → List ℕ → ℕ → Option Crossin
 prior ls ps ss zero = none
 prior ls ps ss (suc i) = some (item ls ps ss i)
 
--- y is the first on its line, with x before it
-abbrev pub begins : Option Crossing → Crossing → Bool
-begins none y = false
-begins (some x) y = endsLine x (y ∷ [])
+-- a line has ended before y: x, which stands before it, is on another one
+abbrev pub lineEnded : Option Crossing → Crossing → Bool
+lineEnded none y = false
+lineEnded (some x) y = endsLine x (y ∷ [])
 
 -- what the i-th shows of the one before it, after which n shapes are inside: that it falls behind, that a line ended uneven, or neither
 pub record Shown (ls : List ℕ) (ps : List ℤ) (n i number : ℕ) : Type 0 where
-  pub is : (ss : List ℕ) → number ≡ cond (falls (prior ls ps ss i) (item ls ps ss i)) 11 (cond (begins (prior ls ps ss i) (item ls ps ss i) && ltb 0 n) 12 0)
+  pub is : (ss : List ℕ) → number ≡ cond (falls (prior ls ps ss i) (item ls ps ss i)) 11 (cond (lineEnded (prior ls ps ss i) (item ls ps ss i) && ltb 0 n) 12 0)
 
 -- 10 and 11 from the i-th on
 abbrev pub orderedFrom : ℕ → List ℕ → List ℤ → List ℕ → ℕ → Outcome (Unit {0})

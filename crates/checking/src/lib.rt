@@ -54,7 +54,7 @@ fn shown(line: &[u32], at: &[i32], i: usize, n: usize) -> u8
     0
 }
 
-// Shape s crossed once, where n shapes are inside. No branch, since no processor foresees which way it would go.
+// Shape s crossed once, where n shapes are inside. No branch: which way it went would hang on the crossings.
 fn toggle(st: &mut [u8; 256], s: usize, n: usize) -> usize
     requires { ⌜ (s < 256) × Held (now st) n ⌝ }
     ensures { λ r. ⌜ Held (now (st .exit)) r × (stateOf (now (st .exit)) ≡ flipped s (stateOf (now (st .entry)))) ⌝ }

@@ -5,6 +5,7 @@ use mathlib.Core.Path.{_≡_, refl, sym, ap, _∙_}
 use mathlib.Core.Bool.{Bool, true, false, not, cond}
 use mathlib.Core.List.{List, [], _∷_, _++_}
 use lib.Dec.{eqb}
+use borrow.Author.Tests.{eq-eqb, ne-eqb}
 use Rattle.formula.specs.States.{State, outside, odd, times, toggledBy}
 use Rattle.formula.specs.Flips.{flipped, after}
 
@@ -43,3 +44,21 @@ after-append (s ∷ ss) us state t = after-append ss us (flipped s state) t
 -- two lists with the same oddness of every shape lead to the same states
 pub after-same-odd : (ss us : List ℕ) (state : State) (t : ℕ) → toggledBy ss t ≡ toggledBy us t → after state ss t ≡ after state us t
 after-same-odd ss us state t e = after-changed ss state t ∙ ap (λ a. changed a (state t)) e ∙ sym (after-changed us state t)
+
+-- ---- one toggle
+
+pub flipped-here : (s : ℕ) (state : State) → flipped s state s ≡ not (state s)
+flipped-here s state = rw (eq-eqb s s refl)
+
+pub flipped-other : (s t : ℕ) (state : State) → (t ≡ s → ⊥) → flipped s state t ≡ state t
+flipped-other s t state n = rw (ne-eqb t s n)
+
+pub after-snoc : (state : State) (ss : List ℕ) (s t : ℕ) → after state (ss ++ (s ∷ [])) t ≡ flipped s (after state ss) t
+unfolding after
+after-snoc state ss s t = after-append ss (s ∷ []) state t
+
+-- a shape's state is decided by its own state before
+pub after-at : (p q : State) (ss : List ℕ) (t : ℕ) → p t ≡ q t → after p ss t ≡ after q ss t
+unfolding after
+after-at p q [] t e = e
+after-at p q (s ∷ ss) t e = after-at (flipped s p) (flipped s q) ss t (ap (λ (b : Bool). cond (eqb t s) (not b) b) e)

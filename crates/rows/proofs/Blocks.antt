@@ -10,13 +10,12 @@ use lib.ListN.{length, getD, set, take, drop, replicate, length-take, length-dro
 use lib.Seq.{take-take, take-add, getD-take, getD-drop, getD-set-same, getD-set-other}
 use Rattle.formula.specs.States.{outside}
 use Rattle.formula.specs.Flips.{after}
-use Rattle.formula.proofs.States.{after-append}
+use Rattle.formula.proofs.States.{after-append, after-at}
 use Rattle.rows.specs.Words.{bit}
 use Rattle.rows.specs.Rows.{wide, columns, on, Below, begins, Stand, Filled}
 use Rattle.rows.specs.Steps.{Level, Blank, Apart, Turned, Replayed, Carried, Part}
 use Rattle.rows.proofs.Digits.{bit-none}
 use Rattle.rows.proofs.Stores.{same?}
-use Rattle.rows.proofs.Fills.{after-at}
 
 pub below-part : (n k : ℕ) (xs : List ℕ) (a m : ℕ) → Below n xs → n ≤ k → Below k (take m (drop a xs))
 below-part n k xs a m b l =
