@@ -17,8 +17,8 @@ use Rattle.sheet.specs.declared.ReadAnswer.{ReadAnswer}
 use Rattle.sheet.specs.declared.ReadAnswer.the-variants as read
 use Rattle.sheet.proofs.Accepted as sheets
 use Rattle.sheet.proofs.Told.{Known, read-refused, accepted-fillable}
-use Rattle.dwarf.specs.Dwarfed.{Plans, Planned, Dwarfed}
-use Rattle.dwarf.specs.declared.Built.{Built}
+use Rattle.tree_dwarf.specs.Dwarfed.{Plans, Planned, Dwarfed}
+use Rattle.tree_dwarf.specs.declared.Built.{Built}
 use Rattle.accepting.specs.Accepting.{tallest, accepted}
 use Rattle.accepting.specs.Prepared.{Coded, SaysCoded, Says}
 use Rattle.accepting.specs.declared.Acceptance.{Acceptance}

@@ -7,8 +7,8 @@ use Rattle.outcome.specs.Outcome.{Outcome, given, refused}
 use Rattle.formula.specs.Formula.{postfix}
 use Rattle.sheet.specs.Sheet.{Sheet}
 use Rattle.sheet.specs.Accepted.{Accepted}
-use Rattle.dwarf.specs.Dwarfed.{Dwarfed}
-use Rattle.dwarf.specs.declared.Built.{Built}
+use Rattle.tree_dwarf.specs.Dwarfed.{Dwarfed}
+use Rattle.tree_dwarf.specs.declared.Built.{Built}
 use Rattle.accepting.specs.Accepting.{accepted, rooms}
 use Rattle.accepting.specs.declared.Rooms.{Rooms}
 use Rattle.accepting.specs.declared.Rooms.the-variants.{Enough, Short}

@@ -1,9 +1,9 @@
 // What every job does first and last: the sheet is read and judged, its codes and its dwarf tree put into arrays; answer lists are judged.
-use dwarf::Built;
 use sheet::ReadAnswer;
+use tree_dwarf::Built;
 ghost use mathlib.Core.Path.{_≡_};
 ghost use lib.ListN.{length};
-ghost use Rattle.tokens.specs.Tokens.{Shelves};
+ghost use Rattle.tree_tokens.specs.Tokens.{Shelves};
 ghost use Rattle.accepting.specs.Prepared.{SaysCoded, Says, Judged};
 
 // What is accepted: the number of names and of codes; or the refusal of the sheet.
@@ -60,7 +60,7 @@ pub fn prepare(
     match accept(sheet, codes) {
         Acceptance::Refused { number, place } => Prepared::Refused { number, place },
         Acceptance::Given { names, codes: n } => {
-            let built = dwarf::build(codes, n, kinds, firsts, seconds);
+            let built = tree_dwarf::build(codes, n, kinds, firsts, seconds);
             Prepared::Ready {
                 names,
                 codes: n,

@@ -10,8 +10,8 @@ use Rattle.formula.specs.Formula.{Formula, leaves}
 use Rattle.contraction.specs.Height.{height}
 use Rattle.contraction.proofs.Size.{dwarf-few}
 use Rattle.sheet.specs.Sheet.{Sheet}
-use Rattle.dwarf.specs.Dwarfed.{Dwarfed}
-use Rattle.dwarf.specs.declared.Built.{Built as Numbers}
+use Rattle.tree_dwarf.specs.Dwarfed.{Dwarfed}
+use Rattle.tree_dwarf.specs.declared.Built.{Built as Numbers}
 use Rattle.accepting.specs.Accepting.{accepted, rooms}
 use Rattle.accepting.specs.Prepared.{Stands, Says, roomsOf, Judged}
 use Rattle.accepting.specs.declared.Prepared.{Prepared}

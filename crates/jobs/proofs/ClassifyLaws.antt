@@ -9,10 +9,10 @@ use Rattle.outcome.specs.Outcome.{Outcome, given, refused}
 use Rattle.formula.specs.Formula.{Formula, postfix, Over}
 use Rattle.sheet.specs.Sheet.{Sheet}
 use Rattle.lines.specs.Lines.{Wall, classified}
-use Rattle.walls.specs.Classified as walls
-use Rattle.walls.specs.Classified.{answered}
-use Rattle.walls.specs.declared.LinesAnswer.{LinesAnswer}
-use Rattle.walls.specs.declared.LinesAnswer.the-variants as lines
+use Rattle.line_walls.specs.Classified as walls
+use Rattle.line_walls.specs.Classified.{answered}
+use Rattle.line_walls.specs.declared.LinesAnswer.{LinesAnswer}
+use Rattle.line_walls.specs.declared.LinesAnswer.the-variants as lines
 use Rattle.accepting.specs.Accepting.{accepted}
 use Rattle.accepting.specs.Prepared.{Coded, SaysCoded}
 use Rattle.accepting.specs.declared.Acceptance.{Acceptance}

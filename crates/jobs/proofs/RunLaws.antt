@@ -12,7 +12,7 @@ use Rattle.formula.specs.Formula.{Formula}
 use Rattle.formula.proofs.Laws.{over-more}
 use Rattle.contraction.specs.Rounds.{dwarf}
 use Rattle.sheet.specs.Sheet.{Sheet}
-use Rattle.dwarf.specs.declared.Built.{Built as Numbers}
+use Rattle.tree_dwarf.specs.declared.Built.{Built as Numbers}
 use Rattle.labels.specs.Arrays.{Holds, Tree}
 use Rattle.toggles.specs.Ran as toggled
 use Rattle.toggles.specs.Ran.{firstWrong, Room}

@@ -9,7 +9,7 @@ use Rattle.outcome.specs.Lent.{afterCall}
 use Rattle.formula.specs.Formula.{Formula}
 use Rattle.formula.specs.States.{toggledBy}
 use Rattle.contraction.specs.Rounds.{dwarf}
-use Rattle.dwarf.specs.Dwarfed.{kindsOf, firstsOf, secondsOf}
+use Rattle.tree_dwarf.specs.Dwarfed.{kindsOf, firstsOf, secondsOf}
 use Rattle.labels.specs.Labels.{labels as labelsOf}
 use Rattle.toggles.specs.Toggles.{toggleRun}
 use Rattle.toggles.specs.Demand.{roots as rootsOf}

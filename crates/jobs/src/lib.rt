@@ -2,17 +2,17 @@
 use accepting::Acceptance;
 use accepting::Prepared;
 use accepting::Rooms;
-use dwarf::Built;
+use line_walls::LinesAnswer;
 use sheet::ReadAnswer;
-use walls::LinesAnswer;
+use tree_dwarf::Built;
 ghost use mathlib.Core.Path.{_≡_};
 ghost use Prim.Native.Nat.{_≤_};
 ghost use lib.ListN.{length, take};
 ghost use Rattle.outcome.specs.Lent.{filled};
 ghost use Rattle.formula.specs.Formula.{Formula};
 ghost use Rattle.sheet.specs.Answer.{answerOf, told};
-ghost use Rattle.tokens.specs.Tokens.{Shelves};
-ghost use Rattle.dwarf.specs.Dwarfed.{Dwarfed};
+ghost use Rattle.tree_tokens.specs.Tokens.{Shelves};
+ghost use Rattle.tree_dwarf.specs.Dwarfed.{Dwarfed};
 ghost use Rattle.accepting.specs.Prepared.{Roomy};
 ghost use Rattle.labels.specs.Arrays.{Tree, Holds};
 ghost use Rattle.jobs.specs.Building.{giving, building};
@@ -205,7 +205,7 @@ pub fn classify(
     let mut codes = [0u16; 2048];
     match accepting::accept(sheet, &mut codes) {
         Acceptance::Refused { number, place } => ClassifyAnswer::Refused { number, place },
-        Acceptance::Given { names, codes: n } => match walls::classify(
+        Acceptance::Given { names, codes: n } => match line_walls::classify(
             &codes,
             n,
             names,

@@ -6,7 +6,7 @@ use Rattle.accepting.proofs.prepare.Tie as tie
 use Rattle.accepting.proofs.prepare.Reads as reads
 use Rattle.accepting.proofs.prepare.Lts as lts
 use Rattle.accepting.proofs.accept.Reads as accept-reads
-use Rattle.dwarf.proofs.build.Reads as build-reads
+use Rattle.tree_dwarf.proofs.build.Reads as build-reads
 
 accept-requires : tie.Need-accept-requires
 accept-requires c κs = search needs

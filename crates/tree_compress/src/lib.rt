@@ -1,0 +1,170 @@
+// Compress: pairs each longest chain of one-child nodes from the top, in one pass over the tokens of a tree.
+use tree_tokens::Filled;
+ghost use mathlib.Core.Path.{_≡_};
+ghost use mathlib.Core.List.{List};
+ghost use Prim.Native.Nat.{ℕ, _+_, _-_, _≤_, _<_};
+ghost use lib.ListN.{length};
+ghost use Rattle.contraction.specs.Rounds.{Work, compresses, compressed};
+ghost use Rattle.tree_tokens.specs.Tokens.{decode, flat, toks, recs, Sized, Leaves};
+ghost use Rattle.tree_compress.specs.Steps.{run, puts, pairs, act, rest, view, Room, Stepped};
+
+// The lower node of a pair, or 65535, and how far the tokens out and the records are filled.
+struct Marks {
+    held: u16,
+    at: usize,
+    next: u16,
+}
+
+// How many one-child nodes stand from i on.
+fn run_length(tokens: &[u16; 2048], i: usize, n: usize) -> usize
+    requires { ⌜ (i ≤ n) × (n ≤ 2048) × (length (now tokens) ≡ 2048) ⌝ }
+    ensures { λ r. ⌜ r ≡ run (rest (now (tokens .entry)) i n) ⌝ }
+{
+    let mut j = i;
+    while j < n {
+        let t = tokens[j];
+        if t < 4096 {
+            return j - i;
+        }
+        if 65520 <= t {
+            return j - i;
+        }
+        j += 1;
+    }
+    j - i
+}
+
+// The same, where k, unless it is 0, is the answer already: each run is counted once.
+fn run_left(tokens: &[u16; 2048], i: usize, n: usize, k: usize) -> usize
+    requires { ⌜ (i ≤ n) × (n ≤ 2048) × (length (now tokens) ≡ 2048) × ((k ≡ 0 → ⊥) → k ≡ run (rest (now tokens) i n)) ⌝ }
+    ensures { λ r. ⌜ r ≡ run (rest (now (tokens .entry)) i n) ⌝ }
+{
+    if k != 0 {
+        return k;
+    }
+    run_length(tokens, i, n)
+}
+
+fn less(k: usize) -> usize
+    ensures { λ r. ⌜ r ≡ k - 1 ⌝ }
+{
+    if k == 0 { 0 } else { k - 1 }
+}
+
+// Puts a token out as it is.
+fn put(t: u16, out: &mut [u16; 2048], m: Marks) -> Marks
+    requires { ⌜ (length (now out) ≡ 2048) × (m .at < 2048) ⌝ }
+    ensures { λ _. ⌜ length (now (out .exit)) ≡ 2048 ⌝ }
+    ensures { λ r. ⌜ ((ks fs ss : List ℕ) → view (now (out .exit)) ks fs ss r ≡ puts (decode t) (view (now (out .entry)) ks fs ss m)) × (r .at ≡ m .at + 1) × (r .next ≡ m .next) ⌝ }
+{
+    let at = m.at;
+    tree_tokens::put_token(t, out, at);
+    Marks {
+        held: 65535,
+        at: at + 1,
+        next: m.next,
+    }
+}
+
+// A pair becomes one node, with a C node over upper and lower.
+fn pair(
+    upper: u16,
+    lower: u16,
+    out: &mut [u16; 2048],
+    kinds: &mut [u16; 3072],
+    firsts: &mut [u16; 3072],
+    seconds: &mut [u16; 3072],
+    m: Marks,
+) -> Marks
+    requires { ⌜ Sized (now out) (now kinds) (now firsts) (now seconds) ⌝ }
+    requires { ⌜ Room m ⌝ }
+    ensures { λ _. ⌜ Sized (now (out .exit)) (now (kinds .exit)) (now (firsts .exit)) (now (seconds .exit)) ⌝ }
+    ensures { λ r. ⌜ (view (now (out .exit)) (now (kinds .exit)) (now (firsts .exit)) (now (seconds .exit)) r
+        ≡ pairs upper lower (view (now (out .entry)) (now (kinds .entry)) (now (firsts .entry)) (now (seconds .entry)) m)) × (r .at ≡ m .at + 1) × (r .next ≡ m .next + 1) ⌝ }
+{
+    let at = m.at;
+    let next = m.next;
+    tree_tokens::put_token(4096 + next, out, at);
+    tree_tokens::put_record(14, upper, lower, kinds, firsts, seconds, next);
+    Marks {
+        held: 65535,
+        at: at + 1,
+        next: next + 1,
+    }
+}
+
+// One token, at the front of a run of k.
+fn step(
+    t: u16,
+    k: usize,
+    out: &mut [u16; 2048],
+    kinds: &mut [u16; 3072],
+    firsts: &mut [u16; 3072],
+    seconds: &mut [u16; 3072],
+    m: Marks,
+) -> Marks
+    requires { ⌜ Sized (now out) (now kinds) (now firsts) (now seconds) ⌝ }
+    requires { ⌜ Room m ⌝ }
+    ensures { λ _. ⌜ Sized (now (out .exit)) (now (kinds .exit)) (now (firsts .exit)) (now (seconds .exit)) ⌝ }
+    ensures { λ r. ⌜ Stepped (act (view (now (out .entry)) (now (kinds .entry)) (now (firsts .entry)) (now (seconds .entry)) m) (decode t) k)
+        (view (now (out .exit)) (now (kinds .exit)) (now (firsts .exit)) (now (seconds .exit)) r) m r ⌝ }
+{
+    if t < 4096 {
+        return put(t, out, m);
+    }
+    if 65520 <= t {
+        return put(t, out, m);
+    }
+    let upper = t - 4096;
+    let lower = m.held;
+    if lower != 65535 {
+        return pair(upper, lower, out, kinds, firsts, seconds, m);
+    }
+    if k % 2 == 0 {
+        Marks {
+            held: t - 4096,
+            at: m.at,
+            next: m.next,
+        }
+    } else {
+        put(t, out, m)
+    }
+}
+
+// Compresses the tree whose tokens are the first n: the tokens of what is left, and the records made.
+pub fn compress(
+    tokens: &[u16; 2048],
+    n: usize,
+    out: &mut [u16; 2048],
+    kinds: &mut [u16; 3072],
+    firsts: &mut [u16; 3072],
+    seconds: &mut [u16; 3072],
+    next: u16,
+) -> Filled
+    requires { ⌜ Sized (now out) (now kinds) (now firsts) (now seconds) ⌝ }
+    requires { ⌜ (length (now tokens) ≡ 2048) × (n ≤ 2048) × (next + n ≤ 3072) ⌝ }
+    ensures { λ _. ⌜ Sized (now (out .exit)) (now (kinds .exit)) (now (firsts .exit)) (now (seconds .exit)) ⌝ }
+    ensures { λ r. ⌜ r .at ≤ n ⌝ }
+    ensures { λ r. ⌜ ((w : Work) → toks (now (tokens .entry)) n ≡ flat w
+        → Leaves (compressed w next) (recs (now (kinds .entry)) (now (firsts .entry)) (now (seconds .entry)) next) (compresses w)
+        (now (out .exit)) (now (kinds .exit)) (now (firsts .exit)) (now (seconds .exit)) r) ⌝ }
+{
+    let mut m = Marks {
+        held: 65535,
+        at: 0,
+        next,
+    };
+    let mut i: usize = 0;
+    let mut k: usize = 0;
+    while i < n {
+        let t = tokens[i];
+        let left = run_left(tokens, i, n, k);
+        m = step(t, left, out, kinds, firsts, seconds, m);
+        k = less(left);
+        i += 1;
+    }
+    Filled {
+        at: m.at,
+        next: m.next,
+    }
+}

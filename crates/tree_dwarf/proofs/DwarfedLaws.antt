@@ -1,0 +1,72 @@
+-- Laws of what is built: the sizes of a plan, and the records once all rounds are done.
+use Prim.Native.Nat.{ℕ, zero, suc, _*_, _≤_}
+use native.Mathlib.Omega.{arith}
+use mathlib.Core.Path.{_≡_, refl, sym, ap, _∙_}
+use mathlib.Core.List.{List, [], _∷_, _++_, map, map-append}
+use lib.ListN.{length, getD, take, length-append}
+use lib.Seq.{take-suc, take-at, length-take-le}
+use Rattle.formula.specs.Formula.{Formula, leaf, node, leaves, postfix, Over}
+use Rattle.formula.proofs.Laws.{length-postfix}
+use Rattle.contraction.specs.Records.{Rec}
+use Rattle.contraction.specs.Rounds.{nodes, made, rounds, planted, leafRecs, enough, dwarf}
+use Rattle.contraction.specs.Height.{height}
+use Rattle.contraction.proofs.Rounds.{length-leafRecs}
+use Rattle.tree_tokens.specs.Tokens.{recAt, recs, Shelves, Leaves}
+use Rattle.tree_tokens.proofs.TokensLaws.{length-recs}
+use Rattle.tree_dwarf.specs.Dwarfed.{Plans, kindsOf, firstsOf, secondsOf, Dwarfed}
+use Rattle.tree_dwarf.specs.Steps.{Contracted, Bounded}
+use Rattle.tree_dwarf.specs.declared.Built.{Built}
+use Rattle.tree_dwarf.proofs.RoundLaws.{leaves-next}
+
+-- every formula over at most 256 names is planned by its own postfix order
+over-more : (f : Formula) (n m : ℕ) → n ≤ m → Over n f → Over m f
+over-more (leaf s) n m h o = omega arith
+over-more (node p l r) n m h o = (over-more l n m h (o .0), over-more r n m h (o .1))
+
+pub plans-postfix : (f : Formula) (names : ℕ) → Over names f → names ≤ 256 → (rest : List ℕ) → Plans f (postfix f ++ rest) (length (postfix f))
+plans-postfix f names over h rest = record { over = over-more f names 256 h over; codes-are = take-at (postfix f) rest (length (postfix f)) refl }
+
+-- n codes are those of (n + 1) / 2 leaves
+pub plans-leaves : (f : Formula) (codes : List ℕ) (n : ℕ) → Plans f codes n → n ≤ length codes → suc n ≡ 2 * leaves f
+plans-leaves f codes n p h = omega (arith, length-take-le n codes h, ap length (p .codes-are), length-postfix f)
+
+-- a part of each record is what one array holds
+map-recs : (part : Rec → ℕ) (l ks fs ss : List ℕ) → ((i : ℕ) → part (recAt ks fs ss i) ≡ getD l i 0) → (n : ℕ) → n ≤ length l
+    → take n l ≡ map part (recs ks fs ss n)
+map-recs part l ks fs ss at zero h = refl
+map-recs part l ks fs ss at (suc n) h =
+    take-suc l n 0 (omega arith) ∙ ap (λ z. z ++ (getD l n 0 ∷ [])) (map-recs part l ks fs ss at n (omega arith))
+    ∙ ap (λ z. map part (recs ks fs ss n) ++ (z ∷ [])) (sym (at n))
+    ∙ sym (map-append part (recs ks fs ss n) (recAt ks fs ss n ∷ []))
+
+-- leaves numbered, all rounds done, and the height worked out
+module _ (f : Formula) (n : ℕ) {a ks fs ss : List ℕ} (count : ℕ) (start : Leaves (planted f 0) [] (leafRecs f) a ks fs ss (record { at = n; next = count })) where
+  pub count-leaves : count ≡ leaves f
+  count-leaves = omega (arith, leaves-next start, length-leafRecs f)
+
+  module _ (ks′ fs′ ss′ : List ℕ) (total many tall : ℕ) (end : Contracted (planted f 0) count (recs ks fs ss count) (recs ks′ fs′ ss′ total) many)
+      (sized : Shelves ks′ fs′ ss′) (few : total ≤ 3072) (high : tall ≡ height (recs ks′ fs′ ss′ total)) where
+    records-dwarf : recs ks′ fs′ ss′ total ≡ dwarf f
+    records-dwarf =
+        end .records ∙ ap (λ z. z ++ made (nodes (planted f 0)) (planted f 0) count) (start .records)
+        ∙ ap (λ z. leafRecs f ++ made (nodes (planted f 0)) (planted f 0) z) count-leaves
+
+    pub dwarfed : Dwarfed f ks′ fs′ ss′ (record { leaves = count; nodes = total; rounds = many; height = tall })
+    dwarfed = record {
+      leaves-are = count-leaves;
+      nodes-are = sym (length-recs ks′ fs′ ss′ total) ∙ ap length records-dwarf;
+      rounds-are = end .rounds-are ∙ ap (λ z. rounds (nodes (planted f 0)) (planted f 0) z) count-leaves;
+      height-is = high ∙ ap height records-dwarf;
+      kinds-are = map-recs (λ r. r .kind) ks′ ks′ fs′ ss′ (λ i. refl) total (omega arith) ∙ ap kindsOf records-dwarf;
+      firsts-are = map-recs (λ r. r .first) fs′ ks′ fs′ ss′ (λ i. refl) total (omega arith) ∙ ap firstsOf records-dwarf;
+      seconds-are = map-recs (λ r. r .second) ss′ ks′ fs′ ss′ (λ i. refl) total (omega arith) ∙ ap secondsOf records-dwarf;
+    }
+
+-- so the numbers stay within the arrays
+pub dwarfed-bounded : (f : Formula) (codes : List ℕ) (n : ℕ) → Plans f codes n → n ≤ length codes → n ≤ 2047 → {ks fs ss : List ℕ} {b : Built}
+    → Dwarfed f ks fs ss b → b .nodes ≤ 3072 → Bounded b
+dwarfed-bounded f codes n p h few d total = record {
+  leaves-few = omega (arith, plans-leaves f codes n p h, d .leaves-are);
+  leaves-first = omega (arith, d .leaves-are, d .nodes-are, length-leafRecs f, length-append (leafRecs f) (made (enough f) (planted f 0) (leaves f)));
+  nodes-few = total;
+}

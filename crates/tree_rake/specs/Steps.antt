@@ -1,0 +1,79 @@
+-- Rake on tokens, one at a time: what the pass keeps. `proofs/Trees.antt` ties it to the tree's step.
+use Prim.Native.Nat.{ℕ, zero, suc, _+_, _≤_, _<_}
+use mathlib.Core.Path.{_≡_}
+use mathlib.Core.List.{List, [], _∷_, _++_}
+use mathlib.Core.Option.{Option, none, some}
+use lib.ListN.{length, getD}
+use Rattle.contraction.specs.Records.{Rec, absent, S-rec}
+use Rattle.tree_tokens.specs.Tokens.{Token, bare, single, double, present, toks, recs, Sized}
+use Rattle.tree_rake.specs.declared.Marks.{Marks}
+
+-- The operands that wait, the last one first: a leaf as the round found it, with its dwarf root, is raked, and was not put out;
+-- of a larger tree the tokens are out, and none stands here. Then the tokens out, the records made, and the next number.
+pub record State : Type 0 where
+  pub stack : List (Option ℕ)
+  pub out : List Token
+  pub made : List Rec
+  pub next : ℕ
+
+abbrev pub withStack : List (Option ℕ) → State → State
+withStack st σ = record { stack = st; out = σ .out; made = σ .made; next = σ .next }
+
+-- A token goes out, and a larger tree waits.
+abbrev pub kept : Token → State → State
+kept t σ = record { stack = none ∷ σ .stack; out = σ .out ++ (t ∷ []); made = σ .made; next = σ .next }
+
+-- A record is made besides.
+abbrev pub makes : Rec → Token → State → State
+makes r t σ = record { stack = none ∷ σ .stack; out = σ .out ++ (t ∷ []); made = σ .made ++ (r ∷ []); next = σ .next + 1 }
+
+abbrev pub onOne : ℕ → State → List (Option ℕ) → State
+onOne d σ [] = σ
+onOne d σ (some v ∷ st) = makes (S-rec d v) (bare (σ .next)) (withStack st σ)
+onOne d σ (none ∷ st) = kept (single d) (withStack st σ)
+
+abbrev pub onTwo : ℕ → State → List (Option ℕ) → State
+onTwo o σ [] = σ
+onTwo o σ (b ∷ []) = σ
+onTwo o σ (some b ∷ some a ∷ st) = makes (record { kind = 1 + o; first = a; second = b }) (bare (σ .next)) (withStack st σ)
+onTwo o σ (none ∷ some a ∷ st) = makes (record { kind = 5 + o; first = a; second = absent }) (single (σ .next)) (withStack st σ)
+onTwo o σ (some b ∷ none ∷ st) = makes (record { kind = 9 + o; first = b; second = absent }) (single (σ .next)) (withStack st σ)
+onTwo o σ (none ∷ none ∷ st) = kept (double o) (withStack st σ)
+
+abbrev pub act : State → Token → State
+act σ (bare d) = withStack (some d ∷ σ .stack) σ
+act σ (single d) = onOne d σ (σ .stack)
+act σ (double o) = onTwo o σ (σ .stack)
+
+-- ---- What the arrays hold of it
+
+-- The first n entries of the stack, the last one first: 65535 where a larger tree waits.
+abbrev pub operands : List ℕ → ℕ → List (Option ℕ)
+operands l zero = []
+operands l (suc n) = present (getD l n 0) ∷ operands l n
+
+abbrev pub view : List ℕ → List ℕ → List ℕ → List ℕ → List ℕ → Marks → State
+view out st ks fs ss m =
+    record { stack = operands st (m .top); out = toks out (m .at); made = recs ks fs ss (m .next); next = m .next }
+
+-- Where a pass begins: nothing waits and nothing is out.
+abbrev pub start : List ℕ → List ℕ → List ℕ → ℕ → State
+start ks fs ss next = record { stack = []; out = []; made = recs ks fs ss next; next = next }
+
+-- All arrays have their full length.
+pub record Lengths (out st ks fs ss : List ℕ) : Type 0 where
+  pub st-length : length st ≡ 2048
+  pub sized : Sized out ks fs ss
+
+-- There is room for one token more.
+pub record Room (m : Marks) : Type 0 where
+  pub top : m .top < 2048
+  pub at : m .at < 2048
+  pub next : m .next < 3072
+
+-- A step's answer: the state that is due, and each mark at most one further.
+pub record Stepped (due σ : State) (m r : Marks) : Type 0 where
+  pub is : σ ≡ due
+  pub top : r .top ≤ m .top + 1
+  pub at : r .at ≤ m .at + 1
+  pub next : r .next ≤ m .next + 1
