@@ -1,4 +1,4 @@
--- What every job asks first, and of the answer lists last: document 01, 'Refusals by number'.
+-- What every job asks first: document 01, 'Refusals by number'.
 use Prim.Native.Nat.{ℕ}
 use mathlib.Core.List.{List}
 use lib.Dec.{leb}
@@ -16,14 +16,3 @@ accepted s = do
   sheet ← reading s
   need (leb (height (dwarf (sheet .formula))) tallest) 8 0
   given sheet
-
--- 9, an answer list is too short: the place is the length needed.
-abbrev pub room : ℕ → ℕ → Outcome (Unit {0})
-room needed long = need (leb needed long) 9 needed
-
--- The three answer lists of a job in the order named, each with the length needed and the length it has.
-abbrev pub rooms : ℕ → ℕ → ℕ → ℕ → ℕ → ℕ → Outcome (Unit {0})
-rooms needed long needed₂ long₂ needed₃ long₃ = do
-  room needed long
-  room needed₂ long₂
-  room needed₃ long₃

@@ -1,10 +1,10 @@
-// What every job does first and last: the sheet is read and judged, its codes and its dwarf tree put into arrays; answer lists are judged.
-use sheet::ReadAnswer;
+// What every job does first: the sheet is read and judged, its codes and its dwarf tree put into arrays.
+use sheet_reading::ReadAnswer;
 use tree_dwarf::Built;
 ghost use mathlib.Core.Path.{_≡_};
 ghost use lib.ListN.{length};
 ghost use Rattle.tree_tokens.specs.Tokens.{Shelves};
-ghost use Rattle.accepting.specs.Prepared.{SaysCoded, Says, Judged};
+ghost use Rattle.accepting.specs.Prepared.{SaysCoded, Says};
 
 // What is accepted: the number of names and of codes; or the refusal of the sheet.
 pub enum Acceptance {
@@ -18,7 +18,7 @@ pub fn accept(sheet: &[u8], codes: &mut [u16; 2048]) -> Acceptance
     ensures { λ _. ⌜ length (now (codes .exit)) ≡ 2048 ⌝ }
     ensures { λ r. ⌜ SaysCoded (now (sheet .entry)) (now (codes .exit)) r ⌝ }
 {
-    match sheet::read(sheet) {
+    match sheet_reading::read_sheet(sheet) {
         ReadAnswer::Refused { number, place } => Acceptance::Refused { number, place },
         ReadAnswer::Read {
             names,
@@ -26,7 +26,7 @@ pub fn accept(sheet: &[u8], codes: &mut [u16; 2048]) -> Acceptance
             first,
             past,
         } => {
-            let n = sheet::fill_codes(sheet, first, past, codes);
+            let n = sheet_codes::fill_codes(&sheet[first..past], codes);
             Acceptance::Given { names, codes: n }
         }
     }
@@ -68,32 +68,4 @@ pub fn prepare(
             }
         }
     }
-}
-
-// Whether each of three answer lists has the room needed.
-pub enum Rooms {
-    Enough,
-    Short(usize),
-}
-
-pub fn judge_rooms(
-    needed: usize,
-    long: usize,
-    needed2: usize,
-    long2: usize,
-    needed3: usize,
-    long3: usize,
-) -> Rooms
-    ensures { λ r. ⌜ Judged needed long needed2 long2 needed3 long3 r ⌝ }
-{
-    if long < needed {
-        return Rooms::Short(needed);
-    }
-    if long2 < needed2 {
-        return Rooms::Short(needed2);
-    }
-    if long3 < needed3 {
-        return Rooms::Short(needed3);
-    }
-    Rooms::Enough
 }

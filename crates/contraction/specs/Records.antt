@@ -1,7 +1,7 @@
 -- The record of a dwarf node: kind, first, second.
 use Prim.Native.Nat.{ℕ, _+_}
 use mathlib.Core.Bool.{Bool, false, cond, _||_}
-use mathlib.Core.List.{List, [], _∷_}
+use mathlib.Core.List.{List, [], _∷_, map}
 use lib.Dec.{ltb, eqb}
 use Rattle.formula.specs.Formula.{Op, index}
 
@@ -52,3 +52,13 @@ among c (d ∷ ds) = eqb c d || among c ds
 -- The record stands over node c.
 abbrev pub over : ℕ → Rec → Bool
 over c r = among c (children r)
+
+-- Building fills three answer lists with the records: kinds, firsts, seconds, one entry a dwarf node.
+abbrev pub kindsOf : List Rec → List ℕ
+kindsOf rs = map (λ r. r .kind) rs
+
+abbrev pub firstsOf : List Rec → List ℕ
+firstsOf rs = map (λ r. r .first) rs
+
+abbrev pub secondsOf : List Rec → List ℕ
+secondsOf rs = map (λ r. r .second) rs

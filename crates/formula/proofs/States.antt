@@ -6,8 +6,8 @@ use mathlib.Core.Bool.{Bool, true, false, not, cond}
 use mathlib.Core.List.{List, [], _∷_, _++_}
 use lib.Dec.{eqb}
 use borrow.Author.Tests.{eq-eqb, ne-eqb}
-use Rattle.formula.specs.States.{State, outside, odd, times, toggledBy}
-use Rattle.formula.specs.Flips.{flipped, after}
+use Rattle.formula.specs.States.{State, outside, odd, times, toggledBy, flipped}
+use Rattle.formula.specs.Flips.{after}
 
 -- a state in which the shapes of a list were toggled: changed where the list has the shape an odd number of times
 abbrev changed : Bool → Bool → Bool

@@ -23,3 +23,7 @@ times s (t ∷ ts) = cond (eqb s t) 1 0 + times s ts
 -- The states after the shapes of a list were toggled, all of them outside at first.
 abbrev pub toggledBy : List ℕ → State
 toggledBy ts s = odd (times s ts)
+
+-- Shape s toggled once more.
+abbrev pub flipped : ℕ → State → State
+flipped s state t = cond (eqb t s) (not (state t)) (state t)

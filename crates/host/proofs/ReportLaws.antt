@@ -5,20 +5,21 @@ use mathlib.Core.List.{List}
 use lib.IntN.{ℤ}
 use Rattle.outcome.specs.Outcome.{Outcome, given, refused}
 use Rattle.formula.specs.Formula.{Formula}
-use Rattle.sheet.specs.Answer.{Numbers, numbers, answerOf}
-use Rattle.sheet.specs.declared.ReadAnswer.{ReadAnswer}
-use Rattle.sheet.specs.declared.ReadAnswer.the-variants as read
+use Rattle.sheet_reading.specs.Reading.{Numbers, numbers, answerOf}
+use Rattle.sheet_reading.specs.declared.ReadAnswer.{ReadAnswer}
+use Rattle.sheet_reading.specs.declared.ReadAnswer.the-variants as read
 use Rattle.lines.specs.Lines.{Wall}
-use Rattle.jobs.specs.Building.{Summary, summary}
-use Rattle.jobs.specs.Answer as jobs
-use Rattle.jobs.specs.Answer.{builtOf, ranOf, classifiedOf}
-use Rattle.jobs.specs.declared.BuildAnswer.{BuildAnswer}
-use Rattle.jobs.specs.declared.BuildAnswer.the-variants as build
-use Rattle.jobs.specs.declared.RunAnswer.{RunAnswer}
-use Rattle.jobs.specs.declared.RunAnswer.the-variants as run
-use Rattle.jobs.specs.declared.ClassifyAnswer.{ClassifyAnswer}
-use Rattle.jobs.specs.declared.ClassifyAnswer.the-variants as classify
-use Rattle.host.specs.Report.{readReport, buildReport, runReport, classifyReport, Built, Ran, Classified}
+use Rattle.job_build.specs.Building.{Summary, summary}
+use Rattle.job_build.specs.Built.{builtOf, Built}
+use Rattle.job_run.specs.Ran.{ranOf, Ran}
+use Rattle.job_classify.specs.Classified.{classifiedOf, Classified}
+use Rattle.job_build.specs.declared.BuildAnswer.{BuildAnswer}
+use Rattle.job_build.specs.declared.BuildAnswer.the-variants as build
+use Rattle.job_run.specs.declared.RunAnswer.{RunAnswer}
+use Rattle.job_run.specs.declared.RunAnswer.the-variants as run
+use Rattle.job_classify.specs.declared.ClassifyAnswer.{ClassifyAnswer}
+use Rattle.job_classify.specs.declared.ClassifyAnswer.the-variants as classify
+use Rattle.host.specs.Report.{readReport, buildReport, runReport, classifyReport, BuildReported, RunReported, ClassifyReported}
 
 module _ {o : Outcome Numbers} {a : ReadAnswer} (said : answerOf a ≡ o) where
   pub read-reported : {n l f e : ℕ} → a ≡ read.Read n l f e → readReport (given (numbers n l f e)) ≡ readReport o
@@ -27,44 +28,44 @@ module _ {o : Outcome Numbers} {a : ReadAnswer} (said : answerOf a ≡ o) where
   pub read-refused : {k p : ℕ} → a ≡ read.Refused k p → readReport (refused k p) ≡ readReport o
   read-refused is = ap readReport (sym (ap answerOf is) ∙ said)
 
-module _ {o : Outcome Formula} {ks fs ss : List ℕ} {a : BuildAnswer} {ks′ fs′ ss′ : List ℕ} (built : jobs.Built o ks fs ss a ks′ fs′ ss′) where
-  build-as : (v : Outcome Summary) → builtOf a ≡ v → Built o ks fs ss (buildReport v) ks′ fs′ ss′
+module _ {o : Outcome Formula} {ks fs ss : List ℕ} {a : BuildAnswer} {ks′ fs′ ss′ : List ℕ} (built : Built o ks fs ss a ks′ fs′ ss′) where
+  build-as : (v : Outcome Summary) → builtOf a ≡ v → BuildReported o ks fs ss (buildReport v) ks′ fs′ ss′
   build-as v is =
       record {
         report = ap buildReport (sym is ∙ built .answer);
         lists = built .lists;
       }
 
-  pub build-reported : {l n r h : ℕ} → a ≡ build.Built l n r h → Built o ks fs ss (buildReport (given (summary l n r h))) ks′ fs′ ss′
+  pub build-reported : {l n r h : ℕ} → a ≡ build.Built l n r h → BuildReported o ks fs ss (buildReport (given (summary l n r h))) ks′ fs′ ss′
   build-reported {l} {n} {r} {h} is = build-as (given (summary l n r h)) (ap builtOf is)
 
-  pub build-refused : {k p : ℕ} → a ≡ build.Refused k p → Built o ks fs ss (buildReport (refused k p)) ks′ fs′ ss′
+  pub build-refused : {k p : ℕ} → a ≡ build.Refused k p → BuildReported o ks fs ss (buildReport (refused k p)) ks′ fs′ ss′
   build-refused {k} {p} is = build-as (refused k p) (ap builtOf is)
 
-module _ {o : Outcome Formula} {ts rs cs ls : List ℕ} {a : RunAnswer} {rs′ cs′ ls′ : List ℕ} (ran : jobs.Ran o ts rs cs ls a rs′ cs′ ls′) where
-  run-as : (v : Outcome ℕ) → ranOf a ≡ v → Ran o ts rs cs ls (runReport v) rs′ cs′ ls′
+module _ {o : Outcome Formula} {ts rs cs ls : List ℕ} {a : RunAnswer} {rs′ cs′ ls′ : List ℕ} (ran : Ran o ts rs cs ls a rs′ cs′ ls′) where
+  run-as : (v : Outcome ℕ) → ranOf a ≡ v → RunReported o ts rs cs ls (runReport v) rs′ cs′ ls′
   run-as v is =
       record {
         report = ap runReport (sym is ∙ ran .answer);
         lists = ran .lists;
       }
 
-  pub run-reported : {n : ℕ} → a ≡ run.Ran n → Ran o ts rs cs ls (runReport (given n)) rs′ cs′ ls′
+  pub run-reported : {n : ℕ} → a ≡ run.Ran n → RunReported o ts rs cs ls (runReport (given n)) rs′ cs′ ls′
   run-reported {n} is = run-as (given n) (ap ranOf is)
 
-  pub run-refused : {k p : ℕ} → a ≡ run.Refused k p → Ran o ts rs cs ls (runReport (refused k p)) rs′ cs′ ls′
+  pub run-refused : {k p : ℕ} → a ≡ run.Refused k p → RunReported o ts rs cs ls (runReport (refused k p)) rs′ cs′ ls′
   run-refused {k} {p} is = run-as (refused k p) (ap ranOf is)
 
-module _ {o : Outcome (List Wall)} {wl : List ℕ} {ws we : List ℤ} {a : ClassifyAnswer} {wl′ : List ℕ} {ws′ we′ : List ℤ} (done : jobs.Classified o wl ws we a wl′ ws′ we′) where
-  classify-as : (v : Outcome ℕ) → classifiedOf a ≡ v → Classified o wl ws we (classifyReport v) wl′ ws′ we′
+module _ {o : Outcome (List Wall)} {wl : List ℕ} {ws we : List ℤ} {a : ClassifyAnswer} {wl′ : List ℕ} {ws′ we′ : List ℤ} (done : Classified o wl ws we a wl′ ws′ we′) where
+  classify-as : (v : Outcome ℕ) → classifiedOf a ≡ v → ClassifyReported o wl ws we (classifyReport v) wl′ ws′ we′
   classify-as v is =
       record {
         report = ap classifyReport (sym is ∙ done .answer);
         lists = done .lists;
       }
 
-  pub classify-reported : {n : ℕ} → a ≡ classify.Walls n → Classified o wl ws we (classifyReport (given n)) wl′ ws′ we′
+  pub classify-reported : {n : ℕ} → a ≡ classify.Walls n → ClassifyReported o wl ws we (classifyReport (given n)) wl′ ws′ we′
   classify-reported {n} is = classify-as (given n) (ap classifiedOf is)
 
-  pub classify-refused : {k p : ℕ} → a ≡ classify.Refused k p → Classified o wl ws we (classifyReport (refused k p)) wl′ ws′ we′
+  pub classify-refused : {k p : ℕ} → a ≡ classify.Refused k p → ClassifyReported o wl ws we (classifyReport (refused k p)) wl′ ws′ we′
   classify-refused {k} {p} is = classify-as (refused k p) (ap classifiedOf is)

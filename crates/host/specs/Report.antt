@@ -8,10 +8,12 @@ use lib.ListN.{length}
 use Rattle.outcome.specs.Outcome.{Outcome, given, refused, part}
 use Rattle.formula.specs.Formula.{Formula}
 use Rattle.contraction.specs.Rounds.{dwarf}
-use Rattle.sheet.specs.Answer.{Numbers, numbers}
+use Rattle.sheet_reading.specs.Reading.{Numbers, numbers}
 use Rattle.lines.specs.Lines.{Wall}
-use Rattle.jobs.specs.Building.{Summary, summary, summaryOf}
-use Rattle.jobs.specs.Answer.{BuiltLists, RanLists, WallLists}
+use Rattle.job_build.specs.Building.{Summary, summary, summaryOf}
+use Rattle.job_build.specs.Built.{BuiltLists}
+use Rattle.job_run.specs.Ran.{RanLists}
+use Rattle.job_classify.specs.Classified.{WallLists}
 use Rattle.host.specs.declared.ReadReport.{ReadReport}
 use Rattle.host.specs.declared.BuildReport.{BuildReport}
 use Rattle.host.specs.declared.RunReport.{RunReport}
@@ -38,14 +40,14 @@ classifyReport (given walls) = record { number = 0; place = 0; walls = walls }
 classifyReport (refused number place) = record { number = number; place = place; walls = 0 }
 
 -- Of the job's outcome and the lists as lent: the report r, and the lists after the call.
-pub record Built (o : Outcome Formula) (kinds firsts seconds : List ℕ) (r : BuildReport) (kinds′ firsts′ seconds′ : List ℕ) : Type 0 where
+pub record BuildReported (o : Outcome Formula) (kinds firsts seconds : List ℕ) (r : BuildReport) (kinds′ firsts′ seconds′ : List ℕ) : Type 0 where
   pub report : r ≡ buildReport (part summaryOf o)
   pub lists : BuiltLists o kinds firsts seconds kinds′ firsts′ seconds′
 
-pub record Ran (o : Outcome Formula) (toggles roots counts labels : List ℕ) (r : RunReport) (roots′ counts′ labels′ : List ℕ) : Type 0 where
+pub record RunReported (o : Outcome Formula) (toggles roots counts labels : List ℕ) (r : RunReport) (roots′ counts′ labels′ : List ℕ) : Type 0 where
   pub report : r ≡ runReport (part (λ f. length (dwarf f)) o)
   pub lists : RanLists o toggles roots counts labels roots′ counts′ labels′
 
-pub record Classified (o : Outcome (List Wall)) (lines : List ℕ) (starts ends : List ℤ) (r : ClassifyReport) (lines′ : List ℕ) (starts′ ends′ : List ℤ) : Type 0 where
+pub record ClassifyReported (o : Outcome (List Wall)) (lines : List ℕ) (starts ends : List ℤ) (r : ClassifyReport) (lines′ : List ℕ) (starts′ ends′ : List ℤ) : Type 0 where
   pub report : r ≡ classifyReport (part length o)
   pub lists : WallLists o lines starts ends lines′ starts′ ends′

@@ -2,15 +2,15 @@
 // The header and the Rust crate in bindings/ declare the same again; their tests compare the declarations with this file.
 ghost use mathlib.Core.Path.{_≡_};
 ghost use lib.ListN.{length};
-ghost use Rattle.sheet.specs.Answer.{told};
-ghost use Rattle.jobs.specs.Building.{building};
-ghost use Rattle.jobs.specs.Running.{running};
-ghost use Rattle.jobs.specs.Classifying.{classifying};
-ghost use Rattle.host.specs.Report.{readReport, Built, Ran, Classified};
-use jobs::BuildAnswer;
-use jobs::ClassifyAnswer;
-use jobs::RunAnswer;
-use sheet::ReadAnswer;
+ghost use Rattle.sheet_reading.specs.Reading.{told};
+ghost use Rattle.job_build.specs.Building.{building};
+ghost use Rattle.job_run.specs.Running.{running};
+ghost use Rattle.job_classify.specs.Classifying.{classifying};
+ghost use Rattle.host.specs.Report.{readReport, BuildReported, RunReported, ClassifyReported};
+use job_build::BuildAnswer;
+use job_classify::ClassifyAnswer;
+use job_run::RunAnswer;
+use sheet_reading::ReadAnswer;
 
 #[repr(C)]
 pub struct ReadReport {
@@ -51,7 +51,7 @@ pub struct ClassifyReport {
 pub extern "C" fn kressedach_read(sheet: &[u8]) -> ReadReport
     ensures { λ r. ⌜ r ≡ readReport (told (now (sheet .entry))) ⌝ }
 {
-    match jobs::read(sheet) {
+    match sheet_reading::read_sheet(sheet) {
         ReadAnswer::Read {
             names,
             leaves,
@@ -84,10 +84,10 @@ pub extern "C" fn kressedach_build(
     firsts: &mut [u16],
     seconds: &mut [u16],
 ) -> BuildReport
-    ensures { λ r. ⌜ Built (building (now (sheet .entry)) (length (now (kinds .entry))) (length (now (firsts .entry))) (length (now (seconds .entry))))
+    ensures { λ r. ⌜ BuildReported (building (now (sheet .entry)) (length (now (kinds .entry))) (length (now (firsts .entry))) (length (now (seconds .entry))))
         (now (kinds .entry)) (now (firsts .entry)) (now (seconds .entry)) r (now (kinds .exit)) (now (firsts .exit)) (now (seconds .exit)) ⌝ }
 {
-    match jobs::build(sheet, kinds, firsts, seconds) {
+    match job_build::build(sheet, kinds, firsts, seconds) {
         BuildAnswer::Built {
             leaves,
             nodes,
@@ -121,10 +121,10 @@ pub extern "C" fn kressedach_run(
     counts: &mut [u32],
     labels: &mut [u8],
 ) -> RunReport
-    ensures { λ r. ⌜ Ran (running (now (sheet .entry)) (now (toggles .entry)) (length (now (roots .entry))) (length (now (counts .entry))) (length (now (labels .entry))))
+    ensures { λ r. ⌜ RunReported (running (now (sheet .entry)) (now (toggles .entry)) (length (now (roots .entry))) (length (now (counts .entry))) (length (now (labels .entry))))
         (now (toggles .entry)) (now (roots .entry)) (now (counts .entry)) (now (labels .entry)) r (now (roots .exit)) (now (counts .exit)) (now (labels .exit)) ⌝ }
 {
-    match jobs::run(sheet, toggles, roots, counts, labels) {
+    match job_run::run(sheet, toggles, roots, counts, labels) {
         RunAnswer::Ran { nodes } => RunReport {
             number: 0,
             place: 0,
@@ -149,10 +149,10 @@ pub extern "C" fn kressedach_classify(
     starts: &mut [i32],
     ends: &mut [i32],
 ) -> ClassifyReport
-    ensures { λ r. ⌜ Classified (classifying (now (sheet .entry)) (now (lines .entry)) (now (positions .entry)) (now (shapes .entry)) (length (now («wall_lines» .entry))) (length (now (starts .entry))) (length (now (ends .entry))))
+    ensures { λ r. ⌜ ClassifyReported (classifying (now (sheet .entry)) (now (lines .entry)) (now (positions .entry)) (now (shapes .entry)) (length (now («wall_lines» .entry))) (length (now (starts .entry))) (length (now (ends .entry))))
         (now («wall_lines» .entry)) (now (starts .entry)) (now (ends .entry)) r (now («wall_lines» .exit)) (now (starts .exit)) (now (ends .exit)) ⌝ }
 {
-    match jobs::classify(sheet, lines, positions, shapes, wall_lines, starts, ends) {
+    match job_classify::classify(sheet, lines, positions, shapes, wall_lines, starts, ends) {
         ClassifyAnswer::Walls { walls } => ClassifyReport {
             number: 0,
             place: 0,

@@ -1,5 +1,5 @@
 // The cases of lines.
-use jobs::ClassifyAnswer;
+use job_classify::ClassifyAnswer;
 use showing::lending::Rooms;
 use showing::lending::all;
 use showing::lending::lend_i32;
@@ -38,7 +38,7 @@ fn classify(case: &[u8], s: Draft, lines: &[u32], positions: &[i32], shapes: &[u
     let mut starts = [99i32; 16];
     let mut ends = [99i32; 16];
     say(case);
-    let walls = classified(jobs::classify(
+    let walls = classified(job_classify::classify(
         part(&bytes, s.length),
         lines,
         positions,

@@ -1,5 +1,5 @@
 // The cases of toggles.
-use jobs::RunAnswer;
+use job_run::RunAnswer;
 use showing::lending::Rooms;
 use showing::lending::all;
 use showing::lending::lend_u8;
@@ -39,7 +39,7 @@ fn run(case: &[u8], s: Draft, toggles: &[u16], rooms: Rooms) {
     let mut counts = [99u32; 16];
     let mut labels = [99u8; 16];
     say(case);
-    let nodes = ran(jobs::run(
+    let nodes = ran(job_run::run(
         part(&bytes, s.length),
         toggles,
         lend_u8(&mut roots, rooms.first),

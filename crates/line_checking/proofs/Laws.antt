@@ -12,8 +12,7 @@ use lib.Dec.{ltb}
 use lib.IntN.{ℤ}
 use lib.ListN.{length, getD}
 use Rattle.outcome.specs.Outcome.{Outcome, given, refused, _>>_}
-use Rattle.formula.specs.States.{State, outside}
-use Rattle.formula.specs.Flips.{flipped}
+use Rattle.formula.specs.States.{State, outside, flipped}
 use Rattle.lines.specs.Lines.{Crossing, crossings, falls, ordered, anyInside, even, judged}
 use Rattle.lines.specs.Steps.{item, evenFrom}
 use Rattle.lines.proofs.Items.{drop-item, drop-all}

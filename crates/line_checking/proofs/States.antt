@@ -10,8 +10,7 @@ use lib.Bits.{bitXor}
 use lib.Dec.{eqb, ltb}
 use lib.ListN.{length, getD, set, replicate, length-set}
 use lib.Seq.{getD-set-same, getD-set-other}
-use Rattle.formula.specs.States.{State, outside}
-use Rattle.formula.specs.Flips.{flipped}
+use Rattle.formula.specs.States.{State, outside, flipped}
 use Rattle.formula.proofs.States.{flipped-here, flipped-other}
 use Rattle.lines.specs.Lines.{anyInside}
 use Rattle.line_checking.specs.Steps.{stateOf, ones, Held}

@@ -4,7 +4,7 @@ ghost use Prim.Native.Nat.{_<_, _≤_};
 ghost use lib.IntN.{pos};
 ghost use lib.ListN.{getD, length};
 ghost use lib.Signed.{ltZ};
-ghost use Rattle.formula.specs.Flips.{flipped};
+ghost use Rattle.formula.specs.States.{flipped};
 ghost use Rattle.lines.specs.Lines.{crossings, judged, roomy};
 ghost use Rattle.line_checking.specs.Verdicts.{verdict};
 ghost use Rattle.line_checking.specs.Steps.{asked, askedUneven, Shown, Held, stateOf};

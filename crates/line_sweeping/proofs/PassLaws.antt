@@ -11,8 +11,8 @@ use lib.ListN.{length, take, drop, getD, length-map, length-drop, length-append}
 use lib.Seq.{sets, sets-eq, length-sets, take-at, drop-at, take-add, take-suc, drop-drop, length-take-le, take-all, take-append-seam, drop-append-seam}
 use Rattle.outcome.specs.Lent.{filled}
 use Rattle.formula.specs.Formula.{inside}
-use Rattle.formula.specs.States.{State, outside}
-use Rattle.formula.specs.Flips.{flipped, after}
+use Rattle.formula.specs.States.{State, outside, flipped}
+use Rattle.formula.specs.Flips.{after}
 use Rattle.formula.proofs.States.{after-append}
 use Rattle.lines.specs.Lines.{crossings, Wall, endsGroup, opened, closed, wallsFrom}
 use Rattle.lines.specs.Steps.{item}

@@ -8,8 +8,8 @@ use mathlib.Core.List.{List, [], _∷_}
 use lib.IntN.{ℤ}
 use lib.ListN.{length, take}
 use Rattle.outcome.specs.Outcome.{given}
-use Rattle.formula.specs.States.{State, outside}
-use Rattle.formula.specs.Flips.{flipped, after}
+use Rattle.formula.specs.States.{State, outside, flipped}
+use Rattle.formula.specs.Flips.{after}
 use Rattle.lines.specs.Lines.{crossings, judged}
 use Rattle.lines.proofs.WallsCover.{Settled}
 use Rattle.lines.proofs.Judgement.{judged-lengths, judged-sorted, judged-named, judged-even}

@@ -11,8 +11,8 @@ use borrow.Author.Tests.{eq-eqb, ne-eqb, eqb-true, eqb-false}
 use lib.Dec.{eqb}
 use lib.Signed.{leZ}
 use Rattle.outcome.specs.Outcome.{Outcome, given, refused, _>>_, need}
-use Rattle.formula.specs.States.{State, outside, toggledBy}
-use Rattle.formula.specs.Flips.{flipped, after}
+use Rattle.formula.specs.States.{State, outside, toggledBy, flipped}
+use Rattle.formula.specs.Flips.{after}
 use Rattle.formula.proofs.States.{after-outside}
 use Rattle.lines.specs.Lines.{Crossing, crossed, on, anyInside, firstLine, anyOn, lastOn, even}
 use Rattle.lines.specs.Steps.{endsLine, evenFrom}

@@ -8,3 +8,4 @@ pub mod Judgement
 pub mod Even
 pub mod Theorems
 pub mod Items
+pub mod Numbered

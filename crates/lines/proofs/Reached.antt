@@ -9,8 +9,8 @@ use borrow.Author.Tests.{eq-eqb, ne-eqb, ltb-false, lt-ltb, le-ltb}
 use lib.Dec.{eqb, ltb}
 use lib.IntN.{ℤ}
 use lib.Signed.{leZ}
-use Rattle.formula.specs.States.{State, outside}
-use Rattle.formula.specs.Flips.{flipped, after}
+use Rattle.formula.specs.States.{State, outside, flipped}
+use Rattle.formula.specs.Flips.{after}
 use Rattle.formula.proofs.States.{after-outside}
 use Rattle.lines.specs.Lines.{Crossing, crossed}
 use Rattle.lines.specs.Right.{upto, stateAt}

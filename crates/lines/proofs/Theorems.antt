@@ -10,8 +10,7 @@ use lib.IntN.{ℤ}
 use lib.ListN.{length, length-append}
 use Rattle.outcome.specs.Outcome.{given, _>>_}
 use Rattle.formula.specs.Formula.{Formula, inside}
-use Rattle.formula.specs.States.{State, outside}
-use Rattle.formula.specs.Flips.{flipped}
+use Rattle.formula.specs.States.{State, outside, flipped}
 use Rattle.formula.proofs.Laws.{inside-outside}
 use Rattle.lines.specs.Lines.{Crossing, crossings, judged, roomy, Wall, endsGroup, opened, closed, wallsFrom, walls, classified}
 use Rattle.lines.specs.Right.{Right}

@@ -10,8 +10,8 @@ use borrow.Author.Tests.{eq-eqb, ne-eqb, eqb-true}
 use lib.Dec.{eqb}
 use lib.IntN.{ℤ}
 use lib.Signed.{leZ, ltZ}
-use Rattle.formula.specs.States.{State, outside}
-use Rattle.formula.specs.Flips.{flipped, after}
+use Rattle.formula.specs.States.{State, outside, flipped}
+use Rattle.formula.specs.Flips.{after}
 use Rattle.lines.specs.Lines.{Crossing, crossed, Wall, endsGroup, opened, closed, wallsFrom}
 use Rattle.lines.specs.Right.{covers}
 use Rattle.lines.specs.Steps.{endsLine}

@@ -10,8 +10,7 @@ use borrow.Author.Tests.{eq-eqb, lt-ltb, le-ltb}
 use lib.Dec.{eqb, ltb}
 use lib.IntN.{ℤ}
 use lib.Signed.{leZ, ltZ}
-use Rattle.formula.specs.States.{State, outside}
-use Rattle.formula.specs.Flips.{flipped}
+use Rattle.formula.specs.States.{State, outside, flipped}
 use Rattle.lines.specs.Lines.{Crossing, Wall, endsGroup, opened, closed, wallsFrom}
 use Rattle.lines.specs.Right.{apart, Rising}
 use Rattle.lines.proofs.Keys.{leK, yes-leK, eq-leK, le-trans, total, trans, lt→no, no→lt}

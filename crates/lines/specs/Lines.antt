@@ -3,14 +3,13 @@ use Prim.Native.Nat.{ℕ, zero, suc, _+_, _/_}
 use mathlib.Core.Bool.{Bool, true, false, not, _&&_, _||_}
 use mathlib.Core.List.{List, [], _∷_, _++_}
 use mathlib.Core.Option.{Option, none, some}
-use lib.Dec.{ltb, leb, eqb}
+use lib.Dec.{ltb, eqb}
 use lib.IntN.{ℤ}
 use lib.ListN.{length}
 use lib.Signed.{ltZ}
-use Rattle.outcome.specs.Outcome.{Outcome, given, refused, _>>_, need}
+use Rattle.outcome.specs.Outcome.{Outcome, given, refused, _>>_, need, room}
 use Rattle.formula.specs.Formula.{Formula, inside}
-use Rattle.formula.specs.States.{State, outside, toggledBy}
-use Rattle.formula.specs.Flips.{flipped}
+use Rattle.formula.specs.States.{State, outside, toggledBy, flipped}
 
 -- Lines come as three lists: line number, position in whole micrometres, shape. Here they are one.
 pub record Crossing : Type 0 where
@@ -82,9 +81,9 @@ judged names ls ps ss = do
 -- 9: an answer list is too short, in the order line, start, end; the place is the length needed.
 abbrev pub roomy : ℕ → ℕ → ℕ → ℕ → Outcome (Unit {0})
 roomy n lines starts ends = do
-  need (leb n lines) 9 n
-  need (leb n starts) 9 n
-  need (leb n ends) 9 n
+  room n lines
+  room n starts
+  room n ends
 
 pub record Wall : Type 0 where
   pub line : ℕ

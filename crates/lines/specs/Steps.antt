@@ -6,8 +6,7 @@ use lib.Dec.{eqb}
 use lib.IntN.{ℤ, pos}
 use lib.ListN.{getD}
 use Rattle.outcome.specs.Outcome.{Outcome, given, _>>_, need}
-use Rattle.formula.specs.States.{State}
-use Rattle.formula.specs.Flips.{flipped}
+use Rattle.formula.specs.States.{State, flipped}
 use Rattle.lines.specs.Lines.{Crossing, anyInside}
 
 -- the i-th crossing, from 0

@@ -1,6 +1,6 @@
 // Reads one sheet from standard input and prints the leaves, dwarf nodes, rounds and height of its contracted tree, then each node's
 // record; or `refused`, number and place.
-use jobs::BuildAnswer;
+use job_build::BuildAnswer;
 
 fn number(n: usize) {
     io::print_decimal(1, n as u64);
@@ -34,7 +34,7 @@ fn list(sheet: &[u8]) {
     let mut kinds = [0u16; 3072];
     let mut firsts = [0u16; 3072];
     let mut seconds = [0u16; 3072];
-    match jobs::build(sheet, &mut kinds, &mut firsts, &mut seconds) {
+    match job_build::build(sheet, &mut kinds, &mut firsts, &mut seconds) {
         BuildAnswer::Built {
             leaves,
             nodes,

@@ -1,1 +1,4 @@
 pub mod Questions
+pub mod LentLaws
+pub mod NumberedLaws
+pub mod Known

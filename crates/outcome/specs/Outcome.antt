@@ -1,6 +1,7 @@
 -- What a job gives: its answer, or a refusal with its number and its place.
 use Prim.Native.Nat.{ℕ}
 use mathlib.Core.Bool.{Bool, true, false}
+use lib.Dec.{leb}
 
 pub data Outcome (A : Type 0) : Type 0 where
   given : A → Outcome A
@@ -21,6 +22,10 @@ refused number place >> b = refused number place
 abbrev pub need : Bool → ℕ → ℕ → Outcome (Unit {0})
 need true number place = given tt
 need false number place = refused number place
+
+-- 9, an answer list is too short: the place is the length needed.
+abbrev pub room : ℕ → ℕ → Outcome (Unit {0})
+room needed long = need (leb needed long) 9 needed
 
 -- A part of what is given.
 abbrev pub part : {A B : Type 0} → (A → B) → Outcome A → Outcome B

@@ -10,7 +10,7 @@ use lib.Dec.{ltb, eqb}
 use borrow.Author.Tests.{ltb-true, eqb-true, eqb-false, lt-ltb, le-ltb}
 use Rattle.outcome.specs.Outcome.{given}
 use Rattle.formula.specs.Formula.{Op, union, intersection, difference, exclusive, firstOperation, code, Formula, leaf, node, postfix, Over}
-use Rattle.sheet.specs.Sheet.{codesOf, operation, joined, oneCode, judged, onlyOne, formulaOf}
+use Rattle.sheet.specs.Sheet.{codesOf, operation, joined, oneCode, allCodes, onlyOne, formulaOf}
 use Rattle.outcome.proofs.Questions.{bind-given, given-same}
 
 -- ---- operation: a code is that of the one operation that it gives, or of none
@@ -47,7 +47,7 @@ code-operation intersection = refl
 code-operation difference = refl
 code-operation exclusive = refl
 
--- ---- judged: the operands that wait, in postfix order, are the codes judged so far
+-- ---- allCodes: the operands that wait, in postfix order, are the codes judged so far
 
 -- The codes of the operands that wait, and that each of them is over the names.
 abbrev postfixes : List Formula → List ℕ
@@ -79,17 +79,17 @@ code-grown n at c fs gs true q all h =
     rw e at it
 code-grown n at c fs gs false q all h = joined-grown n at c (operation c) fs gs refl all h
 
-judged-grown : (cs : List ℕ) (n at : ℕ) (fs gs : List Formula) → AllOver n fs → judged n at cs fs ≡ given gs → Grown n fs gs cs
-unfolding judged
-judged-grown [] n at fs gs all h =
+codes-grown : (cs : List ℕ) (n at : ℕ) (fs gs : List Formula) → AllOver n fs → allCodes n at cs fs ≡ given gs → Grown n fs gs cs
+unfolding allCodes
+codes-grown [] n at fs gs all h =
     let e : fs ≡ gs = given-same _ _ h in
     let it : Grown n fs fs [] = record { codes = sym (append-nil (postfixes fs)); over = all } in
     rw (← e) it
-judged-grown (c ∷ cs) n at fs gs all h =
-    let b = bind-given (oneCode n at c fs) (judged n (at + 2) cs) gs h in
+codes-grown (c ∷ cs) n at fs gs all h =
+    let b = bind-given (oneCode n at c fs) (allCodes n (at + 2) cs) gs h in
     let hs = b .0 in
     let one = code-grown n at c fs hs (ltb c n) refl all (b .1) in
-    let rest = judged-grown cs n (at + 2) hs gs (one .over) (b .2) in
+    let rest = codes-grown cs n (at + 2) hs gs (one .over) (b .2) in
     record { codes = rest .codes ∙ rw (one .codes) (simp append-assoc); over = rest .over }
 
 only-given : (tag : ℕ) (fs : List Formula) (f : Formula) → onlyOne tag fs ≡ given f → fs ≡ f ∷ []
@@ -101,9 +101,9 @@ only-given tag (g ∷ k ∷ fs) f h = let z : _≡_ {A = ℕ} 0 1 = cc in absurd
 pub formulaOf-postfix : (n tag first : ℕ) (cs : List ℕ) (f : Formula) → formulaOf n tag first cs ≡ given f → (postfix f ≡ cs) × Over n f
 unfolding formulaOf
 formulaOf-postfix n tag first cs f h =
-    let b = bind-given (judged n first cs []) (onlyOne tag) f h in
+    let b = bind-given (allCodes n first cs []) (onlyOne tag) f h in
     let e = only-given tag (b .0) f (b .2) in
-    let g : Grown n [] (f ∷ []) cs = rw e at (judged-grown cs n first [] (b .0) tt (b .1)) in
+    let g : Grown n [] (f ∷ []) cs = rw e at (codes-grown cs n first [] (b .0) tt (b .1)) in
     (g .codes, g .over .0)
 
 -- ---- postfix: the codes of a formula leave it as one more operand
@@ -112,23 +112,23 @@ module _ (n : ℕ) (few : n ≤ firstOperation) where
   code-high : (o : Op) → ltb (code o) n ≡ false
   code-high o = le-ltb (code o) n (omega arith)
 
-  pub judged-postfix : (f : Formula) (at : ℕ) (cs : List ℕ) (fs : List Formula) → Over n f
-      → judged n at (postfix f ++ cs) fs ≡ judged n (at + 2 * length (postfix f)) cs (f ∷ fs)
-  unfolding judged
-  judged-postfix (leaf s) at cs fs o = rw (lt-ltb s n o)
-  judged-postfix (node p l r) at cs fs o =
+  pub codes-postfix : (f : Formula) (at : ℕ) (cs : List ℕ) (fs : List Formula) → Over n f
+      → allCodes n at (postfix f ++ cs) fs ≡ allCodes n (at + 2 * length (postfix f)) cs (f ∷ fs)
+  unfolding allCodes
+  codes-postfix (leaf s) at cs fs o = rw (lt-ltb s n o)
+  codes-postfix (node p l r) at cs fs o =
       let e : at + 2 * length (postfix l) + 2 * length (postfix r) + 2 ≡ at + 2 * length (postfix l ++ (postfix r ++ (code p ∷ []))) =
       simp length-append (omega arith) in
       let a : (postfix l ++ (postfix r ++ (code p ∷ []))) ++ cs ≡ postfix l ++ (postfix r ++ (code p ∷ cs)) = simp append-assoc in
-      rw a (judged-postfix l at (postfix r ++ (code p ∷ cs)) fs (o .0)
-      ∙ judged-postfix r (at + 2 * length (postfix l)) (code p ∷ cs) (l ∷ fs) (o .1)
+      rw a (codes-postfix l at (postfix r ++ (code p ∷ cs)) fs (o .0)
+      ∙ codes-postfix r (at + 2 * length (postfix l)) (code p ∷ cs) (l ∷ fs) (o .1)
       ∙ rw (code-high p, code-operation p, e))
 
   -- The codes of a formula over the names are judged good, and give it.
   pub postfix-formulaOf : (f : Formula) (tag first : ℕ) → Over n f → formulaOf n tag first (postfix f) ≡ given f
-  unfolding formulaOf judged
+  unfolding formulaOf allCodes
   postfix-formulaOf f tag first o =
-      let e : judged n first (postfix f) [] ≡ given (f ∷ []) = rw (← append-nil (postfix f)) (judged-postfix f first [] [] o) in
+      let e : allCodes n first (postfix f) [] ≡ given (f ∷ []) = rw (← append-nil (postfix f)) (codes-postfix f first [] [] o) in
       rw e
 
 -- ---- codesOf: two bytes a code

@@ -1,13 +1,8 @@
 pub mod Codes
 pub mod Names
 pub mod Fields
-pub mod Accepted
-pub mod Cases
+pub mod Enough
+pub mod Guaranteed
 pub mod Prefixes
-pub mod NameSteps
-pub mod CodeSteps
 pub mod Bounds
-pub mod Asked
-pub mod Reading
-pub mod Told
-pub mod Unique
+pub mod Numbered

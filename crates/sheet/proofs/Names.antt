@@ -12,7 +12,7 @@ use lib.Dec.{leb, eqb}
 use borrow.Author.Tests.{leb-true, eqb-true, eq-eqb}
 use Rattle.sheet.specs.Sheet.{mostNames, between, lengthAt, pastAt, bytesAt, allGood, same, taken}
 use Rattle.sheet.specs.Walk.{walkEnd, walkNames}
-use Rattle.sheet.specs.Accepted.{GoodName, GoodNames}
+use Rattle.sheet.specs.Guaranteed.{GoodName, GoodNames}
 
 and-true : (a b : Bool) → (a && b) ≡ true → (a ≡ true) × (b ≡ true)
 and-true true b h = (refl, h)

@@ -1,5 +1,3 @@
 pub mod Sheet
 pub mod Walk
-pub mod Accepted
-pub mod Answer
-pub mod Steps
+pub mod Guaranteed

@@ -100,9 +100,9 @@ abbrev pub oneCode : ℕ → ℕ → ℕ → List Formula → Outcome (List Form
 oneCode n at c fs = cond (ltb c n) (given (leaf c ∷ fs)) (joined at (operation c) fs)
 
 -- Codes are judged left to right.
-unfoldable pub judged : ℕ → ℕ → List ℕ → List Formula → Outcome (List Formula)
-judged n at [] fs = given fs
-judged n at (c ∷ cs) fs = oneCode n at c fs >>= judged n (at + 2) cs
+unfoldable pub allCodes : ℕ → ℕ → List ℕ → List Formula → Outcome (List Formula)
+allCodes n at [] fs = given fs
+allCodes n at (c ∷ cs) fs = oneCode n at c fs >>= allCodes n (at + 2) cs
 
 -- If the end leaves other than one operand, 7, at the tag.
 abbrev pub onlyOne : ℕ → List Formula → Outcome Formula
@@ -112,7 +112,7 @@ onlyOne tag (f ∷ g ∷ fs) = refused 7 tag
 
 -- The formula of the codes, the first of which stands at offset `first`.
 unfoldable pub formulaOf : ℕ → ℕ → ℕ → List ℕ → Outcome Formula
-formulaOf n tag first cs = judged n first cs [] >>= onlyOne tag
+formulaOf n tag first cs = allCodes n first cs [] >>= onlyOne tag
 
 -- ---- Order of reading
 
@@ -179,14 +179,15 @@ fieldAt s at ns false = do
   -- may this tag stand here (else 2)
   cond (eqb (getD s at 0) 2) (nameAt s at ns) (cond (eqb (getD s at 0) 3) (formulaAt s at ns) (refused 2 at))
 
--- After a field: a name is added, and `on` reads on; the formula is the last one; an end before the formula comes too soon.
+-- After a field: a name is added, and `on` reads on; the formula is the last one; an end before the formula comes too soon. That last
+-- clause never decides: `proofs/Enough.antt`.
 abbrev pub onward : (ℕ → List (List ℕ) → Outcome Sheet) → List ℕ → List (List ℕ) → Field → Outcome Sheet
 onward on s ns (nameField x past) = on past (ns ++ (x ∷ []))
 onward on s ns (formulaField f first past) =
     fieldAt s past ns true >> given (record { names = ns; formula = f; first = first; past = past })
 onward on s ns endField = refused 1 (length s)
 
--- The fields from an offset on, after the names ns: at most k of them.
+-- The fields from an offset on, after the names ns: at most k of them. The clause for none never decides: `proofs/Enough.antt`.
 unfoldable pub fields : ℕ → List ℕ → ℕ → List (List ℕ) → Outcome Sheet
 fields zero s at ns = refused 6 at
 fields (suc k) s at ns = fieldAt s at ns false >>= onward (fields k s) s ns

@@ -1,5 +1,5 @@
 // The cases of building the contracted tree.
-use jobs::BuildAnswer;
+use job_build::BuildAnswer;
 use showing::lending::Rooms;
 use showing::lending::all;
 use showing::lending::lend_u16;
@@ -45,7 +45,7 @@ fn build(case: &[u8], s: Draft, rooms: Rooms) {
     let mut firsts = [99u16; 16];
     let mut seconds = [99u16; 16];
     say(case);
-    let n = shown(built(jobs::build(
+    let n = shown(built(job_build::build(
         part(&bytes, s.length),
         lend_u16(&mut kinds, rooms.first),
         lend_u16(&mut firsts, rooms.second),
@@ -64,7 +64,7 @@ fn summary(case: &[u8], s: Draft) {
     let mut firsts = [99u16; 3072];
     let mut seconds = [99u16; 3072];
     say(case);
-    built(jobs::build(
+    built(job_build::build(
         part(&bytes, s.length),
         &mut kinds,
         &mut firsts,

@@ -1,5 +1,5 @@
 // The cases of reading a sheet.
-use sheet::ReadAnswer;
+use sheet_reading::ReadAnswer;
 use showing::lending::part;
 use showing::making::Draft;
 use showing::making::comb;
@@ -20,7 +20,7 @@ use showing::printing::say;
 fn read(case: &[u8], s: Draft) {
     let bytes = s.bytes;
     say(case);
-    match jobs::read(part(&bytes, s.length)) {
+    match sheet_reading::read_sheet(part(&bytes, s.length)) {
         ReadAnswer::Read {
             names,
             leaves,

@@ -17,7 +17,8 @@ use Rattle.labels.specs.Arrays.{Holds, Tree}
 use Rattle.labels.specs.Steps.{recs, Shaped, Parents, Chains, Ready}
 use Rattle.labels.proofs.Held.{held-records, held-shaped}
 use Rattle.toggles.specs.Toggles.{run, toggleRun}
-use Rattle.toggles.specs.Ran.{firstWrong, Room, Ran}
+use Rattle.toggles.specs.Named.{firstWrong}
+use Rattle.toggles.specs.Ran.{Room, Ran}
 use Rattle.toggles.specs.Steps.{RunDone}
 use Rattle.toggles.proofs.Runs.{run-roots, run-labels}
 

@@ -7,8 +7,8 @@ use mathlib.Core.List.{List, [], _∷_, _++_, append-assoc, append-nil}
 use lib.Dec.{eqb}
 use lib.ListN.{length}
 use Rattle.formula.specs.Formula.{Formula}
-use Rattle.formula.specs.States.{outside, toggledBy}
-use Rattle.formula.specs.Flips.{flipped, after}
+use Rattle.formula.specs.States.{outside, toggledBy, flipped}
+use Rattle.formula.specs.Flips.{after}
 use Rattle.formula.proofs.States.{after-outside, after-append}
 use Rattle.contraction.specs.Records.{Rec}
 use Rattle.contraction.specs.Rounds.{dwarf}

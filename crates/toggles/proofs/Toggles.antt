@@ -8,8 +8,7 @@ use lib.Dec.{eqb}
 use lib.ListN.{length, getD, set, length-set}
 use lib.Seq.{getD-set-same, getD-set-other}
 use Rattle.formula.specs.Formula.{Formula}
-use Rattle.formula.specs.States.{State}
-use Rattle.formula.specs.Flips.{flipped}
+use Rattle.formula.specs.States.{State, flipped}
 use Rattle.contraction.specs.Records.{Rec}
 use Rattle.contraction.specs.Rounds.{dwarf}
 use Rattle.contraction.proofs.Worked.{Each, Good}

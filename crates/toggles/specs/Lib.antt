@@ -1,4 +1,5 @@
 pub mod Toggles
 pub mod Demand
+pub mod Named
 pub mod Ran
 pub mod Steps

@@ -1,9 +1,7 @@
--- What a run leaves in the lent lists, and which toggle lists it takes.
-use Prim.Native.Nat.{ℕ, suc, _<_, _≤_}
+-- What a run leaves in the lent lists, and the room that it needs.
+use Prim.Native.Nat.{ℕ, _<_, _≤_}
 use mathlib.Core.Path.{_≡_}
-use mathlib.Core.Bool.{true, false}
-use mathlib.Core.List.{List, [], _∷_}
-use lib.Dec.{ltb}
+use mathlib.Core.List.{List, []}
 use lib.ListN.{length, getD}
 use Rattle.outcome.specs.Lent.{filled}
 use Rattle.formula.specs.Formula.{Formula}
@@ -12,11 +10,6 @@ use Rattle.contraction.specs.Rounds.{dwarf}
 use Rattle.labels.specs.Labels.{labels as labelsOf}
 use Rattle.toggles.specs.Toggles.{toggleRun}
 use Rattle.toggles.specs.Demand.{roots as rootsOf}
-
--- The index of the first shape number not below the number of names; the list's length where there is none.
-abbrev pub firstWrong : ℕ → List ℕ → ℕ
-firstWrong names [] = 0
-firstWrong names (s ∷ ss) = elim (ltb s names) [ true ↦ suc (firstWrong names ss) | false ↦ 0 ]
 
 -- Every toggle is one of 256 shapes, and there is room for a root and a count for each.
 pub record Room (ss roots counts : List ℕ) : Type 0 where

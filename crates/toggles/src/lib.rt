@@ -9,7 +9,8 @@ ghost use Rattle.labels.specs.Arrays.{Holds, Tree};
 ghost use Rattle.labels.specs.Steps.{recs, Shaped, Parents, Ready};
 ghost use Rattle.toggles.specs.Toggles.{steps, flip as flipOf, walk as walkOf, toggle as toggleOf};
 ghost use Rattle.toggles.specs.Steps.{RunDone};
-ghost use Rattle.toggles.specs.Ran.{firstWrong, Room, Ran};
+ghost use Rattle.toggles.specs.Named.{firstWrong};
+ghost use Rattle.toggles.specs.Ran.{Room, Ran};
 
 // The other bit.
 fn flip(v: u8) -> u8

@@ -7,13 +7,13 @@ use lib.ListN.{length, getD, take, length-append}
 use lib.Seq.{take-suc, take-at, length-take-le}
 use Rattle.formula.specs.Formula.{Formula, leaf, node, leaves, postfix, Over}
 use Rattle.formula.proofs.Laws.{length-postfix}
-use Rattle.contraction.specs.Records.{Rec}
+use Rattle.contraction.specs.Records.{Rec, kindsOf, firstsOf, secondsOf}
 use Rattle.contraction.specs.Rounds.{nodes, made, rounds, planted, leafRecs, enough, dwarf}
 use Rattle.contraction.specs.Height.{height}
 use Rattle.contraction.proofs.Rounds.{length-leafRecs}
 use Rattle.tree_tokens.specs.Tokens.{recAt, recs, Shelves, Leaves}
 use Rattle.tree_tokens.proofs.TokensLaws.{length-recs}
-use Rattle.tree_dwarf.specs.Dwarfed.{Plans, kindsOf, firstsOf, secondsOf, Dwarfed}
+use Rattle.tree_dwarf.specs.Dwarfed.{Plans, Dwarfed}
 use Rattle.tree_dwarf.specs.Steps.{Contracted, Bounded}
 use Rattle.tree_dwarf.specs.declared.Built.{Built}
 use Rattle.tree_dwarf.proofs.RoundLaws.{leaves-next}

@@ -7,12 +7,12 @@ use mathlib.Core.List.{List, [], _∷_, _++_}
 use lib.ListN.{length, getD, take, length-append}
 use lib.Seq.{getD-take}
 use Rattle.formula.specs.Formula.{Formula, leaf, node, leaves, Over}
-use Rattle.contraction.specs.Records.{Rec}
+use Rattle.contraction.specs.Records.{Rec, kindsOf, firstsOf, secondsOf}
 use Rattle.contraction.specs.Rounds.{made, planted, leafRecs, enough, dwarf}
 use Rattle.contraction.proofs.Rounds.{length-leafRecs}
 use Rattle.contraction.proofs.Worked.{Each, each-append}
 use Rattle.tree_tokens.specs.Tokens.{recAt}
-use Rattle.tree_dwarf.specs.Dwarfed.{kindsOf, firstsOf, secondsOf, Dwarfed}
+use Rattle.tree_dwarf.specs.Dwarfed.{Dwarfed}
 use Rattle.tree_dwarf.specs.declared.Built.{Built}
 
 -- the record i of a list

@@ -1,10 +1,10 @@
 -- Building: from the codes of a formula to its dwarf tree's leaves, nodes, rounds, height and records.
 use Prim.Native.Nat.{ℕ}
 use mathlib.Core.Path.{_≡_}
-use mathlib.Core.List.{List, map}
+use mathlib.Core.List.{List}
 use lib.ListN.{length, take}
 use Rattle.formula.specs.Formula.{Formula, leaves, postfix, Over}
-use Rattle.contraction.specs.Records.{Rec}
+use Rattle.contraction.specs.Records.{kindsOf, firstsOf, secondsOf}
 use Rattle.contraction.specs.Rounds.{dwarf, roundsOf}
 use Rattle.contraction.specs.Height.{height}
 use Rattle.tree_dwarf.specs.declared.Built.{Built}
@@ -18,16 +18,6 @@ pub record Plans (f : Formula) (codes : List ℕ) (n : ℕ) : Type 0 where
 pub record Planned (codes : List ℕ) (n : ℕ) : Type 0 where
   pub formula : Formula
   pub plans : Plans formula codes n
-
--- The three lists of records: kinds, firsts, seconds, one entry a dwarf node.
-abbrev pub kindsOf : List Rec → List ℕ
-kindsOf rs = map (λ r. r .kind) rs
-
-abbrev pub firstsOf : List Rec → List ℕ
-firstsOf rs = map (λ r. r .first) rs
-
-abbrev pub secondsOf : List Rec → List ℕ
-secondsOf rs = map (λ r. r .second) rs
 
 -- What is built of f: the four numbers, and the records as the first entries of the arrays.
 pub record Dwarfed (f : Formula) (ks fs ss : List ℕ) (b : Built) : Type 0 where

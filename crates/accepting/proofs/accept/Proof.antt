@@ -1,16 +1,11 @@
 -- `accepting::accept` meets its contract: the reader refuses, or the sheet is accepted.
-use Rattle.accepting.proofs.PreparedLaws.{sheet-refused, fillable, ready}
-use Rattle.sheet.proofs.Told.{read-known}
+use Rattle.accepting.proofs.PreparedLaws.{sheet-refused, ordered, inside, fit, ready}
 use borrow.Author.Needs.{needs}
 use Rattle.accepting.proofs.accept.Statement.{statement}
 use Rattle.accepting.proofs.accept.Tie as tie
-use Rattle.accepting.proofs.accept.Reads as reads
-use Rattle.accepting.proofs.accept.Lts as lts
-use Rattle.sheet.proofs.fill_codes.Reads as fill-codes-reads
-use Rattle.sheet.proofs.read.Reads as read-reads
 
-read-requires : tie.Need-read-requires
-read-requires c κs = search needs
+read-sheet-requires : tie.Need-read-sheet-requires
+read-sheet-requires c κs = search needs
 
 enum-known-number : tie.Need-enum-known-number
 enum-known-number c = search needs
@@ -18,22 +13,34 @@ enum-known-number c = search needs
 enum-known-names : tie.Need-enum-known-names
 enum-known-names c = search needs
 
+sub-fill-codes : tie.Need-sub-fill-codes
+sub-fill-codes c = search ordered
+
+part-fill-codes-start : tie.Need-part-fill-codes-start
+part-fill-codes-start c = search ordered
+
+part-fill-codes-end : tie.Need-part-fill-codes-end
+part-fill-codes-end c = search inside
+
 fill-codes-requires : tie.Need-fill-codes-requires
-fill-codes-requires c κs = let w = read-known _ _ (c .before .before .before .before .read .ensures) _ _ _ _ (c .before .before .names .given .1) in search (fillable, needs)
+fill-codes-requires c κs = search (fit, needs)
 
 returns : tie.Need-returns
 returns c = search (sheet-refused, needs)
 
 returns-2 : tie.Need-returns-2
-returns-2 c = let w = read-known _ _ (c .before .before .before .before .before .read .ensures) _ _ _ _ (c .before .before .before .names .given .1) in (search needs, ready _ _ _ _ _ _ _ w (c .fill-codes .ensures))
+returns-2 c = search (ready, needs)
 
 pub accept-spec : {M : Type 1} → statement M
 accept-spec =
     tie.close
     (tie.spec
-    read-requires
+    read-sheet-requires
     enum-known-number
     enum-known-names
+    sub-fill-codes
+    part-fill-codes-start
+    part-fill-codes-end
     fill-codes-requires
     returns
     returns-2)

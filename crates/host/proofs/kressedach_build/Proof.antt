@@ -5,7 +5,7 @@ use Rattle.host.proofs.kressedach_build.Statement.{statement}
 use Rattle.host.proofs.kressedach_build.Tie as tie
 use Rattle.host.proofs.kressedach_build.Reads as reads
 use Rattle.host.proofs.kressedach_build.Lts as lts
-use Rattle.jobs.proofs.build.Reads as build-reads
+use Rattle.job_build.proofs.build.Reads as build-reads
 
 build-requires : tie.Need-build-requires
 build-requires c κs = search needs

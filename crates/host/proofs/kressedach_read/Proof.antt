@@ -5,10 +5,10 @@ use Rattle.host.proofs.kressedach_read.Statement.{statement}
 use Rattle.host.proofs.kressedach_read.Tie as tie
 use Rattle.host.proofs.kressedach_read.Reads as reads
 use Rattle.host.proofs.kressedach_read.Lts as lts
-use Rattle.jobs.proofs.read.Reads as read-reads
+use Rattle.sheet_reading.proofs.read_sheet.Reads as read-reads
 
-read-requires : tie.Need-read-requires
-read-requires c κs = search needs
+read-sheet-requires : tie.Need-read-sheet-requires
+read-sheet-requires c κs = search needs
 
 enum-known-names : tie.Need-enum-known-names
 enum-known-names c = search needs
@@ -24,4 +24,4 @@ returns-2 c = search (read-refused, needs)
 
 pub kressedach-read-spec : {M : Type 1} → statement M
 kressedach-read-spec =
-    tie.close (tie.spec read-requires enum-known-names enum-known-number returns returns-2)
+    tie.close (tie.spec read-sheet-requires enum-known-names enum-known-number returns returns-2)

@@ -4,7 +4,7 @@ use mathlib.Core.Path.{_≡_}
 use native.Mathlib.Omega.{arith}
 use borrow.Author.Needs.{needs}
 use lib.ListN.{length, drop, drop-of-length-le}
-use Rattle.toggles.specs.Ran.{firstWrong}
+use Rattle.toggles.specs.Named.{firstWrong}
 use Rattle.toggles.proofs.RanLaws.{wrong-past, wrong-here}
 use Rattle.toggles.proofs.first_wrong.Statement.{statement}
 use Rattle.toggles.proofs.first_wrong.Tie as tie

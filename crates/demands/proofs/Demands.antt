@@ -1,0 +1,122 @@
+-- Demands 2 and 3, as theorems on what the jobs are promised to answer. Demand 1 stands beside each promise, in `Settled.antt`.
+use Prim.Native.Nat.{ℕ, zero, suc, _+_, _*_, _≤_, _<_}
+use native.Mathlib.Numerals.{add-one}
+use native.Mathlib.Omega.{arith}
+use mathlib.Core.Path.{_≡_, refl, sym, ap, _∙_, fun-ext}
+use mathlib.Core.List.{List, [], _∷_, _++_, map, append-assoc}
+use lib.IntN.{ℤ}
+use lib.ListN.{length, getD, take, List·getD-append}
+use Rattle.outcome.specs.Outcome.{Outcome, given, _>>_}
+use Rattle.outcome.specs.Lent.{filled}
+use Rattle.outcome.proofs.Questions.{given-same, part-given}
+use Rattle.formula.specs.Formula.{Formula, inside}
+use Rattle.formula.specs.States.{outside, toggledBy}
+use Rattle.contraction.specs.Rounds.{dwarf}
+use Rattle.contraction.specs.Height.{height}
+use Rattle.sheet.specs.Sheet.{Sheet}
+use Rattle.sheet.proofs.Guaranteed.{guaranteed}
+use Rattle.accepting.specs.Accepting.{accepted}
+use Rattle.accepting.proofs.Accepted.{accepted-read}
+use Rattle.labels.specs.Labels.{bit, labels as labelsOf}
+use Rattle.labels.proofs.Afresh.{length-labels}
+use Rattle.toggles.specs.Toggles.{toggleRun}
+use Rattle.toggles.specs.Demand.{rootsAfter, roots as rootsOf, leavesOf}
+use Rattle.toggles.proofs.Runs.{run-roots, length-roots, length-counts}
+use Rattle.toggles.proofs.Count.{count-bound}
+use Rattle.lines.specs.Lines.{crossings, Wall}
+use Rattle.lines.specs.Right.{Right}
+use Rattle.lines.proofs.Theorems.{right-only, classified-right}
+use Rattle.job_run.specs.Running.{running}
+use Rattle.job_classify.specs.Classifying.{classifying}
+use Rattle.job_run.specs.Ran.{Ran}
+use Rattle.job_classify.specs.Classified.{Classified}
+use Rattle.job_run.specs.declared.RunAnswer.the-variants as run
+use Rattle.job_classify.specs.declared.ClassifyAnswer.the-variants as classify
+use Rattle.job_run.proofs.Settled.{ran-accepted}
+use Rattle.job_classify.proofs.ClassifyLaws.{classifying-accepted}
+
+-- ---- A toggle run that is answered
+
+roots-at : (f : Formula) (done ts : List ℕ) (i : ℕ) → i < length ts
+    → getD (rootsAfter f done ts) i 0 ≡ bit (inside f (toggledBy (done ++ take (suc i) ts)))
+roots-at f done [] i h = absurd (omega arith)
+roots-at f done (t ∷ ts) zero h = refl
+roots-at f done (t ∷ ts) (suc i) h =
+    roots-at f (done ++ (t ∷ [])) ts i (omega arith) ∙ ap (λ us. bit (inside f (toggledBy us))) (append-assoc done (t ∷ []) (take (suc i) ts))
+
+-- The sheet s, accepted as x, and the toggles ts; the lists after the call.
+module _ (s : List ℕ) (x : Sheet) (is : accepted s ≡ given x) (ts rs cs ls : List ℕ) (nodes : ℕ) (rs′ cs′ ls′ : List ℕ)
+    (ran : Ran (running s ts (length rs) (length cs) (length ls)) ts rs cs ls (run.Ran nodes) rs′ cs′ ls′) where
+  abbrev job : Outcome Formula
+  job = running s ts (length rs) (length cs) (length ls)
+
+  answered : (job ≡ given (x .formula)) × (length (dwarf (x .formula)) ≡ nodes)
+  answered =
+      let a = part-given (λ f. length (dwarf f)) job nodes (ran .answer) in
+      let y = ran-accepted s ts _ _ _ (a .0) (a .1) in
+      let same : x .formula ≡ a .0 = ap (λ (z : Sheet). z .formula) (given-same x (y .0) (sym is ∙ y .1)) ∙ y .2 in
+      rw same (a .1, a .2)
+
+  -- Demand 2: after each toggle the answer is the formula's value, where a shape is inside after an odd number of toggles.
+  pub root-after-toggle : (i : ℕ) → i < length ts → getD rs′ i 0 ≡ bit (inside (x .formula) (toggledBy (take (i + 1) ts)))
+  root-after-toggle i h =
+      let f = x .formula in
+      let listed : rs′ ≡ filled (rootsOf f ts) rs = rw (answered .0) at (ran .lists .roots-list) in
+      let long : length (rootsOf f ts) ≡ length ts = ap length (sym (run-roots f ts)) ∙ length-roots _ _ ts in
+      ap (λ l. getD l i 0) listed ∙ List·getD-append (rootsOf f ts) _ 0 i (omega arith) ∙ rw add-one (roots-at f [] ts i h)
+
+  -- Demand 3: the count is the number of labels that the rules say are reworked,
+  pub count-of-toggle : (i : ℕ) → i < length ts → getD cs′ i 0 ≡ getD (toggleRun (x .formula) ts .counts) i 0
+  count-of-toggle i h =
+      let f = x .formula in
+      let listed : cs′ ≡ filled (toggleRun f ts .counts) cs = rw (answered .0) at (ran .lists .counts-list) in
+      ap (λ l. getD l i 0) listed ∙ List·getD-append (toggleRun f ts .counts) _ 0 i (omega (arith, length-counts (dwarf f) (labelsOf outside (dwarf f)) ts))
+
+  -- and is at most the leaves of that shape times the contracted tree's height.
+  pub count-at-most : (i : ℕ) → i < length ts → getD cs′ i 0 ≤ leavesOf (getD ts i 0) (x .formula) * height (dwarf (x .formula))
+  count-at-most i h = omega (arith, count-of-toggle i h, count-bound (x .formula) ts i h)
+
+  -- The label at every node is the one worked out afresh from the shapes then inside.
+  pub label-afresh : (d : ℕ) → d < nodes → getD ls′ d 0 ≡ getD (labelsOf (toggledBy ts) (dwarf (x .formula))) d 0
+  label-afresh d h =
+      let f = x .formula in
+      let listed : ls′ ≡ filled (labelsOf (toggledBy ts) (dwarf f)) ls = rw (answered .0) at (ran .lists .labels-list) in
+      ap (λ l. getD l d 0) listed ∙ List·getD-append (labelsOf (toggledBy ts) (dwarf f)) _ 0 d (omega (arith, answered .1, length-labels (toggledBy ts) (dwarf f)))
+
+-- Two toggle lists in which each shape is toggled an odd number of times in both or an even number in both leave the same label at every node.
+pub same-oddness-same-labels : (s : List ℕ) (x : Sheet) → accepted s ≡ given x
+    → (ts rs cs ls : List ℕ) (nodes : ℕ) (rs′ cs′ ls′ : List ℕ) → Ran (running s ts (length rs) (length cs) (length ls)) ts rs cs ls (run.Ran nodes) rs′ cs′ ls′
+    → (us ps ds ms : List ℕ) (nodes₂ : ℕ) (ps′ ds′ ms′ : List ℕ) → Ran (running s us (length ps) (length ds) (length ms)) us ps ds ms (run.Ran nodes₂) ps′ ds′ ms′
+    → ((shape : ℕ) → toggledBy ts shape ≡ toggledBy us shape)
+    → (nodes ≡ nodes₂) × ((d : ℕ) → d < nodes → getD ls′ d 0 ≡ getD ms′ d 0)
+same-oddness-same-labels s x is ts rs cs ls nodes rs′ cs′ ls′ a us ps ds ms nodes₂ ps′ ds′ ms′ b same =
+    let m = answered s x is ts rs cs ls nodes rs′ cs′ ls′ a .1 in
+    let n = answered s x is us ps ds ms nodes₂ ps′ ds′ ms′ b .1 in (
+      sym m ∙ n,
+      (λ d h.
+          label-afresh s x is ts rs cs ls nodes rs′ cs′ ls′ a d h
+          ∙ ap (λ state. getD (labelsOf state (dwarf (x .formula))) d 0) (fun-ext same)
+          ∙ sym (label-afresh s x is us ps ds ms nodes₂ ps′ ds′ ms′ b d (omega arith))),
+    )
+
+-- ---- Demand 2, lines that are answered: the walls reported are the longest stretches of positive length inside, all of them, in rising order
+
+module _ (s : List ℕ) (x : Sheet) (is : accepted s ≡ given x) (ls : List ℕ) (ps : List ℤ) (ss : List ℕ) (a b c : ℕ) (ws : List Wall)
+    (gives : classifying s ls ps ss a b c ≡ given ws) where
+  pub walls-right : Right (x .formula) (crossings ls ps ss) ws
+  walls-right =
+      classified-right (x .formula) (length (x .names)) (guaranteed s x (accepted-read s x is .0) .good-names .few) ls ps ss a b c ws
+      (sym (classifying-accepted ls ps ss a b c s x is) ∙ gives)
+
+  -- No other list is right.
+  pub walls-only : (vs : List Wall) → Right (x .formula) (crossings ls ps ss) vs → vs ≡ ws
+  walls-only vs right = right-only (x .formula) (crossings ls ps ss) vs ws right walls-right
+
+-- They are what the three lists hold, entry by entry, and their number is the answer.
+pub walls-listed : (o : Outcome (List Wall)) (ls : List ℕ) (ss es : List ℤ) (n : ℕ) (ls′ : List ℕ) (ss′ es′ : List ℤ)
+    → Classified o ls ss es (classify.Walls n) ls′ ss′ es′
+    → (ws : List Wall) × (o ≡ given ws) × (n ≡ length ws)
+    × (ls′ ≡ filled (map (λ (w : Wall). w .line) ws) ls) × (ss′ ≡ filled (map (λ (w : Wall). w .start) ws) ss) × (es′ ≡ filled (map (λ (w : Wall). w .end) ws) es)
+walls-listed o ls ss es n ls′ ss′ es′ c =
+    let a = part-given length o n (c .answer) in
+    (a .0, a .1, sym (a .2), rw (a .1) at (c .lists .lines-list), rw (a .1) at (c .lists .starts-list), rw (a .1) at (c .lists .ends-list))

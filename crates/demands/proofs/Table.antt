@@ -1,0 +1,130 @@
+-- The cases that document 01 marks P, computed of the definitions themselves: one table under a single statement.
+use Prim.Native.Nat.{ℕ, zero, suc, _/_, _%_}
+use mathlib.Core.Path.{_≡_, refl}
+use mathlib.Core.List.{List, [], _∷_, _++_, map}
+use lib.IntN.{ℤ, pos}
+use lib.ListN.{length}
+use Rattle.outcome.specs.Outcome.{given, part}
+use Rattle.formula.specs.Formula.{union, intersection, difference, exclusive, Formula, leaf, node, postfix}
+use Rattle.formula.specs.States.{times, toggledBy}
+use Rattle.contraction.specs.Records.{Rec}
+use Rattle.contraction.specs.Rounds.{dwarf}
+use Rattle.sheet.specs.Sheet.{lengthAt, pastAt, bytesAt, allGood, same, taken, codesOf, allCodes, formulaOf, header, nameAt, formulaAt, fieldAt, fields, reading}
+use Rattle.accepting.specs.Accepting.{accepted}
+use Rattle.labels.specs.Labels.{labels as labelsOf}
+use Rattle.toggles.specs.Toggles.{Answers, answers, toggleRun}
+use Rattle.toggles.specs.Demand.{roots as rootsOf}
+use Rattle.lines.specs.Lines as lines
+use Rattle.lines.specs.Lines.{crossed, ordered, anyInside, firstLine, anyOn, lastOn, wallsFrom, classified}
+use Rattle.job_build.specs.Building.{giving, building, Summary, summary, summaryOf}
+use Rattle.job_run.specs.Running.{toggling, running}
+use Rattle.job_classify.specs.Classifying.{classifying}
+
+-- ---- A sheet of n names A, B, C, .. and a formula, as bytes
+
+abbrev pub two : ℕ → List ℕ
+two n = n / 256 ∷ n % 256 ∷ []
+
+abbrev pub field : ℕ → List ℕ → List ℕ
+field tag bytes = tag ∷ (two (length bytes) ++ bytes)
+
+abbrev pub names : ℕ → ℕ → List ℕ
+names letter zero = []
+names letter (suc n) = field 2 (letter ∷ []) ++ names (suc letter) n
+
+abbrev pub codes : List ℕ → List ℕ
+codes [] = []
+codes (c ∷ cs) = two c ++ codes cs
+
+abbrev pub sheet : ℕ → Formula → List ℕ
+sheet n f = field 1 (two 1) ++ (names 65 n ++ field 3 (codes (postfix f)))
+
+abbrev pub A : Formula
+A = leaf 0
+
+abbrev pub B : Formula
+B = leaf 1
+
+abbrev pub C : Formula
+C = leaf 2
+
+abbrev pub D : Formula
+D = leaf 3
+
+abbrev pub E : Formula
+E = leaf 4
+
+abbrev pub worked : List ℕ
+worked = sheet 3 (node difference A (node union B C))
+
+-- ---- What a case says; each answer list has room for 12 entries
+
+abbrev pub room : ℕ
+room = 12
+
+-- What a run is promised to leave: roots, counts, labels.
+abbrev pub ranOn : List ℕ → Formula → Answers
+ranOn ts f = answers (rootsOf f ts) (toggleRun f ts .counts) (labelsOf (toggledBy ts) (dwarf f))
+
+pub data Case : Type 0 where
+  -- a sheet is these bytes
+  bytes : List ℕ → List ℕ → Case
+  -- of a sheet: leaves, dwarf nodes, rounds, height
+  builds : List ℕ → Summary → Case
+  -- and its records
+  lists : List ℕ → List Rec → Case
+  -- of a sheet and toggles
+  runs : List ℕ → List ℕ → Answers → Case
+  -- of a sheet and the crossings of line 0, by position and shape: walls by start and end
+  walls : List ℕ → List (ℤ × ℕ) → List (ℤ × ℤ) → Case
+
+abbrev pub Holds : Case → Type 0
+Holds (bytes s b) = s ≡ b
+Holds (builds s n) = part summaryOf (building s room room room) ≡ given n
+Holds (lists s rs) = part dwarf (building s room room room) ≡ given rs
+Holds (runs s ts a) = part (ranOn ts) (running s ts room room room) ≡ given a
+Holds (walls s xs ws) =
+    classifying s (map (λ x. 0) xs) (map (λ x. x .0) xs) (map (λ x. x .1) xs) room room room
+    ≡ given (map (λ w. record { line = 0; start = w .0; end = w .1 }) ws)
+
+abbrev pub All : List Case → Type 0
+All [] = Unit {0}
+All (c ∷ cs) = Holds c × All cs
+
+abbrev pub rec : ℕ → ℕ → ℕ → Rec
+rec k f s = record { kind = k; first = f; second = s }
+
+-- ---- The table
+
+abbrev pub table : List Case
+table =
+    -- The worked sheet, 30 bytes, and its listing.
+    bytes worked (0x01 ∷ 0x00 ∷ 0x02 ∷ 0x00 ∷ 0x01 ∷ 0x02 ∷ 0x00 ∷ 0x01 ∷ 0x41 ∷ 0x02 ∷ 0x00 ∷ 0x01 ∷ 0x42 ∷ 0x02 ∷ 0x00 ∷ 0x01 ∷ 0x43 ∷ 0x03 ∷ 0x00 ∷ 0x0A ∷ 0x00 ∷ 0x00 ∷ 0x00 ∷ 0x01 ∷ 0x00 ∷ 0x02 ∷ 0xFF ∷ 0xF0 ∷ 0xFF ∷ 0xF2 ∷ [])
+    ∷ builds worked (summary 3 6 2 2)
+    ∷ lists worked (rec 0 0 65535 ∷ rec 0 1 65535 ∷ rec 0 2 65535 ∷ rec 1 1 2 ∷ rec 7 0 65535 ∷ rec 13 4 3 ∷ [])
+    -- Toggles A, B, C, A on it.
+    ∷ runs worked (0 ∷ 1 ∷ 2 ∷ 0 ∷ []) (answers (1 ∷ 0 ∷ 0 ∷ 0 ∷ []) (2 ∷ 2 ∷ 1 ∷ 2 ∷ []) (0 ∷ 1 ∷ 1 ∷ 1 ∷ 0 ∷ 0 ∷ []))
+    -- Toggles B, C: the same labels.
+    ∷ runs worked (1 ∷ 2 ∷ []) (answers (0 ∷ 0 ∷ []) (2 ∷ 1 ∷ []) (0 ∷ 1 ∷ 1 ∷ 1 ∷ 0 ∷ 0 ∷ []))
+    -- One leaf: one node, no rounds, height 0; a toggle counts 0.
+    ∷ builds (sheet 1 A) (summary 1 1 0 0)
+    ∷ runs (sheet 1 A) (0 ∷ []) (answers (1 ∷ []) (0 ∷ []) (1 ∷ []))
+    -- A exclusive A, one toggle: root 0, count 2.
+    ∷ runs (sheet 1 (node exclusive A A)) (0 ∷ []) (answers (0 ∷ []) (2 ∷ []) (1 ∷ 1 ∷ 0 ∷ []))
+    -- A B union C difference D intersection E exclusive: 12 nodes, 3 rounds, height 3.
+    ∷ builds (sheet 5 (node exclusive (node intersection (node difference (node union A B) C) D) E)) (summary 5 12 3 3)
+    -- A B union C D union intersection: 7 nodes, 2 rounds, height 2.
+    ∷ builds (sheet 4 (node intersection (node union A B) (node union C D))) (summary 4 7 2 2)
+    -- A less B, A at 0 and 100, B at 40 and 60: walls 0 to 40, 60 to 100.
+    ∷ walls (sheet 2 (node difference A B)) ((pos 0, 0) ∷ (pos 40, 1) ∷ (pos 60, 1) ∷ (pos 100, 0) ∷ []) ((pos 0, pos 40) ∷ (pos 60, pos 100) ∷ [])
+    -- A union B, A at 0 and 50, B at 50 and 90: one wall, 0 to 90. Their intersection: none.
+    ∷ walls (sheet 2 (node union A B)) ((pos 0, 0) ∷ (pos 50, 0) ∷ (pos 50, 1) ∷ (pos 90, 1) ∷ []) ((pos 0, pos 90) ∷ [])
+    ∷ walls (sheet 2 (node intersection A B)) ((pos 0, 0) ∷ (pos 50, 0) ∷ (pos 50, 1) ∷ (pos 90, 1) ∷ []) []
+    -- A at 10 and 10: none. No crossings: none.
+    ∷ walls (sheet 1 A) ((pos 10, 0) ∷ (pos 10, 0) ∷ []) []
+    ∷ walls (sheet 1 A) [] []
+    ∷ []
+
+pub table-holds : All table
+unfolding building giving running toggling classifying accepted reading fields fieldAt header nameAt formulaAt formulaOf allCodes codesOf taken same allGood bytesAt pastAt lengthAt times classified lines.judged ordered firstLine anyInside crossed anyOn lastOn wallsFrom
+table-holds = (refl, (refl, (refl, (refl, (refl, (refl, (refl, (refl, (refl, (refl, (refl, (refl, (refl, (refl, (refl, tt)))))))))))))))

@@ -1,0 +1,93 @@
+// The job of building: the contracted tree of a sheet's formula, its records given to the caller's lists.
+use accepting::Prepared;
+use tree_dwarf::Built;
+ghost use Prim.Native.Nat.{_≤_};
+ghost use lib.ListN.{length};
+ghost use Rattle.formula.specs.Formula.{Formula};
+ghost use Rattle.tree_tokens.specs.Tokens.{Shelves};
+ghost use Rattle.tree_dwarf.specs.Dwarfed.{Dwarfed};
+ghost use Rattle.job_build.specs.Building.{giving, building};
+ghost use Rattle.job_build.specs.Built.{Built as Promise};
+
+// What building answers.
+pub enum BuildAnswer {
+    Built {
+        leaves: usize,
+        nodes: usize,
+        rounds: usize,
+        height: usize,
+    },
+    Refused {
+        number: u8,
+        place: usize,
+    },
+}
+
+// Gives what is built to the lent lists, where there is room in each.
+fn give_built(
+    k: &[u16; 3072],
+    f: &[u16; 3072],
+    s: &[u16; 3072],
+    built: Built,
+    kinds: &mut [u16],
+    firsts: &mut [u16],
+    seconds: &mut [u16],
+) -> BuildAnswer
+    requires { ⌜ Shelves (now k) (now f) (now s) × (built .nodes ≤ 3072) ⌝ }
+    ensures { λ r. ⌜ ((g : Formula) → Dwarfed g (now (k .entry)) (now (f .entry)) (now (s .entry)) built
+        → Promise (giving g (length (now (kinds .entry))) (length (now (firsts .entry))) (length (now (seconds .entry))))
+        (now (kinds .entry)) (now (firsts .entry)) (now (seconds .entry)) r (now (kinds .exit)) (now (firsts .exit)) (now (seconds .exit))) ⌝ }
+{
+    let n = built.nodes;
+    if kinds.len() < n {
+        return BuildAnswer::Refused {
+            number: 9,
+            place: n,
+        };
+    }
+    if firsts.len() < n {
+        return BuildAnswer::Refused {
+            number: 9,
+            place: n,
+        };
+    }
+    if seconds.len() < n {
+        return BuildAnswer::Refused {
+            number: 9,
+            place: n,
+        };
+    }
+    basics::copy_out(k, n, kinds);
+    basics::copy_out(f, n, firsts);
+    basics::copy_out(s, n, seconds);
+    BuildAnswer::Built {
+        leaves: built.leaves,
+        nodes: n,
+        rounds: built.rounds,
+        height: built.height,
+    }
+}
+
+// Builds the contracted tree of a sheet's formula and gives its records.
+pub fn build(
+    sheet: &[u8],
+    kinds: &mut [u16],
+    firsts: &mut [u16],
+    seconds: &mut [u16],
+) -> BuildAnswer
+    ensures { λ r. ⌜ Promise (building (now (sheet .entry)) (length (now (kinds .entry))) (length (now (firsts .entry))) (length (now (seconds .entry))))
+        (now (kinds .entry)) (now (firsts .entry)) (now (seconds .entry)) r (now (kinds .exit)) (now (firsts .exit)) (now (seconds .exit)) ⌝ }
+{
+    let mut codes = [0u16; 2048];
+    let mut k = [0u16; 3072];
+    let mut f = [0u16; 3072];
+    let mut s = [0u16; 3072];
+    match accepting::prepare(sheet, &mut codes, &mut k, &mut f, &mut s) {
+        Prepared::Refused { number, place } => BuildAnswer::Refused { number, place },
+        Prepared::Ready {
+            names: _,
+            codes: _,
+            built,
+        } => give_built(&k, &f, &s, built, kinds, firsts, seconds),
+    }
+}

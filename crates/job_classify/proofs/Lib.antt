@@ -1,0 +1,2 @@
+pub mod ClassifyLaws
+pub mod Settled

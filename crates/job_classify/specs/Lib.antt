@@ -1,0 +1,2 @@
+pub mod Classifying
+pub mod Classified

@@ -1,4 +1,0 @@
-pub mod Building
-pub mod Running
-pub mod Classifying
-pub mod Answer

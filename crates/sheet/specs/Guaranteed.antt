@@ -1,0 +1,51 @@
+-- What a sheet that is read guarantees: document 01, 'The sheet'.
+use Prim.Native.Nat.{ℕ, _+_, _-_, _%_, _≤_, _<_}
+use mathlib.Core.Path.{_≡_}
+use mathlib.Core.List.{List, []}
+use lib.ListN.{length, getD}
+use Rattle.formula.specs.Formula.{leaves, postfix, Over}
+use Rattle.sheet.specs.Sheet.{Sheet, mostNames, longestName, longestFormula, between, codesOf}
+use Rattle.sheet.specs.Walk.{walkEnd, walkNames}
+
+-- So there are at most 1024 leaves, 2047 formula nodes and 13,062 bytes.
+abbrev pub mostLeaves : ℕ
+mostLeaves = 1024
+
+abbrev pub mostNodes : ℕ
+mostNodes = 2047
+
+abbrev pub mostBytes : ℕ
+mostBytes = 13062
+
+-- A name of 1 to 32 bytes, each 0x21 to 0x7E.
+pub record GoodName (x : List ℕ) : Type 0 where
+  pub some : 1 ≤ length x
+  pub few : length x ≤ longestName
+  pub low : (i : ℕ) → i < length x → 0x21 ≤ getD x i 0
+  pub high : (i : ℕ) → i < length x → getD x i 0 ≤ 0x7E
+
+-- At most 256 names, each of them good, and no two equal.
+pub record GoodNames (ns : List (List ℕ)) : Type 0 where
+  pub few : length ns ≤ mostNames
+  pub good : (k : ℕ) → k < length ns → GoodName (getD ns k [])
+  pub unlike : (j k : ℕ) → j < k → k < length ns → getD ns j [] ≡ getD ns k [] → ⊥
+
+pub record Guaranteed (s : List ℕ) (r : Sheet) : Type 0 where
+  -- 1 to 256 names
+  pub some-names : 1 ≤ length (r .names)
+  pub good-names : GoodNames (r .names)
+  -- codes below the number of names are leaves
+  pub over : Over (length (r .names)) (r .formula)
+  pub few-leaves : leaves (r .formula) ≤ mostLeaves
+  pub few-codes : length (postfix (r .formula)) ≤ mostNodes
+  -- the formula in postfix order, two bytes a code, high byte first, 2 to 4094 bytes
+  pub codes-are : codesOf (between s (r .first) (r .past)) ≡ postfix (r .formula)
+  pub some-bytes : r .first + 2 ≤ r .past
+  pub few-bytes : r .past - r .first ≤ longestFormula
+  pub even : (r .past - r .first) % 2 ≡ 0
+  -- after the formula there is no further byte
+  pub ends : r .past ≡ length s
+  pub few-in-all : length s ≤ mostBytes
+  -- the names are those of the fields from offset 5 on; the formula's field is the next one
+  pub names-are : r .names ≡ walkNames s 5 (length (r .names))
+  pub follows : r .first ≡ walkEnd s 5 (length (r .names)) + 3

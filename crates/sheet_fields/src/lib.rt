@@ -1,0 +1,153 @@
+// One field of a sheet judged, question by question: document 01, 'Order of reading'.
+use sheet_codes::Formed;
+ghost use mathlib.Core.Path.{_≡_};
+ghost use Prim.Native.Nat.{_<_};
+ghost use lib.ListN.{length};
+ghost use Rattle.outcome.specs.Outcome.{part};
+ghost use Rattle.sheet.specs.Sheet.{header as headerOf, nameAt, formulaAt, fieldAt};
+ghost use Rattle.sheet.specs.Walk.{walkNames};
+ghost use Rattle.sheet_names.specs.Keys.{NamesRead};
+ghost use Rattle.sheet_fields.specs.Fields.{seen, fieldOf, headOf};
+
+// What one field is: a name or the formula, with the offset of its first byte and the one past its last; the end; or a refusal, its
+// number and place.
+pub enum Field {
+    Name {
+        first: usize,
+        past: usize,
+    },
+    Formula {
+        first: usize,
+        past: usize,
+        leaves: usize,
+    },
+    End,
+    Refused(u8, usize),
+}
+
+// What the header is: its edition, or a refusal.
+pub enum Head {
+    Good(usize),
+    Refused(u8, usize),
+}
+
+// A name, its tag 2 at offset `at`, after `names` names.
+fn name_field(sheet: &[u8], at: usize, names: usize, keys: &[u32; 256]) -> Field
+    requires { ⌜ NamesRead (now sheet) names (now keys) × (at < length (now sheet)) ⌝ }
+    ensures { λ r. ⌜ fieldOf (now (sheet .entry)) r ≡ part seen (nameAt (now (sheet .entry)) at (walkNames (now (sheet .entry)) 5 names)) ⌝ }
+{
+    if 256 <= names {
+        return Field::Refused(6, at);
+    }
+    let a = at + 3;
+    if sheet.len() < a {
+        return Field::Refused(1, sheet.len());
+    }
+    let n = sheet::two(sheet, at + 1);
+    if n < 1 {
+        return Field::Refused(4, at);
+    }
+    if 32 < n {
+        return Field::Refused(4, at);
+    }
+    let e = a + n;
+    if sheet.len() < e {
+        return Field::Refused(1, sheet.len());
+    }
+    if sheet_names::good_bytes(&sheet[a..e]) {
+        if sheet_names::taken(sheet, names, keys, &sheet[a..e]) {
+            Field::Refused(5, at)
+        } else {
+            Field::Name { first: a, past: e }
+        }
+    } else {
+        Field::Refused(4, at)
+    }
+}
+
+// The formula, its tag 3 at offset `at`, after `names` names.
+fn formula_field(sheet: &[u8], at: usize, names: usize) -> Field
+    requires { ⌜ at < length (now sheet) ⌝ }
+    ensures { λ r. ⌜ fieldOf (now (sheet .entry)) r ≡ part seen (formulaAt (now (sheet .entry)) at (walkNames (now (sheet .entry)) 5 names)) ⌝ }
+{
+    if names < 1 {
+        return Field::Refused(2, at);
+    }
+    let a = at + 3;
+    if sheet.len() < a {
+        return Field::Refused(1, sheet.len());
+    }
+    let n = sheet::two(sheet, at + 1);
+    if 4094 < n {
+        return Field::Refused(6, at);
+    }
+    if n < 1 {
+        return Field::Refused(7, at);
+    }
+    if n % 2 != 0 {
+        return Field::Refused(7, at);
+    }
+    let e = a + n;
+    if sheet.len() < e {
+        return Field::Refused(1, sheet.len());
+    }
+    match sheet_codes::judge(&sheet[a..e], names, at, a) {
+        Formed::Good(leaves) => Field::Formula {
+            first: a,
+            past: e,
+            leaves,
+        },
+        Formed::Wrong(place) => Field::Refused(7, place),
+    }
+}
+
+// The field at offset `at`, after the header and `names` names; `ended` says whether the formula was read already.
+pub fn one_field(sheet: &[u8], at: usize, names: usize, keys: &[u32; 256], ended: bool) -> Field
+    requires { ⌜ NamesRead (now sheet) names (now keys) ⌝ }
+    ensures { λ r. ⌜ fieldOf (now (sheet .entry)) r ≡ part seen (fieldAt (now (sheet .entry)) at (walkNames (now (sheet .entry)) 5 names) ended) ⌝ }
+{
+    if ended {
+        if sheet.len() <= at {
+            return Field::End;
+        }
+        return Field::Refused(2, at);
+    }
+    if sheet.len() <= at {
+        return Field::Refused(1, sheet.len());
+    }
+    let tag = sheet[at];
+    if tag == 2 {
+        return name_field(sheet, at, names, keys);
+    }
+    if tag == 3 {
+        return formula_field(sheet, at, names);
+    }
+    Field::Refused(2, at)
+}
+
+// The header.
+pub fn header(sheet: &[u8]) -> Head
+    ensures { λ r. ⌜ headOf r ≡ headerOf (now (sheet .entry)) ⌝ }
+{
+    if sheet.len() <= 0 {
+        return Head::Refused(1, sheet.len());
+    }
+    if sheet[0] != 1 {
+        return Head::Refused(2, 0);
+    }
+    if sheet.len() < 3 {
+        return Head::Refused(1, sheet.len());
+    }
+    let n = sheet::two(sheet, 1);
+    if n != 2 {
+        return Head::Refused(3, 0);
+    }
+    if sheet.len() < 5 {
+        return Head::Refused(1, sheet.len());
+    }
+    let edition = sheet::two(&sheet[3..5], 0);
+    if edition != 1 {
+        return Head::Refused(3, 0);
+    }
+    Head::Good(edition)
+}

@@ -1,0 +1,34 @@
+-- What the promise of reading settles: two answers that meet it are equal; it refuses exactly when the rules say.
+use Prim.Native.Nat.{ℕ}
+use mathlib.Core.Path.{_≡_, refl, sym, ap, _∙_}
+use mathlib.Core.List.{List}
+use Rattle.outcome.specs.Outcome.{Outcome, given, refused, part}
+use Rattle.outcome.proofs.Questions.{part-refused}
+use Rattle.outcome.proofs.Known.{known-by}
+use Rattle.sheet.specs.Sheet.{reading}
+use Rattle.sheet_reading.specs.Reading.{Numbers, numbers, numbersOf, answerOf, told}
+use Rattle.sheet_reading.specs.declared.ReadAnswer.{ReadAnswer}
+use Rattle.sheet_reading.specs.declared.ReadAnswer.the-variants as answer
+
+answerOf-same : (r q : ReadAnswer) → answerOf r ≡ answerOf q → r ≡ q
+answerOf-same = known-by answerOf back same
+  where
+    back : Outcome Numbers → ReadAnswer
+    back (given (numbers names leaves first past)) = answer.Read names leaves first past
+    back (refused number place) = answer.Refused number place
+
+    same : (r : ReadAnswer) → back (answerOf r) ≡ r
+    same (answer.Read names leaves first past) = refl
+    same (answer.Refused number place) = refl
+
+pub read-unique : (s : List ℕ) (r q : ReadAnswer) → answerOf r ≡ told s → answerOf q ≡ told s → r ≡ q
+read-unique s r q h k = answerOf-same r q (h ∙ sym k)
+
+module _ (s : List ℕ) (r : ReadAnswer) (said : answerOf r ≡ told s) (number place : ℕ) where
+  pub read-refusal : r ≡ answer.Refused number place → reading s ≡ refused number place
+  unfolding told
+  read-refusal is = part-refused numbersOf (reading s) number place (sym (ap answerOf is) ∙ said)
+
+  pub read-refuses : reading s ≡ refused number place → r ≡ answer.Refused number place
+  unfolding told
+  read-refuses is = answerOf-same r (answer.Refused number place) (said ∙ ap (part numbersOf) is)
