@@ -194,7 +194,7 @@ fn from_env(name: &str, otherwise: u64) -> u64 {
 
 const JOBS: [&str; 4] = ["read", "build", "run", "classify"];
 
-/// The refusals that each job can give. 8 is in the table, and no formula is known that gets it.
+/// The refusals that each job can give. 8 is in the table, and it is proved that no formula of a sheet gets it.
 const CAN: [&[usize]; 4] = [
     &[0, 1, 2, 3, 4, 5, 6, 7],
     &[0, 1, 2, 3, 4, 5, 6, 7, 9],

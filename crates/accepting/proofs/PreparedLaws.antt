@@ -15,7 +15,7 @@ use Rattle.sheet_reading.specs.declared.ReadAnswer.the-variants as read
 use Rattle.sheet_reading.proofs.Settled.{read-refusal}
 use Rattle.sheet_reading.proofs.Told.{Known, read-known, known-facts, formula-ordered, formula-inside, formula-fits, formula-codes}
 use Rattle.tree_dwarf.specs.Dwarfed.{Plans, Planned, Dwarfed}
-use Rattle.tree_dwarf.specs.declared.Built.{Built}
+use Rattle.tree_dwarf.specs.declared.Figures.{Figures}
 use Rattle.accepting.specs.Accepting.{accepted}
 use Rattle.accepting.proofs.Accepted.{accepted-given, accepted-refused}
 use Rattle.accepting.specs.Prepared.{Coded, SaysCoded, Says}
@@ -75,5 +75,5 @@ module _ (s codes : List ℕ) (r : Acceptance) (says : SaysCoded s codes r) wher
     planned = record { formula = coded .0 .formula; plans = plans }
 
     -- what is built of any formula that the codes are is built of the sheet's
-    pub built : (kinds firsts seconds : List ℕ) (b : Built) → ((g : Formula) → Plans g codes n → Dwarfed g kinds firsts seconds b) → Says s codes kinds firsts seconds (prepared.Ready names n b)
+    pub built : (kinds firsts seconds : List ℕ) (b : Figures) → ((g : Formula) → Plans g codes n → Dwarfed g kinds firsts seconds b) → Says s codes kinds firsts seconds (prepared.Ready names n b)
     built kinds firsts seconds b builds = (coded .0, record { coded = coded .1; built = builds (coded .0 .formula) plans })

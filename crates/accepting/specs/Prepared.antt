@@ -8,7 +8,7 @@ use Rattle.formula.specs.Formula.{postfix}
 use Rattle.sheet.specs.Sheet.{Sheet}
 use Rattle.sheet.specs.Guaranteed.{Guaranteed}
 use Rattle.tree_dwarf.specs.Dwarfed.{Dwarfed}
-use Rattle.tree_dwarf.specs.declared.Built.{Built}
+use Rattle.tree_dwarf.specs.declared.Figures.{Figures}
 use Rattle.accepting.specs.Accepting.{accepted}
 use Rattle.accepting.specs.declared.Acceptance.{Acceptance}
 use Rattle.accepting.specs.declared.Acceptance.the-variants as acceptance
@@ -29,7 +29,7 @@ SaysCoded s codes (acceptance.Given names n) = (r : Sheet) × Coded s r names n 
 SaysCoded s codes (acceptance.Refused number place) = accepted s ≡ refused number place
 
 -- The same, and what is built of its formula.
-pub record Stands (s : List ℕ) (r : Sheet) (names n : ℕ) (b : Built) (codes kinds firsts seconds : List ℕ) : Type 0 where
+pub record Stands (s : List ℕ) (r : Sheet) (names n : ℕ) (b : Figures) (codes kinds firsts seconds : List ℕ) : Type 0 where
   pub coded : Coded s r names n codes
   pub built : Dwarfed (r .formula) kinds firsts seconds b
 

@@ -1,6 +1,6 @@
 // What every job does first: the sheet is read and judged, its codes and its dwarf tree put into arrays.
 use sheet_reading::ReadAnswer;
-use tree_dwarf::Built;
+use tree_dwarf::Figures;
 ghost use mathlib.Core.Path.{_≡_};
 ghost use lib.ListN.{length};
 ghost use Rattle.tree_tokens.specs.Tokens.{Shelves};
@@ -37,7 +37,7 @@ pub enum Prepared {
     Ready {
         names: usize,
         codes: usize,
-        built: Built,
+        built: Figures,
     },
     Refused {
         number: u8,
@@ -60,7 +60,7 @@ pub fn prepare(
     match accept(sheet, codes) {
         Acceptance::Refused { number, place } => Prepared::Refused { number, place },
         Acceptance::Given { names, codes: n } => {
-            let built = tree_dwarf::build(codes, n, kinds, firsts, seconds);
+            let built = tree_dwarf::build_tree(codes, n, kinds, firsts, seconds);
             Prepared::Ready {
                 names,
                 codes: n,

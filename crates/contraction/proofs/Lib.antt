@@ -1,3 +1,4 @@
+mod Examples
 pub mod Counts
 pub mod Rounds
 pub mod Worked
@@ -8,3 +9,4 @@ pub mod Over
 pub mod Leaves
 pub mod Paths
 pub mod Tall
+pub mod Steps

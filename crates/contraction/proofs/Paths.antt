@@ -8,7 +8,7 @@ use lib.Dec.{eqb}
 use borrow.Author.Tests.{eqb-true, eqb-false}
 use lib.ListN.{length, getD}
 use Rattle.formula.specs.Formula.{Formula}
-use Rattle.contraction.specs.Records.{Rec, children, among, over}
+use Rattle.contraction.specs.Records.{Rec, children, listed, over}
 use Rattle.contraction.specs.Rounds.{dwarf}
 use Rattle.contraction.specs.Height.{worked, longest, path, height}
 use Rattle.contraction.proofs.Worked.{Each, Good, Steady, worked-good, last-is, length-worked}
@@ -17,16 +17,16 @@ use Rattle.contraction.proofs.Order.{AllBelow, ChildrenBelow, children-
 use Rattle.contraction.proofs.Once.{refs, uses, child-of-one}
 use Rattle.contraction.proofs.Over.{over-below, refs-over}
 
-longest-among : (xs cs : List ℕ) (c : ℕ) → among c cs ≡ true → suc (getD xs c 0) ≤ longest xs cs
-longest-among xs [] c e = absurd (false≢true e)
-longest-among xs (d ∷ ds) c e = go (eqb c d) refl (longest-among xs ds c)
+longest-listed : (xs cs : List ℕ) (c : ℕ) → listed c cs ≡ true → suc (getD xs c 0) ≤ longest xs cs
+longest-listed xs [] c e = absurd (false≢true e)
+longest-listed xs (d ∷ ds) c e = go (eqb c d) refl (longest-listed xs ds c)
   where
-    go : (t : Bool) → eqb c d ≡ t → (among c ds ≡ true → suc (getD xs c 0) ≤ longest xs ds) → suc (getD xs c 0) ≤ longest xs (d ∷ ds)
+    go : (t : Bool) → eqb c d ≡ t → (listed c ds ≡ true → suc (getD xs c 0) ≤ longest xs ds) → suc (getD xs c 0) ≤ longest xs (d ∷ ds)
     go true q ih = omega (arith, ap (λ (k : ℕ). getD xs k 0) (eqb-true c d q))
     go false q ih = omega (arith, ih (rw q at e))
 
 pub path-over : (xs : List ℕ) (r : Rec) (c : ℕ) → over c r ≡ true → suc (getD xs c 0) ≤ path xs r
-path-over xs r c e = longest-among xs (children r) c e
+path-over xs r c e = longest-listed xs (children r) c e
 
 longest-steady : (cs : List ℕ) (n : ℕ) (xs ys : List ℕ) → AllBelow n cs → ((i : ℕ) → i < n → getD xs i 0 ≡ getD ys i 0) → longest xs cs ≡ longest ys cs
 longest-steady [] n xs ys b h = refl

@@ -1,4 +1,4 @@
 pub mod Records
 pub mod Rounds
 pub mod Height
-pub mod Examples
+pub mod Steps

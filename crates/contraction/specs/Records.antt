@@ -45,13 +45,13 @@ children r =
     (cond (ltb (r .kind) 5) (r .first ∷ r .second ∷ [])
     (cond (ltb (r .kind) 13) (r .first ∷ []) (r .first ∷ r .second ∷ [])))
 
-abbrev pub among : ℕ → List ℕ → Bool
-among c [] = false
-among c (d ∷ ds) = eqb c d || among c ds
+abbrev pub listed : ℕ → List ℕ → Bool
+listed c [] = false
+listed c (d ∷ ds) = eqb c d || listed c ds
 
 -- The record stands over node c.
 abbrev pub over : ℕ → Rec → Bool
-over c r = among c (children r)
+over c r = listed c (children r)
 
 -- Building fills three answer lists with the records: kinds, firsts, seconds, one entry a dwarf node.
 abbrev pub kindsOf : List Rec → List ℕ

@@ -11,7 +11,7 @@ use Rattle.formula.specs.Formula.{Formula}
 use Rattle.contraction.proofs.Size.{dwarf-few}
 use Rattle.sheet.specs.Sheet.{Sheet}
 use Rattle.tree_dwarf.specs.Dwarfed.{Dwarfed}
-use Rattle.tree_dwarf.specs.declared.Built.{Built as Numbers}
+use Rattle.tree_dwarf.specs.declared.Figures.{Figures}
 use Rattle.accepting.specs.Accepting.{accepted}
 use Rattle.accepting.specs.Prepared.{Stands, Says}
 use Rattle.accepting.specs.declared.Prepared.{Prepared}
@@ -27,11 +27,11 @@ build-refused : (o : Outcome Formula) (ks fs ss : List ℕ) (number place : ℕ)
 build-refused o ks fs ss number place is =
     record { answer = rw is; lists = record { kinds-list = rw is; firsts-list = rw is; seconds-list = rw is } }
 
-summary-is : (g : Formula) (k f e : List ℕ) (b : Numbers) → Dwarfed g k f e b → summary (b .leaves) (b .nodes) (b .rounds) (b .height) ≡ summaryOf g
+summary-is : (g : Formula) (k f e : List ℕ) (b : Figures) → Dwarfed g k f e b → summary (b .leaves) (b .nodes) (b .rounds) (b .height) ≡ summaryOf g
 summary-is g k f e b d = rw (d .leaves-are, d .nodes-are, d .rounds-are, d .height-is)
 
 -- the answer lists are judged, and what is built is given
-module _ (k f e : List ℕ) (b : Numbers) (ks fs ss : List ℕ) where
+module _ (k f e : List ℕ) (b : Figures) (ks fs ss : List ℕ) where
   abbrev asked : Formula → Outcome Formula
   asked g = giving g (length ks) (length fs) (length ss)
 
@@ -72,7 +72,7 @@ module _ (s codes k f e ks fs ss : List ℕ) (r : Prepared) (says : Says s codes
       let a : accepted s ≡ refused number place = rw is at says in
       build-refused (building s (length ks) (length fs) (length ss)) ks fs ss number place (rw a)
 
-  module _ (names n : ℕ) (b : Numbers) (is : r ≡ prepared.Ready names n b) where
+  module _ (names n : ℕ) (b : Figures) (is : r ≡ prepared.Ready names n b) where
     stands : (x : Sheet) × Stands s x names n b codes k f e
     stands = rw is at says
 

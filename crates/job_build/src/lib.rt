@@ -1,6 +1,6 @@
 // The job of building: the contracted tree of a sheet's formula, its records given to the caller's lists.
 use accepting::Prepared;
-use tree_dwarf::Built;
+use tree_dwarf::Figures;
 ghost use Prim.Native.Nat.{_≤_};
 ghost use lib.ListN.{length};
 ghost use Rattle.formula.specs.Formula.{Formula};
@@ -28,7 +28,7 @@ fn give_built(
     k: &[u16; 3072],
     f: &[u16; 3072],
     s: &[u16; 3072],
-    built: Built,
+    built: Figures,
     kinds: &mut [u16],
     firsts: &mut [u16],
     seconds: &mut [u16],

@@ -11,11 +11,10 @@ use Rattle.outcome.specs.Outcome.{Outcome, given, refused, _>>_}
 use Rattle.formula.specs.Formula.{Formula}
 use Rattle.formula.proofs.Laws.{over-more}
 use Rattle.sheet.specs.Sheet.{Sheet}
-use Rattle.tree_dwarf.specs.declared.Built.{Built as Numbers}
+use Rattle.tree_dwarf.specs.declared.Figures.{Figures}
 use Rattle.labels.specs.Arrays.{Holds, Tree}
-use Rattle.toggles.specs.Ran as toggled
 use Rattle.toggles.specs.Named.{firstWrong}
-use Rattle.toggles.specs.Ran.{Room}
+use Rattle.toggles.specs.Ran.{RunRoom, TreeRun}
 use Rattle.toggles.proofs.RanLaws.{none-wrong}
 use Rattle.accepting.specs.Accepting.{accepted}
 use Rattle.accepting.specs.Prepared.{Stands, Says}
@@ -50,13 +49,18 @@ all-known : (names : ℕ) (ts : List ℕ) (w : ℕ) → w ≡ firstWrong names t
 all-known names ts w first past = let most = firstWrong-most names ts in omega arith
 
 -- there is room for the run
-pub run-roomy : (ts rs cs : List ℕ) → length ts ≤ length rs → length ts ≤ length cs
-    → (names w : ℕ) → w ≡ firstWrong names ts → length ts ≤ w → names ≤ 256 → Room ts rs cs
-run-roomy ts rs cs for-roots for-counts names w first past few =
+pub run-room : {k f e : List ℕ} {leaves nodes : ℕ} (ts rs cs ls : List ℕ) {names w : ℕ} → Tree k f e leaves nodes → names ≤ 256 → w ≡ firstWrong names ts → length ts ≤ w
+    → length ts ≤ length rs → length ts ≤ length cs → nodes ≤ length ls → RunRoom k f e leaves nodes ts rs cs ls
+run-room ts rs cs ls {names} {w} tree few first past for-roots for-counts for-labels =
     record {
-      named = λ i h. let below = none-wrong names ts (all-known names ts w first past) i h in omega arith;
-      for-roots = for-roots;
-      for-counts = for-counts;
+      tree = tree;
+      answers =
+          record {
+            named = λ i h. let below = none-wrong names ts (all-known names ts w first past) i h in omega arith;
+            for-roots = for-roots;
+            for-counts = for-counts;
+          };
+      for-labels = for-labels;
     }
 
 -- every toggle is a shape of the sheet; the answer lists are judged, and the run is given
@@ -80,7 +84,7 @@ module _ (names nodes : ℕ) (ts rs cs ls : List ℕ) (w : ℕ) (first : w ≡ f
   labels-short h i j g so = run-refused (asked g) ts rs cs ls 9 nodes (rw (known, ← (so .nodes-are), le-leb _ _ h, le-leb _ _ i, lt-leb _ _ j))
 
   pub run-given : length ts ≤ length rs → length ts ≤ length cs → nodes ≤ length ls
-      → (rs′ cs′ ls′ : List ℕ) → ((g : Formula) → Holds k f e leaves nodes g → toggled.Ran g ts rs cs ls rs′ cs′ ls′)
+      → (rs′ cs′ ls′ : List ℕ) → ((g : Formula) → Holds k f e leaves nodes g → TreeRun g ts rs cs ls rs′ cs′ ls′)
       → (g : Formula) → Holds k f e leaves nodes g → Ran (asked g) ts rs cs ls (run.Ran nodes) rs′ cs′ ls′
   unfolding toggling
   run-given h i j rs′ cs′ ls′ ran g so =
@@ -110,7 +114,7 @@ module _ (s codes k f e ts rs cs ls : List ℕ) (r : Prepared) (says : Says s co
       let a : accepted s ≡ refused number place = rw is at says in
       run-refused (running s ts (length rs) (length cs) (length ls)) ts rs cs ls number place (rw a)
 
-  module _ (names n : ℕ) (b : Numbers) (is : r ≡ prepared.Ready names n b) where
+  module _ (names n : ℕ) (b : Figures) (is : r ≡ prepared.Ready names n b) where
     stands : (x : Sheet) × Stands s x names n b codes k f e
     stands = rw is at says
 

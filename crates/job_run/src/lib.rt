@@ -1,6 +1,6 @@
 // The job of a toggle run: a root and a count for each toggle, and the labels after the last, given to the caller's lists.
 use accepting::Prepared;
-use tree_dwarf::Built;
+use tree_dwarf::Figures;
 ghost use Prim.Native.Nat.{_≤_};
 ghost use lib.ListN.{length};
 ghost use Rattle.formula.specs.Formula.{Formula};
@@ -19,7 +19,7 @@ fn run_toggles(
     k: &[u16; 3072],
     f: &[u16; 3072],
     s: &[u16; 3072],
-    built: Built,
+    built: Figures,
     names: usize,
     toggles: &[u16],
     roots: &mut [u8],
@@ -59,7 +59,7 @@ fn run_toggles(
             place: nodes,
         };
     }
-    toggles::run(k, f, s, leaves, nodes, toggles, roots, counts, labels);
+    toggles::run_tree(k, f, s, leaves, nodes, toggles, roots, counts, labels);
     RunAnswer::Ran { nodes }
 }
 

@@ -17,7 +17,8 @@ use Rattle.contraction.proofs.Over.{over-below}
 use Rattle.contraction.proofs.Leaves.{IsLeaf, NoLeaf, leafRecs-leaf, made-none}
 use Rattle.contraction.proofs.Size.{dwarf-few}
 use Rattle.labels.specs.Arrays.{Holds}
-use Rattle.labels.specs.Steps.{recAt, recs, Shaped}
+use Rattle.contraction.specs.Steps.{recAt, recs}
+use Rattle.labels.specs.Steps.{Shaped}
 
 -- record i of a list, where there is one
 abbrev blank : Rec

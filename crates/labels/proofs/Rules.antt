@@ -9,7 +9,7 @@ use borrow.Author.Tests.{eqb-true, eq-eqb, le-ltb}
 use lib.ListN.{getD}
 use Rattle.formula.specs.Formula.{Op, union, intersection, difference, exclusive, index, meaning}
 use Rattle.formula.specs.States.{State, outside}
-use Rattle.contraction.specs.Records.{Rec, children, among, over}
+use Rattle.contraction.specs.Records.{Rec, children, listed, over}
 use Rattle.labels.specs.Labels.{bit, on, pair, pick, table, left, right, rule, label}
 
 pub on-bit : (b : Bool) → on (bit b) ≡ b
@@ -100,23 +100,23 @@ rule-inner (suc k) a b x y e = rw (le-ltb (suc k) 1 (omega arith))
 pub label-inner : (state : State) (ls : List ℕ) (r : Rec) → eqb (r .kind) 0 ≡ false → label state ls r ≡ label outside ls r
 label-inner state ls r e = rule-inner (r .kind) (state (r .first)) false (getD ls (r .first) 0) (getD ls (r .second) 0) e
 
-pub among-here : (c : ℕ) (cs : List ℕ) → among c (c ∷ cs) ≡ true
-among-here c cs = rw (eq-eqb c c refl)
+pub listed-here : (c : ℕ) (cs : List ℕ) → listed c (c ∷ cs) ≡ true
+listed-here c cs = rw (eq-eqb c c refl)
 
-among-next : (c d : ℕ) (cs : List ℕ) → among c (d ∷ c ∷ cs) ≡ true
-among-next c d cs = rw (among-here c cs) (or-true (eqb c d))
+listed-next : (c d : ℕ) (cs : List ℕ) → listed c (d ∷ c ∷ cs) ≡ true
+listed-next c d cs = rw (listed-here c cs) (or-true (eqb c d))
 
 -- the labels of first and second matter where they are children
 module _ (s : Bool) (k a b x y x′ y′ : ℕ) where
-  rule-local : (among a (children (record { kind = k; first = a; second = b })) ≡ true → x ≡ x′)
-      → (among b (children (record { kind = k; first = a; second = b })) ≡ true → y ≡ y′) → rule k s x y ≡ rule k s x′ y′
+  rule-local : (listed a (children (record { kind = k; first = a; second = b })) ≡ true → x ≡ x′)
+      → (listed b (children (record { kind = k; first = a; second = b })) ≡ true → y ≡ y′) → rule k s x y ≡ rule k s x′ y′
   rule-local p q = leaf? (ltb k 1) refl
     where
       both : ltb k 1 ≡ false → (children (record { kind = k; first = a; second = b }) ≡ a ∷ b ∷ []) → rule k s x y ≡ rule k s x′ y′
-      both e h = ap₂ (rule k s) (p (rw h (among-here a (b ∷ [])))) (q (rw h (among-next b a [])))
+      both e h = ap₂ (rule k s) (p (rw h (listed-here a (b ∷ [])))) (q (rw h (listed-next b a [])))
 
       R? : ltb k 1 ≡ false → ltb k 5 ≡ false → (t : Bool) → ltb k 13 ≡ t → rule k s x y ≡ rule k s x′ y′
-      R? e f true g = let h : x ≡ x′ = p (rw (e, f, g) (among-here a [])) in rw (e, f, g, h)
+      R? e f true g = let h : x ≡ x′ = p (rw (e, f, g) (listed-here a [])) in rw (e, f, g, h)
       R? e f false g = both e (rw (e, f, g))
 
       E? : ltb k 1 ≡ false → (t : Bool) → ltb k 5 ≡ t → rule k s x y ≡ rule k s x′ y′

@@ -1,20 +1,12 @@
--- What the passes over the arrays need: the records that the arrays hold, and the lists that are filled from them.
-use Prim.Native.Nat.{ℕ, zero, suc, _-_, _<_, _≤_}
+-- What the passes over the arrays need: the shape of the records that they hold, and the lists that are filled from them.
+use Prim.Native.Nat.{ℕ, suc, _-_, _<_, _≤_}
 use mathlib.Core.Path.{_≡_}
 use mathlib.Core.Bool.{Bool, true, false}
 use mathlib.Core.List.{List, [], _∷_}
 use lib.ListN.{getD, set}
 use Rattle.contraction.specs.Records.{Rec, absent, over}
+use Rattle.contraction.specs.Steps.{recAt, recs}
 use Rattle.labels.specs.Labels.{isOf}
-
--- Record i of three arrays.
-abbrev pub recAt : List ℕ → List ℕ → List ℕ → ℕ → Rec
-recAt ks fs ss i = record { kind = getD ks i 0; first = getD fs i 0; second = getD ss i 0 }
-
--- n records from number i on.
-unfoldable pub recs : List ℕ → List ℕ → List ℕ → ℕ → ℕ → List Rec
-recs ks fs ss i zero = []
-recs ks fs ss i (suc n) = recAt ks fs ss i ∷ recs ks fs ss (suc i) n
 
 -- The number of the first record that passes, of records numbered from j on; 65535 where there is none.
 unfoldable pub seek : (Rec → Bool) → ℕ → List Rec → ℕ

@@ -8,10 +8,11 @@ ghost use Rattle.formula.specs.Formula.{meaning as meaningOf, opAt};
 ghost use Rattle.formula.specs.States.{outside};
 ghost use Rattle.contraction.specs.Records.{children};
 ghost use Rattle.labels.specs.Labels.{bit as bitOf, on as isOn, pick as pickOf, table, left, right, rule, label as labelOf, labels as afresh};
-ghost use Rattle.labels.specs.Steps.{recAt, recs, Shaped, adopted, Parents, Chains};
+ghost use Rattle.contraction.specs.Steps.{recAt, recs};
+ghost use Rattle.labels.specs.Steps.{Shaped, adopted, Parents, Chains};
 
 fn bit(b: bool) -> u8
-    ensures { λ r. ⌜ r ≡ bitOf b ⌝ }
+    ensures { λ r. ⌜ (r ≡ bitOf b) × (r ≤ 1) ⌝ }
 {
     if b { 1 } else { 0 }
 }
@@ -92,7 +93,7 @@ pub fn wide(x: u16) -> usize
 }
 
 // The label of node i, 0 where there is no such node.
-fn read(labels: &[u8; 3072], i: u16) -> u8
+fn label_at(labels: &[u8; 3072], i: u16) -> u8
     ensures { λ r. ⌜ r ≡ getD (now (labels .entry)) i 0 ⌝ }
 {
     let s: &[u8] = labels;
@@ -111,8 +112,8 @@ pub fn work(
     requires { ⌜ i < 3072 ⌝ }
     ensures { λ r. ⌜ r ≡ labelOf outside (now (labels .entry)) (recAt (now (kinds .entry)) (now (firsts .entry)) (now (seconds .entry)) i) ⌝ }
 {
-    let x = read(labels, firsts[i]);
-    let y = read(labels, seconds[i]);
+    let x = label_at(labels, firsts[i]);
+    let y = label_at(labels, seconds[i]);
     label(kinds[i], false, x, y)
 }
 
@@ -137,7 +138,7 @@ pub fn fill_labels(
 }
 
 // Stores v at i, where there is such a node.
-fn put(list: &mut [u16; 3072], i: u16, v: u16)
+fn set_entry(list: &mut [u16; 3072], i: u16, v: u16)
     ensures { λ _. ⌜ now (list .exit) ≡ set (now (list .entry)) i v ⌝ }
 {
     let j = wide(i);
@@ -151,8 +152,8 @@ fn put(list: &mut [u16; 3072], i: u16, v: u16)
 fn adopt_both(parents: &mut [u16; 3072], first: u16, second: u16, j: u16)
     ensures { λ _. ⌜ now (parents .exit) ≡ adopted j (first ∷ second ∷ []) (now (parents .entry)) ⌝ }
 {
-    put(parents, first, j);
-    put(parents, second, j);
+    set_entry(parents, first, j);
+    set_entry(parents, second, j);
 }
 
 // Node j entered as the parent of the children of its record.
@@ -162,7 +163,7 @@ fn adopt(parents: &mut [u16; 3072], kind: u16, first: u16, second: u16, j: u16)
     match kind {
         0 => {}
         1..=4 => adopt_both(parents, first, second, j),
-        5..=12 => put(parents, first, j),
+        5..=12 => set_entry(parents, first, j),
         _ => adopt_both(parents, first, second, j),
     }
 }

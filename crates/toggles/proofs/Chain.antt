@@ -12,7 +12,8 @@ use lib.ListN.{length, getD, set, take}
 use lib.Seq.{getD-take, take-set-lt}
 use Rattle.contraction.specs.Records.{Rec, over}
 use Rattle.labels.specs.Labels.{isOf}
-use Rattle.labels.specs.Steps.{recAt, recs, seek, Shaped}
+use Rattle.contraction.specs.Steps.{recAt, recs}
+use Rattle.labels.specs.Steps.{seek, Shaped}
 use Rattle.toggles.specs.Toggles.{steps, flip, reworked, walk, toggle}
 use Rattle.toggles.proofs.Walks.{walk-skip, walk-stop, walk-on}
 use Rattle.toggles.proofs.Toggles.{toggle-skip, toggle-here, is-and}

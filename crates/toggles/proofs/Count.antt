@@ -17,7 +17,7 @@ use Rattle.contraction.proofs.Order.{ChildrenBelow, children-smaller}
 use Rattle.contraction.proofs.Leaves.{NoLeaf, made-none}
 use Rattle.contraction.proofs.Paths.{path-over, paths, paths-good, path-height}
 use Rattle.labels.specs.Labels.{bit, labels, isOf}
-use Rattle.toggles.specs.Toggles.{flip, reworked, walk, toggle, run, toggleRun}
+use Rattle.toggles.specs.Toggles.{flip, reworked, walk, toggle, toggleEach, toggleRun}
 use Rattle.toggles.specs.Demand.{leavesOf}
 use Rattle.toggles.proofs.Walks.{walk-skip, walk-stop, walk-on}
 use Rattle.toggles.proofs.Toggles.{toggle-skip, toggle-here}
@@ -90,7 +90,7 @@ toggle-bound f s ls =
     rw (← (leavesIn-dwarf s f)) (toggle-height (paths f) (height (dwarf f)) (dwarf f) 0 s ls (children-smaller f) (paths-good f) (λ k p. path-height f k (omega arith)))
 
 -- each count of a run
-bound-from : (f : Formula) (ls ss : List ℕ) (i : ℕ) → i < length ss → getD (run (dwarf f) ls ss .counts) i 0 ≤ leavesOf (getD ss i 0) f * height (dwarf f)
+bound-from : (f : Formula) (ls ss : List ℕ) (i : ℕ) → i < length ss → getD (toggleEach (dwarf f) ls ss .counts) i 0 ≤ leavesOf (getD ss i 0) f * height (dwarf f)
 bound-from f ls [] i h = absurd (omega arith)
 bound-from f ls (s ∷ ss) zero h = toggle-bound f s ls
 bound-from f ls (s ∷ ss) (suc i) h = bound-from f (toggle (dwarf f) 0 s ls .labels) ss i (omega arith)

@@ -12,9 +12,11 @@ use lib.Seq.{getD-take, take-set-lt}
 use Rattle.formula.specs.States.{outside}
 use Rattle.contraction.specs.Records.{Rec, over}
 use Rattle.labels.specs.Labels.{label, isOf}
-use Rattle.labels.specs.Steps.{recAt, recs, seek, Shaped, Parents, Chains}
+use Rattle.contraction.specs.Steps.{recAt, recs}
+use Rattle.labels.specs.Steps.{seek, Shaped, Parents, Chains}
 use Rattle.labels.proofs.Rules.{label-local}
-use Rattle.labels.proofs.Fills.{seek-here, seek-past, seek-none, recs-more}
+use Rattle.contraction.proofs.Steps.{recs-more}
+use Rattle.labels.proofs.Fills.{seek-here, seek-past, seek-none}
 use Rattle.toggles.specs.Toggles.{Steps, steps, reworked, walk}
 use Rattle.toggles.proofs.Walks.{walk-skip, walk-stop, walk-on}
 

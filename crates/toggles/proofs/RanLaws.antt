@@ -7,27 +7,43 @@ use mathlib.Core.Bool.{Bool, true, false}
 use mathlib.Core.List.{List, [], _∷_}
 use lib.Dec.{ltb}
 use borrow.Author.Tests.{lt-ltb, le-ltb, ltb-true}
-use lib.ListN.{length, getD, take, drop}
+use lib.ListN.{length, getD, take, drop, drop-of-length-le}
 use lib.Seq.{drop-cons}
 use Rattle.outcome.specs.Lent.{filled}
 use Rattle.formula.specs.Formula.{Formula}
 use Rattle.formula.specs.States.{outside}
 use Rattle.labels.specs.Labels.{labels}
 use Rattle.labels.specs.Arrays.{Holds, Tree}
-use Rattle.labels.specs.Steps.{recs, Shaped, Parents, Chains, Ready}
+use Rattle.contraction.specs.Steps.{recs}
+use Rattle.labels.specs.Steps.{Shaped, Parents, Chains, Ready}
 use Rattle.labels.proofs.Held.{held-records, held-shaped}
-use Rattle.toggles.specs.Toggles.{run, toggleRun}
+use Rattle.toggles.specs.Toggles.{toggleEach, toggleRun}
 use Rattle.toggles.specs.Named.{firstWrong}
-use Rattle.toggles.specs.Ran.{Room, Ran}
+use Rattle.toggles.specs.Ran.{ToggleRoom, TreeRun}
 use Rattle.toggles.specs.Steps.{RunDone}
 use Rattle.toggles.proofs.Runs.{run-roots, run-labels}
 
 -- the first i shape numbers are below the number of names
-pub wrong-past : (names : ℕ) (ss : List ℕ) (i : ℕ) → i < length ss → getD ss i 0 < names → firstWrong names (drop i ss) ≡ suc (firstWrong names (drop (i + 1) ss))
-wrong-past names ss i h l = rw (add-one i, drop-cons ss i 0 h, firstWrong, lt-ltb (getD ss i 0) names l)
+pub data Seeking (names : ℕ) (ss : List ℕ) (i : ℕ) : Type 0 where
+  seeking : firstWrong names ss ≡ i + firstWrong names (drop i ss) → Seeking names ss i
 
-pub wrong-here : (names : ℕ) (ss : List ℕ) (i : ℕ) → i < length ss → names ≤ getD ss i 0 → firstWrong names (drop i ss) ≡ 0
-wrong-here names ss i h l = rw (drop-cons ss i 0 h, firstWrong, le-ltb (getD ss i 0) names l)
+pub seeking-start : (names : ℕ) (ss : List ℕ) → Seeking names ss 0
+seeking-start names ss = seeking (omega arith)
+
+module _ {names : ℕ} {ss : List ℕ} {i : ℕ} where
+  pub seeking-here : {s : ℕ} → Seeking names ss i → names ≤ s → s ≡ getD ss i 0 → i < length ss → i ≡ firstWrong names ss
+  seeking-here (seeking so) l e h =
+      let here : firstWrong names (drop i ss) ≡ 0 = rw (drop-cons ss i 0 h, firstWrong, le-ltb (getD ss i 0) names (omega arith)) in
+      omega arith
+
+  pub seeking-on : {s : ℕ} → Seeking names ss i → s < names → s ≡ getD ss i 0 → i < length ss → Seeking names ss (i + 1)
+  seeking-on (seeking so) l e h =
+      let past : firstWrong names (drop i ss) ≡ suc (firstWrong names (drop (i + 1) ss)) =
+      rw (add-one i, drop-cons ss i 0 h, firstWrong, lt-ltb (getD ss i 0) names (omega arith)) in
+      seeking (omega arith)
+
+  pub seeking-end : Seeking names ss i → length ss ≤ i → i ≡ firstWrong names ss
+  seeking-end (seeking so) h = let none : firstWrong names (drop i ss) ≡ 0 = rw (drop-of-length-le ss h) in omega arith
 
 -- where none is wrong, all are below
 pub none-wrong : (names : ℕ) (ss : List ℕ) → firstWrong names ss ≡ length ss → (i : ℕ) → i < length ss → getD ss i 0 < names
@@ -39,11 +55,8 @@ none-wrong names (s ∷ ss) e i h = go (ltb s names) refl (none-wrong names ss) 
     go true q ih (suc i) h = let e′ = rw (q, firstWrong) at e in ih (omega arith) i (omega arith)
     go false q ih i h = let e′ = rw (q, firstWrong) at e in absurd (omega arith)
 
-pub named-at : (ss roots counts : List ℕ) → Room ss roots counts → (s i : ℕ) → s ≡ getD ss i 0 → i < length ss → s < 256
-named-at ss roots counts room s i e h = omega (arith, room .named i h)
-
 -- what a run leaves in the lent lists: a run over the records that the arrays hold is a run on the formula's dwarf tree
-module _ (ks fs xs : List ℕ) (leaves nodes : ℕ) where
+module _ {ks fs xs : List ℕ} {leaves nodes : ℕ} where
   pub tree-shaped : Tree ks fs xs leaves nodes → Shaped ks fs xs leaves nodes
   tree-shaped t = held-shaped ks fs xs leaves nodes (t .formula) (t .holds)
 
@@ -54,23 +67,23 @@ module _ (ks fs xs : List ℕ) (leaves nodes : ℕ) where
   tree-fits t = omega (arith, tree-room t)
 
   -- the same numbers as entries of a list
-  module _ (m n : ℕ) where
-    pub narrow-room : Tree ks fs xs leaves nodes → n ≡ nodes → n ≤ 3072
-    narrow-room t e = rw e (tree-room t)
+  pub narrow-room : {n : ℕ} → Tree ks fs xs leaves nodes → n ≡ nodes → n ≤ 3072
+  narrow-room t e = rw e (tree-room t)
 
+  module _ {m n : ℕ} where
     pub narrow-shaped : Tree ks fs xs leaves nodes → m ≡ leaves → n ≡ nodes → Shaped ks fs xs m n
     narrow-shaped t d e = rw (d, e) (tree-shaped t)
 
-    pub narrow-ready : (ps hs ns : List ℕ) → Tree ks fs xs leaves nodes → m ≡ leaves → n ≡ nodes → Parents ks fs xs n ps → Chains ks fs xs m n hs ns
+    pub narrow-ready : {ps hs ns : List ℕ} → Tree ks fs xs leaves nodes → m ≡ leaves → n ≡ nodes → Parents ks fs xs n ps → Chains ks fs xs m n hs ns
         → Ready ks fs xs leaves nodes ps hs ns
-    narrow-ready ps hs ns t d e p q = record { shaped = tree-shaped t; ups = rw e at p; chains = rw (d, e) at q }
+    narrow-ready t d e p q = record { shaped = tree-shaped t; ups = rw e at p; chains = rw (d, e) at q }
 
-  pub ran : (ss roots counts list l₀ l₁ roots′ counts′ list′ : List ℕ) → take nodes l₀ ≡ labels outside (recs ks fs xs 0 nodes)
+  pub ran : (ss roots counts list l₀ l₁ : List ℕ) {roots′ counts′ list′ : List ℕ} → take nodes l₀ ≡ labels outside (recs ks fs xs 0 nodes)
       → RunDone (recs ks fs xs 0 nodes) (take nodes l₀) ss roots counts (take nodes l₁) roots′ counts′ → list′ ≡ filled (take nodes l₁) list
-      → (f : Formula) → Holds ks fs xs leaves nodes f → Ran f ss roots counts list roots′ counts′ list′
-  ran ss roots counts list l₀ l₁ roots′ counts′ list′ start done copied f h =
+      → (f : Formula) → Holds ks fs xs leaves nodes f → TreeRun f ss roots counts list roots′ counts′ list′
+  ran ss roots counts list l₀ l₁ start done copied f h =
       let e = held-records ks fs xs leaves nodes f h in
-      let same : run (recs ks fs xs 0 nodes) (take nodes l₀) ss ≡ toggleRun f ss = rw (start, e) in
+      let same : toggleEach (recs ks fs xs 0 nodes) (take nodes l₀) ss ≡ toggleRun f ss = rw (start, e) in
       record {
         roots-are = done .roots-are ∙ ap (λ a. filled (a .roots) roots) same ∙ ap (λ l. filled l roots) (run-roots f ss);
         counts-are = done .counts-are ∙ ap (λ a. filled (a .counts) counts) same;

@@ -14,7 +14,7 @@ use Rattle.contraction.specs.Records.{Rec}
 use Rattle.contraction.specs.Rounds.{dwarf}
 use Rattle.labels.specs.Labels.{labels}
 use Rattle.labels.proofs.Root.{root-label}
-use Rattle.toggles.specs.Toggles.{toggle, run, toggleRun}
+use Rattle.toggles.specs.Toggles.{toggle, toggleEach, toggleRun}
 use Rattle.toggles.specs.Demand.{rootsAfter, roots}
 use Rattle.toggles.proofs.Toggles.{toggle-labels}
 
@@ -29,15 +29,15 @@ toggle-more : (f : Formula) (done : List ℕ) (s : ℕ)
 toggle-more f done s = toggle-labels f (toggledBy done) s ∙ ap (λ state. labels state (dwarf f)) (fun-ext (flipped-toggled done s))
 
 -- what a run does after the toggles `done`
-roots-after : (f : Formula) (done ss : List ℕ) → run (dwarf f) (labels (toggledBy done) (dwarf f)) ss .roots ≡ rootsAfter f done ss
+roots-after : (f : Formula) (done ss : List ℕ) → toggleEach (dwarf f) (labels (toggledBy done) (dwarf f)) ss .roots ≡ rootsAfter f done ss
 roots-after f done [] = refl
 roots-after f done (s ∷ ss) =
     rw (toggle-more f done s) (ap₂ _∷_ (root-label f (toggledBy (done ++ (s ∷ [])))) (roots-after f (done ++ (s ∷ [])) ss))
 
-final-after : (f : Formula) (done ss : List ℕ) → run (dwarf f) (labels (toggledBy done) (dwarf f)) ss .final ≡ labels (toggledBy (done ++ ss)) (dwarf f)
+final-after : (f : Formula) (done ss : List ℕ) → toggleEach (dwarf f) (labels (toggledBy done) (dwarf f)) ss .final ≡ labels (toggledBy (done ++ ss)) (dwarf f)
 final-after f done [] = ap (λ ts. labels (toggledBy ts) (dwarf f)) (sym (append-nil done))
 final-after f done (s ∷ ss) =
-    ap (λ ls. run (dwarf f) ls ss .final) (toggle-more f done s) ∙ final-after f (done ++ (s ∷ [])) ss
+    ap (λ ls. toggleEach (dwarf f) ls ss .final) (toggle-more f done s) ∙ final-after f (done ++ (s ∷ [])) ss
     ∙ ap (λ ts. labels (toggledBy ts) (dwarf f)) (append-assoc done (s ∷ []) ss)
 
 -- every shape is outside where no toggle was done
@@ -46,10 +46,10 @@ unfolding after
 none-done = fun-ext (λ t. sym (after-outside [] t))
 
 pub run-roots : (f : Formula) (ss : List ℕ) → toggleRun f ss .roots ≡ roots f ss
-run-roots f ss = ap (λ state. run (dwarf f) (labels state (dwarf f)) ss .roots) (sym none-done) ∙ roots-after f [] ss
+run-roots f ss = ap (λ state. toggleEach (dwarf f) (labels state (dwarf f)) ss .roots) (sym none-done) ∙ roots-after f [] ss
 
 pub run-labels : (f : Formula) (ss : List ℕ) → toggleRun f ss .final ≡ labels (toggledBy ss) (dwarf f)
-run-labels f ss = ap (λ state. run (dwarf f) (labels state (dwarf f)) ss .final) (sym none-done) ∙ final-after f [] ss
+run-labels f ss = ap (λ state. toggleEach (dwarf f) (labels state (dwarf f)) ss .final) (sym none-done) ∙ final-after f [] ss
 
 -- Two toggle lists in which every shape stands an odd number of times in both or an even number in both leave the same labels.
 pub same-oddness-same-labels : (f : Formula) (ss us : List ℕ) → ((s : ℕ) → toggledBy ss s ≡ toggledBy us s) → toggleRun f ss .final ≡ toggleRun f us .final
@@ -57,10 +57,10 @@ same-oddness-same-labels f ss us same =
     run-labels f ss ∙ ap (λ state. labels state (dwarf f)) (fun-ext same) ∙ sym (run-labels f us)
 
 -- a root and a count for each toggle
-pub length-roots : (rs : List Rec) (ls ss : List ℕ) → length (run rs ls ss .roots) ≡ length ss
+pub length-roots : (rs : List Rec) (ls ss : List ℕ) → length (toggleEach rs ls ss .roots) ≡ length ss
 length-roots rs ls [] = refl
 length-roots rs ls (s ∷ ss) = ap suc (length-roots rs (toggle rs 0 s ls .labels) ss)
 
-pub length-counts : (rs : List Rec) (ls ss : List ℕ) → length (run rs ls ss .counts) ≡ length ss
+pub length-counts : (rs : List Rec) (ls ss : List ℕ) → length (toggleEach rs ls ss .counts) ≡ length ss
 length-counts rs ls [] = refl
 length-counts rs ls (s ∷ ss) = ap suc (length-counts rs (toggle rs 0 s ls .labels) ss)

@@ -65,13 +65,13 @@ abbrev pub answers : List ℕ → List ℕ → List ℕ → Answers
 answers rs cs ls = record { roots = rs; counts = cs; final = ls }
 
 -- The toggles one after the other; the root is the last node.
-abbrev pub run : List Rec → List ℕ → List ℕ → Answers
-run rs ls [] = answers [] [] ls
-run rs ls (s ∷ ss) =
+abbrev pub toggleEach : List Rec → List ℕ → List ℕ → Answers
+toggleEach rs ls [] = answers [] [] ls
+toggleEach rs ls (s ∷ ss) =
     let one = toggle rs 0 s ls in
-    let more = run rs (one .labels) ss in
+    let more = toggleEach rs (one .labels) ss in
     answers (last (one .labels) ∷ more .roots) (one .count ∷ more .counts) (more .final)
 
 -- A toggle run on the dwarf tree of a formula, with every shape outside at first.
 abbrev pub toggleRun : Formula → List ℕ → Answers
-toggleRun f ss = run (dwarf f) (labels outside (dwarf f)) ss
+toggleRun f ss = toggleEach (dwarf f) (labels outside (dwarf f)) ss

@@ -5,12 +5,13 @@ ghost use lib.ListN.{length, take};
 ghost use Rattle.formula.specs.Formula.{Formula};
 ghost use Rattle.contraction.specs.Height.{last};
 ghost use Rattle.outcome.specs.Lent.{filled};
-ghost use Rattle.labels.specs.Arrays.{Holds, Tree};
-ghost use Rattle.labels.specs.Steps.{recs, Shaped, Parents, Ready};
+ghost use Rattle.labels.specs.Arrays.{Holds};
+ghost use Rattle.contraction.specs.Steps.{recs};
+ghost use Rattle.labels.specs.Steps.{Shaped, Parents, Ready};
 ghost use Rattle.toggles.specs.Toggles.{steps, flip as flipOf, walk as walkOf, toggle as toggleOf};
 ghost use Rattle.toggles.specs.Steps.{RunDone};
 ghost use Rattle.toggles.specs.Named.{firstWrong};
-ghost use Rattle.toggles.specs.Ran.{Room, Ran};
+ghost use Rattle.toggles.specs.Ran.{ToggleRoom, RunRoom, TreeRun};
 
 // The other bit.
 fn flip(v: u8) -> u8
@@ -104,7 +105,7 @@ fn toggle_each(
     counts: &mut [u32],
 )
     requires { ⌜ Ready (now kinds) (now firsts) (now seconds) leaves nodes (now parents) (now heads) (now nexts) ⌝ }
-    requires { ⌜ Room (now toggles) (now roots) (now counts) ⌝ }
+    requires { ⌜ ToggleRoom (now toggles) (now roots) (now counts) ⌝ }
     ensures { λ _. ⌜ RunDone (recs (now (kinds .entry)) (now (firsts .entry)) (now (seconds .entry)) 0 nodes) (take nodes (now (labels .entry))) (now (toggles .entry))
         (now (roots .entry)) (now (counts .entry)) (take nodes (now (labels .exit))) (now (roots .exit)) (now (counts .exit)) ⌝ }
 {
@@ -129,7 +130,7 @@ fn toggle_each(
 }
 
 // The first labels, given in a lent list.
-fn copy(labels: &[u8; 3072], nodes: usize, list: &mut [u8])
+fn copy_labels(labels: &[u8; 3072], nodes: usize, list: &mut [u8])
     requires { ⌜ (nodes ≤ 3072) × (nodes ≤ length (now list)) ⌝ }
     ensures { λ _. ⌜ now (list .exit) ≡ filled (take nodes (now (labels .entry))) (now (list .entry)) ⌝ }
 {
@@ -164,7 +165,7 @@ fn narrow(x: usize) -> u16
 }
 
 // A toggle run on a dwarf tree, with every shape outside at first.
-pub fn run(
+pub fn run_tree(
     kinds: &[u16; 3072],
     firsts: &[u16; 3072],
     seconds: &[u16; 3072],
@@ -175,11 +176,9 @@ pub fn run(
     counts: &mut [u32],
     labels: &mut [u8],
 )
-    requires { ⌜ Tree (now kinds) (now firsts) (now seconds) leaves nodes ⌝ }
-    requires { ⌜ Room (now toggles) (now roots) (now counts) ⌝ }
-    requires { ⌜ nodes ≤ length (now labels) ⌝ }
+    requires { ⌜ RunRoom (now kinds) (now firsts) (now seconds) leaves nodes (now toggles) (now roots) (now counts) (now labels) ⌝ }
     ensures { λ _. ⌜ ((f : Formula) → Holds (now (kinds .entry)) (now (firsts .entry)) (now (seconds .entry)) leaves nodes f
-        → Ran f (now (toggles .entry)) (now (roots .entry)) (now (counts .entry)) (now (labels .entry)) (now (roots .exit)) (now (counts .exit)) (now (labels .exit))) ⌝ }
+        → TreeRun f (now (toggles .entry)) (now (roots .entry)) (now (counts .entry)) (now (labels .entry)) (now (roots .exit)) (now (counts .exit)) (now (labels .exit))) ⌝ }
 {
     let mut current = [0u8; 3072];
     let mut parents = [0u16; 3072];
@@ -204,5 +203,5 @@ pub fn run(
         roots,
         counts,
     );
-    copy(&current, nodes, labels);
+    copy_labels(&current, nodes, labels);
 }

@@ -8,46 +8,47 @@ use mathlib.Core.Option.{Option, none, some}
 use lib.Dec.{eqb}
 use lib.Seq.{slice}
 use Rattle.contraction.specs.Records.{Rec, C-rec}
-use Rattle.tree_tokens.specs.Tokens.{Token, bare, single, double, decode, present, toks, recs}
-use Rattle.tree_compress.specs.declared.Marks.{Marks}
+use Rattle.contraction.specs.Steps.{recs}
+use Rattle.tree_tokens.specs.Tokens.{Token, bare, single, double, decode, present, toks}
+use Rattle.tree_compress.specs.declared.PairingMarks.{PairingMarks}
 
 -- How many one-child nodes stand at the front.
-abbrev pub run : List Token → ℕ
-run [] = 0
-run (bare d ∷ ts) = 0
-run (single d ∷ ts) = run ts + 1
-run (double o ∷ ts) = 0
+abbrev pub chainLength : List Token → ℕ
+chainLength [] = 0
+chainLength (bare d ∷ ts) = 0
+chainLength (single d ∷ ts) = chainLength ts + 1
+chainLength (double o ∷ ts) = 0
 
 -- The lower node of a pair whose upper one comes next, if there is one; the tokens out, the records made, and the next number.
-pub record State : Type 0 where
+pub record Pairing : Type 0 where
   pub held : Option ℕ
   pub out : List Token
   pub made : List Rec
   pub next : ℕ
 
-abbrev pub puts : Token → State → State
+abbrev pub puts : Token → Pairing → Pairing
 puts t σ = record { held = none; out = σ .out ++ (t ∷ []); made = σ .made; next = σ .next }
 
-abbrev pub holds : ℕ → State → State
+abbrev pub holds : ℕ → Pairing → Pairing
 holds d σ = record { held = some d; out = σ .out; made = σ .made; next = σ .next }
 
-abbrev pub pairs : ℕ → ℕ → State → State
+abbrev pub pairs : ℕ → ℕ → Pairing → Pairing
 pairs upper lower σ =
     record { held = none; out = σ .out ++ (single (σ .next) ∷ []); made = σ .made ++ (C-rec upper lower ∷ []); next = σ .next + 1 }
 
 -- A one-child node at the front of a run of k: the upper one of a pair, or the lower one if k is even, else it waits as it is.
-abbrev pub onOne : ℕ → ℕ → Option ℕ → State → State
-onOne d k (some lower) σ = pairs d lower σ
-onOne d k none σ = cond (eqb (k % 2) 0) (holds d σ) (puts (single d) σ)
+abbrev pub onChained : ℕ → ℕ → Option ℕ → Pairing → Pairing
+onChained d k (some lower) σ = pairs d lower σ
+onChained d k none σ = cond (eqb (k % 2) 0) (holds d σ) (puts (single d) σ)
 
-abbrev pub act : State → Token → ℕ → State
-act σ (bare d) k = puts (bare d) σ
-act σ (single d) k = onOne d k (σ .held) σ
-act σ (double o) k = puts (double o) σ
+abbrev pub pairToken : Pairing → Token → ℕ → Pairing
+pairToken σ (bare d) k = puts (bare d) σ
+pairToken σ (single d) k = onChained d k (σ .held) σ
+pairToken σ (double o) k = puts (double o) σ
 
-abbrev pub acts : State → List Token → State
-acts σ [] = σ
-acts σ (t ∷ ts) = acts (act σ t (run (t ∷ ts))) ts
+abbrev pub pairTokens : Pairing → List Token → Pairing
+pairTokens σ [] = σ
+pairTokens σ (t ∷ ts) = pairTokens (pairToken σ t (chainLength (t ∷ ts))) ts
 
 -- ---- What the arrays hold of it
 
@@ -56,21 +57,21 @@ abbrev pub rest : List ℕ → ℕ → ℕ → List Token
 rest l i n = map decode (slice i n l)
 
 -- What is held: 65535 where there is none.
-abbrev pub view : List ℕ → List ℕ → List ℕ → List ℕ → Marks → State
-view out ks fs ss m =
-    record { held = present (m .held); out = toks out (m .at); made = recs ks fs ss (m .next); next = m .next }
+abbrev pub pairingIn : List ℕ → List ℕ → List ℕ → List ℕ → PairingMarks → Pairing
+pairingIn out ks fs ss m =
+    record { held = present (m .held); out = toks out (m .at); made = recs ks fs ss 0 (m .next); next = m .next }
 
 -- Where a pass begins: nothing is held and nothing is out.
-abbrev pub start : List ℕ → List ℕ → List ℕ → ℕ → State
-start ks fs ss next = record { held = none; out = []; made = recs ks fs ss next; next = next }
+abbrev pub pairingStart : List ℕ → List ℕ → List ℕ → ℕ → Pairing
+pairingStart ks fs ss next = record { held = none; out = []; made = recs ks fs ss 0 next; next = next }
 
 -- There is room for one token more.
-pub record Room (m : Marks) : Type 0 where
+pub record PairingRoom (m : PairingMarks) : Type 0 where
   pub at : m .at < 2048
   pub next : m .next < 3072
 
 -- A step's answer: the state that is due, and each mark at most one further.
-pub record Stepped (due σ : State) (m r : Marks) : Type 0 where
+pub record PairingStep (due σ : Pairing) (m r : PairingMarks) : Type 0 where
   pub is : σ ≡ due
   pub at : r .at ≤ m .at + 1
   pub next : r .next ≤ m .next + 1

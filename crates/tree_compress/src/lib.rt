@@ -1,24 +1,25 @@
 // Compress: pairs each longest chain of one-child nodes from the top, in one pass over the tokens of a tree.
-use tree_tokens::Filled;
+use tree_tokens::Extent;
 ghost use mathlib.Core.Path.{_≡_};
 ghost use mathlib.Core.List.{List};
 ghost use Prim.Native.Nat.{ℕ, _+_, _-_, _≤_, _<_};
 ghost use lib.ListN.{length};
 ghost use Rattle.contraction.specs.Rounds.{Work, compresses, compressed};
-ghost use Rattle.tree_tokens.specs.Tokens.{decode, flat, toks, recs, Sized, Leaves};
-ghost use Rattle.tree_compress.specs.Steps.{run, puts, pairs, act, rest, view, Room, Stepped};
+ghost use Rattle.contraction.specs.Steps.{recs};
+ghost use Rattle.tree_tokens.specs.Tokens.{decode, flat, toks, Sized, Leaves};
+ghost use Rattle.tree_compress.specs.Steps.{chainLength, puts, pairs, pairToken, rest, pairingIn, PairingRoom, PairingStep};
 
 // The lower node of a pair, or 65535, and how far the tokens out and the records are filled.
-struct Marks {
+struct PairingMarks {
     held: u16,
     at: usize,
     next: u16,
 }
 
 // How many one-child nodes stand from i on.
-fn run_length(tokens: &[u16; 2048], i: usize, n: usize) -> usize
+fn chain_length(tokens: &[u16; 2048], i: usize, n: usize) -> usize
     requires { ⌜ (i ≤ n) × (n ≤ 2048) × (length (now tokens) ≡ 2048) ⌝ }
-    ensures { λ r. ⌜ r ≡ run (rest (now (tokens .entry)) i n) ⌝ }
+    ensures { λ r. ⌜ r ≡ chainLength (rest (now (tokens .entry)) i n) ⌝ }
 {
     let mut j = i;
     while j < n {
@@ -26,7 +27,7 @@ fn run_length(tokens: &[u16; 2048], i: usize, n: usize) -> usize
         if t < 4096 {
             return j - i;
         }
-        if 65520 <= t {
+        if 0xFFF0 <= t {
             return j - i;
         }
         j += 1;
@@ -35,14 +36,14 @@ fn run_length(tokens: &[u16; 2048], i: usize, n: usize) -> usize
 }
 
 // The same, where k, unless it is 0, is the answer already: each run is counted once.
-fn run_left(tokens: &[u16; 2048], i: usize, n: usize, k: usize) -> usize
-    requires { ⌜ (i ≤ n) × (n ≤ 2048) × (length (now tokens) ≡ 2048) × ((k ≡ 0 → ⊥) → k ≡ run (rest (now tokens) i n)) ⌝ }
-    ensures { λ r. ⌜ r ≡ run (rest (now (tokens .entry)) i n) ⌝ }
+fn chain_left(tokens: &[u16; 2048], i: usize, n: usize, k: usize) -> usize
+    requires { ⌜ (i ≤ n) × (n ≤ 2048) × (length (now tokens) ≡ 2048) × ((k ≡ 0 → ⊥) → k ≡ chainLength (rest (now tokens) i n)) ⌝ }
+    ensures { λ r. ⌜ r ≡ chainLength (rest (now (tokens .entry)) i n) ⌝ }
 {
     if k != 0 {
         return k;
     }
-    run_length(tokens, i, n)
+    chain_length(tokens, i, n)
 }
 
 fn less(k: usize) -> usize
@@ -52,14 +53,14 @@ fn less(k: usize) -> usize
 }
 
 // Puts a token out as it is.
-fn put(t: u16, out: &mut [u16; 2048], m: Marks) -> Marks
+fn put_out(t: u16, out: &mut [u16; 2048], m: PairingMarks) -> PairingMarks
     requires { ⌜ (length (now out) ≡ 2048) × (m .at < 2048) ⌝ }
     ensures { λ _. ⌜ length (now (out .exit)) ≡ 2048 ⌝ }
-    ensures { λ r. ⌜ ((ks fs ss : List ℕ) → view (now (out .exit)) ks fs ss r ≡ puts (decode t) (view (now (out .entry)) ks fs ss m)) × (r .at ≡ m .at + 1) × (r .next ≡ m .next) ⌝ }
+    ensures { λ r. ⌜ ((ks fs ss : List ℕ) → pairingIn (now (out .exit)) ks fs ss r ≡ puts (decode t) (pairingIn (now (out .entry)) ks fs ss m)) × (r .at ≡ m .at + 1) × (r .next ≡ m .next) ⌝ }
 {
     let at = m.at;
     tree_tokens::put_token(t, out, at);
-    Marks {
+    PairingMarks {
         held: 65535,
         at: at + 1,
         next: m.next,
@@ -67,26 +68,26 @@ fn put(t: u16, out: &mut [u16; 2048], m: Marks) -> Marks
 }
 
 // A pair becomes one node, with a C node over upper and lower.
-fn pair(
+fn pair_up(
     upper: u16,
     lower: u16,
     out: &mut [u16; 2048],
     kinds: &mut [u16; 3072],
     firsts: &mut [u16; 3072],
     seconds: &mut [u16; 3072],
-    m: Marks,
-) -> Marks
+    m: PairingMarks,
+) -> PairingMarks
     requires { ⌜ Sized (now out) (now kinds) (now firsts) (now seconds) ⌝ }
-    requires { ⌜ Room m ⌝ }
+    requires { ⌜ PairingRoom m ⌝ }
     ensures { λ _. ⌜ Sized (now (out .exit)) (now (kinds .exit)) (now (firsts .exit)) (now (seconds .exit)) ⌝ }
-    ensures { λ r. ⌜ (view (now (out .exit)) (now (kinds .exit)) (now (firsts .exit)) (now (seconds .exit)) r
-        ≡ pairs upper lower (view (now (out .entry)) (now (kinds .entry)) (now (firsts .entry)) (now (seconds .entry)) m)) × (r .at ≡ m .at + 1) × (r .next ≡ m .next + 1) ⌝ }
+    ensures { λ r. ⌜ (pairingIn (now (out .exit)) (now (kinds .exit)) (now (firsts .exit)) (now (seconds .exit)) r
+        ≡ pairs upper lower (pairingIn (now (out .entry)) (now (kinds .entry)) (now (firsts .entry)) (now (seconds .entry)) m)) × (r .at ≡ m .at + 1) × (r .next ≡ m .next + 1) ⌝ }
 {
     let at = m.at;
     let next = m.next;
     tree_tokens::put_token(4096 + next, out, at);
     tree_tokens::put_record(14, upper, lower, kinds, firsts, seconds, next);
-    Marks {
+    PairingMarks {
         held: 65535,
         at: at + 1,
         next: next + 1,
@@ -94,40 +95,40 @@ fn pair(
 }
 
 // One token, at the front of a run of k.
-fn step(
+fn compress_token(
     t: u16,
     k: usize,
     out: &mut [u16; 2048],
     kinds: &mut [u16; 3072],
     firsts: &mut [u16; 3072],
     seconds: &mut [u16; 3072],
-    m: Marks,
-) -> Marks
+    m: PairingMarks,
+) -> PairingMarks
     requires { ⌜ Sized (now out) (now kinds) (now firsts) (now seconds) ⌝ }
-    requires { ⌜ Room m ⌝ }
+    requires { ⌜ PairingRoom m ⌝ }
     ensures { λ _. ⌜ Sized (now (out .exit)) (now (kinds .exit)) (now (firsts .exit)) (now (seconds .exit)) ⌝ }
-    ensures { λ r. ⌜ Stepped (act (view (now (out .entry)) (now (kinds .entry)) (now (firsts .entry)) (now (seconds .entry)) m) (decode t) k)
-        (view (now (out .exit)) (now (kinds .exit)) (now (firsts .exit)) (now (seconds .exit)) r) m r ⌝ }
+    ensures { λ r. ⌜ PairingStep (pairToken (pairingIn (now (out .entry)) (now (kinds .entry)) (now (firsts .entry)) (now (seconds .entry)) m) (decode t) k)
+        (pairingIn (now (out .exit)) (now (kinds .exit)) (now (firsts .exit)) (now (seconds .exit)) r) m r ⌝ }
 {
     if t < 4096 {
-        return put(t, out, m);
+        return put_out(t, out, m);
     }
-    if 65520 <= t {
-        return put(t, out, m);
+    if 0xFFF0 <= t {
+        return put_out(t, out, m);
     }
     let upper = t - 4096;
     let lower = m.held;
     if lower != 65535 {
-        return pair(upper, lower, out, kinds, firsts, seconds, m);
+        return pair_up(upper, lower, out, kinds, firsts, seconds, m);
     }
     if k % 2 == 0 {
-        Marks {
+        PairingMarks {
             held: t - 4096,
             at: m.at,
             next: m.next,
         }
     } else {
-        put(t, out, m)
+        put_out(t, out, m)
     }
 }
 
@@ -140,16 +141,16 @@ pub fn compress(
     firsts: &mut [u16; 3072],
     seconds: &mut [u16; 3072],
     next: u16,
-) -> Filled
+) -> Extent
     requires { ⌜ Sized (now out) (now kinds) (now firsts) (now seconds) ⌝ }
     requires { ⌜ (length (now tokens) ≡ 2048) × (n ≤ 2048) × (next + n ≤ 3072) ⌝ }
     ensures { λ _. ⌜ Sized (now (out .exit)) (now (kinds .exit)) (now (firsts .exit)) (now (seconds .exit)) ⌝ }
     ensures { λ r. ⌜ r .at ≤ n ⌝ }
     ensures { λ r. ⌜ ((w : Work) → toks (now (tokens .entry)) n ≡ flat w
-        → Leaves (compressed w next) (recs (now (kinds .entry)) (now (firsts .entry)) (now (seconds .entry)) next) (compresses w)
+        → Leaves (compressed w next) (recs (now (kinds .entry)) (now (firsts .entry)) (now (seconds .entry)) 0 next) (compresses w)
         (now (out .exit)) (now (kinds .exit)) (now (firsts .exit)) (now (seconds .exit)) r) ⌝ }
 {
-    let mut m = Marks {
+    let mut m = PairingMarks {
         held: 65535,
         at: 0,
         next,
@@ -158,12 +159,12 @@ pub fn compress(
     let mut k: usize = 0;
     while i < n {
         let t = tokens[i];
-        let left = run_left(tokens, i, n, k);
-        m = step(t, left, out, kinds, firsts, seconds, m);
+        let left = chain_left(tokens, i, n, k);
+        m = compress_token(t, left, out, kinds, firsts, seconds, m);
         k = less(left);
         i += 1;
     }
-    Filled {
+    Extent {
         at: m.at,
         next: m.next,
     }

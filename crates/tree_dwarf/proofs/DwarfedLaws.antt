@@ -1,5 +1,6 @@
 -- Laws of what is built: the sizes of a plan, and the records once all rounds are done.
 use Prim.Native.Nat.{ℕ, zero, suc, _*_, _≤_}
+use native.Mathlib.Numerals.{add-one}
 use native.Mathlib.Omega.{arith}
 use mathlib.Core.Path.{_≡_, refl, sym, ap, _∙_}
 use mathlib.Core.List.{List, [], _∷_, _++_, map, map-append}
@@ -11,11 +12,12 @@ use Rattle.contraction.specs.Records.{Rec, kindsOf, firstsOf, secondsOf}
 use Rattle.contraction.specs.Rounds.{nodes, made, rounds, planted, leafRecs, enough, dwarf}
 use Rattle.contraction.specs.Height.{height}
 use Rattle.contraction.proofs.Rounds.{length-leafRecs}
-use Rattle.tree_tokens.specs.Tokens.{recAt, recs, Shelves, Leaves}
-use Rattle.tree_tokens.proofs.TokensLaws.{length-recs}
+use Rattle.contraction.specs.Steps.{recAt, recs}
+use Rattle.tree_tokens.specs.Tokens.{Shelves, Leaves}
+use Rattle.contraction.proofs.Steps.{recs-next, length-recs}
 use Rattle.tree_dwarf.specs.Dwarfed.{Plans, Dwarfed}
 use Rattle.tree_dwarf.specs.Steps.{Contracted, Bounded}
-use Rattle.tree_dwarf.specs.declared.Built.{Built}
+use Rattle.tree_dwarf.specs.declared.Figures.{Figures}
 use Rattle.tree_dwarf.proofs.RoundLaws.{leaves-next}
 
 -- every formula over at most 256 names is planned by its own postfix order
@@ -32,29 +34,31 @@ plans-leaves f codes n p h = omega (arith, length-take-le n codes h, ap length (
 
 -- a part of each record is what one array holds
 map-recs : (part : Rec → ℕ) (l ks fs ss : List ℕ) → ((i : ℕ) → part (recAt ks fs ss i) ≡ getD l i 0) → (n : ℕ) → n ≤ length l
-    → take n l ≡ map part (recs ks fs ss n)
+    → take n l ≡ map part (recs ks fs ss 0 n)
+unfolding recs
 map-recs part l ks fs ss at zero h = refl
 map-recs part l ks fs ss at (suc n) h =
     take-suc l n 0 (omega arith) ∙ ap (λ z. z ++ (getD l n 0 ∷ [])) (map-recs part l ks fs ss at n (omega arith))
-    ∙ ap (λ z. map part (recs ks fs ss n) ++ (z ∷ [])) (sym (at n))
-    ∙ sym (map-append part (recs ks fs ss n) (recAt ks fs ss n ∷ []))
+    ∙ ap (λ z. map part (recs ks fs ss 0 n) ++ (z ∷ [])) (sym (at n))
+    ∙ sym (map-append part (recs ks fs ss 0 n) (recAt ks fs ss n ∷ [])) ∙ ap (map part) (sym (recs-next ks fs ss n))
+    ∙ ap (λ k. map part (recs ks fs ss 0 k)) (add-one n)
 
 -- leaves numbered, all rounds done, and the height worked out
-module _ (f : Formula) (n : ℕ) {a ks fs ss : List ℕ} (count : ℕ) (start : Leaves (planted f 0) [] (leafRecs f) a ks fs ss (record { at = n; next = count })) where
+module _ (f : Formula) (n : ℕ) {a ks fs ss : List ℕ} (count : ℕ) (started : Leaves (planted f 0) [] (leafRecs f) a ks fs ss (record { at = n; next = count })) where
   pub count-leaves : count ≡ leaves f
-  count-leaves = omega (arith, leaves-next start, length-leafRecs f)
+  count-leaves = omega (arith, leaves-next started, length-leafRecs f)
 
-  module _ (ks′ fs′ ss′ : List ℕ) (total many tall : ℕ) (end : Contracted (planted f 0) count (recs ks fs ss count) (recs ks′ fs′ ss′ total) many)
-      (sized : Shelves ks′ fs′ ss′) (few : total ≤ 3072) (high : tall ≡ height (recs ks′ fs′ ss′ total)) where
-    records-dwarf : recs ks′ fs′ ss′ total ≡ dwarf f
+  module _ (ks′ fs′ ss′ : List ℕ) (total many tall : ℕ) (end : Contracted (planted f 0) count (recs ks fs ss 0 count) (recs ks′ fs′ ss′ 0 total) many)
+      (sized : Shelves ks′ fs′ ss′) (few : total ≤ 3072) (high : tall ≡ height (recs ks′ fs′ ss′ 0 total)) where
+    records-dwarf : recs ks′ fs′ ss′ 0 total ≡ dwarf f
     records-dwarf =
-        end .records ∙ ap (λ z. z ++ made (nodes (planted f 0)) (planted f 0) count) (start .records)
+        end .records ∙ ap (λ z. z ++ made (nodes (planted f 0)) (planted f 0) count) (started .records)
         ∙ ap (λ z. leafRecs f ++ made (nodes (planted f 0)) (planted f 0) z) count-leaves
 
     pub dwarfed : Dwarfed f ks′ fs′ ss′ (record { leaves = count; nodes = total; rounds = many; height = tall })
     dwarfed = record {
       leaves-are = count-leaves;
-      nodes-are = sym (length-recs ks′ fs′ ss′ total) ∙ ap length records-dwarf;
+      nodes-are = sym (length-recs ks′ fs′ ss′ total 0) ∙ ap length records-dwarf;
       rounds-are = end .rounds-are ∙ ap (λ z. rounds (nodes (planted f 0)) (planted f 0) z) count-leaves;
       height-is = high ∙ ap height records-dwarf;
       kinds-are = map-recs (λ r. r .kind) ks′ ks′ fs′ ss′ (λ i. refl) total (omega arith) ∙ ap kindsOf records-dwarf;
@@ -63,7 +67,7 @@ module _ (f : Formula) (n : ℕ) {a ks fs ss : List ℕ} (count : ℕ) (start : 
     }
 
 -- so the numbers stay within the arrays
-pub dwarfed-bounded : (f : Formula) (codes : List ℕ) (n : ℕ) → Plans f codes n → n ≤ length codes → n ≤ 2047 → {ks fs ss : List ℕ} {b : Built}
+pub dwarfed-bounded : (f : Formula) (codes : List ℕ) (n : ℕ) → Plans f codes n → n ≤ length codes → n ≤ 2047 → {ks fs ss : List ℕ} {b : Figures}
     → Dwarfed f ks fs ss b → b .nodes ≤ 3072 → Bounded b
 dwarfed-bounded f codes n p h few d total = record {
   leaves-few = omega (arith, plans-leaves f codes n p h, d .leaves-are);

@@ -1,4 +1,3 @@
 pub mod PlantLaws
 pub mod RoundLaws
 pub mod DwarfedLaws
-pub mod Entries

@@ -10,55 +10,56 @@ use lib.Seq.{take-suc}
 use Rattle.formula.specs.Formula.{Op, union, intersection, difference, exclusive, index, code, Formula, leaf, node, leaves, postfix, Over}
 use Rattle.contraction.specs.Records.{Rec}
 use Rattle.contraction.specs.Rounds.{planted, leafRecs}
-use Rattle.tree_tokens.specs.Tokens.{Token, double, flat, decode, toks, recs}
+use Rattle.contraction.specs.Steps.{recs}
+use Rattle.tree_tokens.specs.Tokens.{Token, double, flat, decode, toks}
 use Rattle.tree_tokens.proofs.TokensLaws.{decode-bare, decode-double}
-use Rattle.tree_dwarf.specs.Steps.{State, copied, plant, view}
+use Rattle.tree_dwarf.specs.Steps.{Planting, copied, plantCode, plantingIn}
 
 -- ---- one code
 pub plant-leaf : (ts ts′ ks fs ss ks′ fs′ ss′ : List ℕ) (i c next : ℕ) → toks ts′ (i + 1) ≡ toks ts i ++ (decode next ∷ [])
-    → recs ks′ fs′ ss′ (next + 1) ≡ recs ks fs ss next ++ (record { kind = 0; first = c; second = 65535 } ∷ []) → c < 65520 → next < 3072
-    → view ts′ (i + 1) ks′ fs′ ss′ (next + 1) ≡ plant (view ts i ks fs ss next) c
-plant-leaf ts ts′ ks fs ss ks′ fs′ ss′ i c next e q h b = rw (e, q, lt-ltb c 65520 h, decode-bare next (omega arith))
+    → recs ks′ fs′ ss′ 0 (next + 1) ≡ recs ks fs ss 0 next ++ (record { kind = 0; first = c; second = 65535 } ∷ []) → c < 0xFFF0 → next < 3072
+    → plantingIn ts′ (i + 1) ks′ fs′ ss′ (next + 1) ≡ plantCode (plantingIn ts i ks fs ss next) c
+plant-leaf ts ts′ ks fs ss ks′ fs′ ss′ i c next e q h b = rw (e, q, lt-ltb c 0xFFF0 h, decode-bare next (omega arith))
 
-pub plant-operation : (ts ts′ ks fs ss : List ℕ) (i c next : ℕ) → toks ts′ (i + 1) ≡ toks ts i ++ (decode c ∷ []) → 65520 ≤ c
-    → view ts′ (i + 1) ks fs ss next ≡ plant (view ts i ks fs ss next) c
-plant-operation ts ts′ ks fs ss i c next e h = rw (e, decode-double c h, le-ltb c 65520 h)
+pub plant-operation : (ts ts′ ks fs ss : List ℕ) (i c next : ℕ) → toks ts′ (i + 1) ≡ toks ts i ++ (decode c ∷ []) → 0xFFF0 ≤ c
+    → plantingIn ts′ (i + 1) ks fs ss next ≡ plantCode (plantingIn ts i ks fs ss next) c
+plant-operation ts ts′ ks fs ss i c next e h = rw (e, decode-double c h, le-ltb c 0xFFF0 h)
 
 -- ---- the loop: σ is the state after i codes, and r one code on
-pub plant-next : (σ₀ : State) (l : List ℕ) (i : ℕ) {σ r : State} → r ≡ plant σ (getD l i 0) → σ ≡ foldl plant σ₀ (take i l) → i < length l → r ≡ foldl plant σ₀ (take (i + 1) l)
-plant-next σ₀ l i q e h = q ∙ ap (λ (s : State). plant s (getD l i 0)) e ∙ rw (add-one i, take-suc l i 0 h) (sym (foldl-append plant σ₀ (take i l) (getD l i 0 ∷ [])))
+pub plant-next : (σ₀ : Planting) (l : List ℕ) (i : ℕ) {σ r : Planting} → r ≡ plantCode σ (getD l i 0) → σ ≡ foldl plantCode σ₀ (take i l) → i < length l → r ≡ foldl plantCode σ₀ (take (i + 1) l)
+plant-next σ₀ l i q e h = q ∙ ap (λ (s : Planting). plantCode s (getD l i 0)) e ∙ rw (add-one i, take-suc l i 0 h) (sym (foldl-append plantCode σ₀ (take i l) (getD l i 0 ∷ [])))
 
 -- ---- a formula
 same : {a b : List Token} {c d : List Rec} {n m : ℕ} → a ≡ b → c ≡ d → n ≡ m
-    → _≡_ {A = State} (record { out = a; made = c; next = n }) (record { out = b; made = d; next = m })
+    → _≡_ {A = Planting} (record { out = a; made = c; next = n }) (record { out = b; made = d; next = m })
 same p q e = rw (p, q, e)
 
-plant-code : (o : Op) (σ : State) → plant σ (code o) ≡ copied (index o) σ
+plant-code : (o : Op) (σ : Planting) → plantCode σ (code o) ≡ copied (index o) σ
 plant-code union σ = refl
 plant-code intersection σ = refl
 plant-code difference σ = refl
 plant-code exclusive σ = refl
 
-abbrev done : Formula → State → State
+abbrev done : Formula → Planting → Planting
 done f σ = record { out = σ .out ++ flat (planted f (σ .next)); made = σ .made ++ leafRecs f; next = σ .next + leaves f }
 
-plant-node : (o : Op) (l r : Formula) (σ : State) → plant (done r (done l σ)) (code o) ≡ done (node o l r) σ
+plant-node : (o : Op) (l r : Formula) (σ : Planting) → plantCode (done r (done l σ)) (code o) ≡ done (node o l r) σ
 plant-node o l r σ =
     let fl = flat (planted l (σ .next)) in
     let fr = flat (planted r (σ .next + leaves l)) in
     plant-code o (done r (done l σ))
     ∙ same (append-assoc (σ .out ++ fl) fr (double (index o) ∷ []) ∙ append-assoc (σ .out) fl _) (append-assoc (σ .made) (leafRecs l) (leafRecs r)) (omega arith)
 
-plant-formula : (f : Formula) → Over 256 f → (σ : State) → foldl plant σ (postfix f) ≡ done f σ
-plant-formula (leaf s) h σ = rw (lt-ltb s 65520 (omega arith))
+plant-formula : (f : Formula) → Over 256 f → (σ : Planting) → foldl plantCode σ (postfix f) ≡ done f σ
+plant-formula (leaf s) h σ = rw (lt-ltb s 0xFFF0 (omega arith))
 plant-formula (node o l r) h σ = rw (foldl-append, foldl-append, plant-formula l (h .0) σ, plant-formula r (h .1)) (plant-node o l r σ)
 
-module _ (f : Formula) (over : Over 256 f) {cs : List ℕ} {σ : State} (e : cs ≡ postfix f) (ran : σ ≡ foldl plant (record { out = []; made = []; next = 0 }) cs) where
+module _ (f : Formula) (over : Over 256 f) {cs : List ℕ} {σ : Planting} (e : cs ≡ postfix f) (ran : σ ≡ foldl plantCode (record { out = []; made = []; next = 0 }) cs) where
   ran-done : σ ≡ done f (record { out = []; made = []; next = 0 })
   ran-done = (rw e at ran) ∙ plant-formula f over _
 
   pub planted-tree : σ .out ≡ flat (planted f 0)
-  planted-tree = ap (λ (s : State). s .out) ran-done
+  planted-tree = ap (λ (s : Planting). s .out) ran-done
 
   pub planted-records : σ .made ≡ leafRecs f
-  planted-records = ap (λ (s : State). s .made) ran-done
+  planted-records = ap (λ (s : Planting). s .made) ran-done

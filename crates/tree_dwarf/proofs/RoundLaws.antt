@@ -12,9 +12,11 @@ use Rattle.contraction.specs.Rounds.{Work, tip, one, two, nodes, tipOf, oneRema
 use Rattle.contraction.specs.Rounds.{compresses, compressed, roundMakes, roundLeaves, made, rounds}
 use Rattle.contraction.proofs.Counts.{compressed-nodes, nodes-pos}
 use Rattle.contraction.proofs.Rounds.{fewer}
-use Rattle.tree_tokens.specs.Tokens.{flat, toks, recs, Leaves}
-use Rattle.tree_tokens.specs.declared.Filled.{Filled}
-use Rattle.tree_tokens.proofs.TokensLaws.{toks-nodes, length-recs}
+use Rattle.contraction.specs.Steps.{recs}
+use Rattle.tree_tokens.specs.Tokens.{flat, toks, Leaves}
+use Rattle.tree_tokens.specs.declared.Extent.{Extent}
+use Rattle.contraction.proofs.Steps.{length-recs}
+use Rattle.tree_tokens.proofs.TokensLaws.{toks-nodes}
 use Rattle.tree_dwarf.specs.Steps.{Contracted}
 
 -- ---- a step makes no more records than it takes nodes away
@@ -72,9 +74,9 @@ end-rounds (suc k) (one d c) n h = absurd (omega (arith, nodes-pos c))
 end-rounds (suc k) (two o l r) n h = absurd (omega (arith, nodes-pos l, nodes-pos r))
 
 -- ---- what a step leaves
-module _ {w : Work} {found ms : List Rec} {out ks fs ss : List ℕ} {r : Filled} (left : Leaves w found ms out ks fs ss r) where
+module _ {w : Work} {found ms : List Rec} {out ks fs ss : List ℕ} {r : Extent} (left : Leaves w found ms out ks fs ss r) where
   pub leaves-next : r .next ≡ length found + length ms
-  leaves-next = sym (length-recs ks fs ss (r .next)) ∙ ap length (left .records) ∙ length-append found ms
+  leaves-next = sym (length-recs ks fs ss (r .next) 0) ∙ ap length (left .records) ∙ length-append found ms
 
   pub leaves-nodes : r .at ≤ length out → nodes w ≡ r .at
   leaves-nodes h = toks-nodes w out (r .at) (left .tree) h
@@ -83,13 +85,13 @@ module _ {w : Work} {found ms : List Rec} {out ks fs ss : List ℕ} {r : Filled}
 pub round-fewer : (w : Work) (n : ℕ) → 1 < nodes w → nodes (roundLeaves w n) < nodes w
 round-fewer w n h = omega (arith, fewer w n (nodes w - 2) (omega arith))
 
-module _ (w : Work) (n : ℕ) {found : List Rec} (known : length found ≡ n) {b ks fs ss : List ℕ} {m : Filled}
+module _ (w : Work) (n : ℕ) {found : List Rec} (known : length found ≡ n) {b ks fs ss : List ℕ} {m : Extent}
     (after-rake : Leaves (raked w n) found (rakes w) b ks fs ss m) where
   pub rake-room : m .at ≤ length b → m .next + m .at ≤ n + nodes w
   rake-room h = omega (arith, leaves-next after-rake, leaves-nodes after-rake h, raked-room w n)
 
-  module _ {a′ ks′ fs′ ss′ : List ℕ} {r : Filled}
-      (after : Leaves (compressed (raked w n) (m .next)) (recs ks fs ss (m .next)) (compresses (raked w n)) a′ ks′ fs′ ss′ r) where
+  module _ {a′ ks′ fs′ ss′ : List ℕ} {r : Extent}
+      (after : Leaves (compressed (raked w n) (m .next)) (recs ks fs ss 0 (m .next)) (compresses (raked w n)) a′ ks′ fs′ ss′ r) where
     pub after-round : Leaves (roundLeaves w n) found (roundMakes w n) a′ ks′ fs′ ss′ r
     after-round = record {
       tree = after .tree ∙ ap (λ z. flat (compressed (raked w n) z)) (omega (arith, leaves-next after-rake));
@@ -112,8 +114,8 @@ pub record Along (w₀ : Work) (n₀ : ℕ) (found : List Rec) (a : List ℕ) (l
   pub all-rounds : many + rounds most tree count ≡ rounds (nodes w₀) w₀ n₀
 
 module _ {w₀ : Work} {n₀ : ℕ} {found : List Rec} (a : List ℕ) (left : ℕ) (sofar : List Rec) (count many : ℕ) (t : Along w₀ n₀ found a left sofar count many) (h : left ≤ length a) where
-  pub along-round : (a′ ks fs ss : List ℕ) (r : Filled) → Leaves (roundLeaves (t .tree) count) sofar (roundMakes (t .tree) count) a′ ks fs ss r → length sofar ≡ count
-      → 1 < left → r .at < left → Along w₀ n₀ found a′ (r .at) (recs ks fs ss (r .next)) (r .next) (many + 1)
+  pub along-round : (a′ ks fs ss : List ℕ) (r : Extent) → Leaves (roundLeaves (t .tree) count) sofar (roundMakes (t .tree) count) a′ ks fs ss r → length sofar ≡ count
+      → 1 < left → r .at < left → Along w₀ n₀ found a′ (r .at) (recs ks fs ss 0 (r .next)) (r .next) (many + 1)
   along-round a′ ks fs ss r l c big less = go (t .most) refl
     where
       remain : oneRemains (t .tree) ≡ false
@@ -122,7 +124,7 @@ module _ {w₀ : Work} {n₀ : ℕ} {found : List Rec} (a : List ℕ) (left : �
       next-is : r .next ≡ count + length (roundMakes (t .tree) count)
       next-is = omega (arith, leaves-next l)
 
-      go : (k : ℕ) → t .most ≡ k → Along w₀ n₀ found a′ (r .at) (recs ks fs ss (r .next)) (r .next) (many + 1)
+      go : (k : ℕ) → t .most ≡ k → Along w₀ n₀ found a′ (r .at) (recs ks fs ss 0 (r .next)) (r .next) (many + 1)
       go zero q = absurd (omega (arith, t .enough))
       go (suc k) q = record {
         tree = roundLeaves (t .tree) count;

@@ -7,7 +7,7 @@ use Rattle.formula.specs.Formula.{Formula, leaves, postfix, Over}
 use Rattle.contraction.specs.Records.{kindsOf, firstsOf, secondsOf}
 use Rattle.contraction.specs.Rounds.{dwarf, roundsOf}
 use Rattle.contraction.specs.Height.{height}
-use Rattle.tree_dwarf.specs.declared.Built.{Built}
+use Rattle.tree_dwarf.specs.declared.Figures.{Figures}
 
 -- The first n codes are the postfix order of the formula f, over at most 256 names.
 pub record Plans (f : Formula) (codes : List ℕ) (n : ℕ) : Type 0 where
@@ -20,7 +20,7 @@ pub record Planned (codes : List ℕ) (n : ℕ) : Type 0 where
   pub plans : Plans formula codes n
 
 -- What is built of f: the four numbers, and the records as the first entries of the arrays.
-pub record Dwarfed (f : Formula) (ks fs ss : List ℕ) (b : Built) : Type 0 where
+pub record Dwarfed (f : Formula) (ks fs ss : List ℕ) (b : Figures) : Type 0 where
   pub leaves-are : b .leaves ≡ leaves f
   pub nodes-are : b .nodes ≡ length (dwarf f)
   pub rounds-are : b .rounds ≡ roundsOf f

@@ -7,31 +7,32 @@ use lib.Dec.{ltb}
 use Rattle.formula.specs.Formula.{firstOperation}
 use Rattle.contraction.specs.Records.{Rec, leafRec}
 use Rattle.contraction.specs.Rounds.{Work, nodes, made, rounds}
-use Rattle.tree_tokens.specs.Tokens.{Token, bare, double, flat, toks, recs}
-use Rattle.tree_dwarf.specs.declared.Built.{Built}
+use Rattle.contraction.specs.Steps.{recs}
+use Rattle.tree_tokens.specs.Tokens.{Token, bare, double, flat, toks}
+use Rattle.tree_dwarf.specs.declared.Figures.{Figures}
 
 -- ---- Leaves get dwarf nodes 0, 1, .. from left to right
 
 -- The tokens out, the records made, and the next number.
-pub record State : Type 0 where
+pub record Planting : Type 0 where
   pub out : List Token
   pub made : List Rec
   pub next : ℕ
 
-abbrev pub numbered : ℕ → State → State
+abbrev pub numbered : ℕ → Planting → Planting
 numbered s σ = record { out = σ .out ++ (bare (σ .next) ∷ []); made = σ .made ++ (leafRec s ∷ []); next = σ .next + 1 }
 
-abbrev pub copied : ℕ → State → State
+abbrev pub copied : ℕ → Planting → Planting
 copied o σ = record { out = σ .out ++ (double o ∷ []); made = σ .made; next = σ .next }
 
-abbrev pub plant : State → ℕ → State
-plant σ c = cond (ltb c firstOperation) (numbered c σ) (copied (c - firstOperation) σ)
+abbrev pub plantCode : Planting → ℕ → Planting
+plantCode σ c = cond (ltb c firstOperation) (numbered c σ) (copied (c - firstOperation) σ)
 
-abbrev pub view : List ℕ → ℕ → List ℕ → List ℕ → List ℕ → ℕ → State
-view ts i ks fs ss next = record { out = toks ts i; made = recs ks fs ss next; next = next }
+abbrev pub plantingIn : List ℕ → ℕ → List ℕ → List ℕ → List ℕ → ℕ → Planting
+plantingIn ts i ks fs ss next = record { out = toks ts i; made = recs ks fs ss 0 next; next = next }
 
-abbrev pub start : State
-start = record { out = []; made = []; next = 0 }
+abbrev pub plantingStart : Planting
+plantingStart = record { out = []; made = []; next = 0 }
 
 -- ---- Rounds
 
@@ -46,7 +47,7 @@ pub record Contracted (w : Work) (n : ℕ) (found all : List Rec) (many : ℕ) :
   pub rounds-are : many ≡ rounds (nodes w) w n
 
 -- The numbers built stay within the arrays.
-pub record Bounded (b : Built) : Type 0 where
+pub record Bounded (b : Figures) : Type 0 where
   pub leaves-few : b .leaves ≤ 1024
   pub leaves-first : b .leaves ≤ b .nodes
   pub nodes-few : b .nodes ≤ 3072

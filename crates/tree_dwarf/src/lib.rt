@@ -1,18 +1,19 @@
 // Builds the dwarf tree of a formula from its codes in postfix order: leaves numbered, then rounds while more than one node remains.
-use tree_tokens::Filled;
+use tree_tokens::Extent;
 ghost use mathlib.Core.Path.{_≡_};
 ghost use mathlib.Core.List.{[]};
 ghost use Prim.Native.Nat.{_+_, _≤_, _<_};
 ghost use lib.ListN.{length};
 ghost use Rattle.formula.specs.Formula.{Formula};
 ghost use Rattle.contraction.specs.Rounds.{Work, roundMakes, roundLeaves, planted, leafRecs};
-ghost use Rattle.tree_tokens.specs.Tokens.{flat, toks, recs, Shelves, Sized, Leaves};
+ghost use Rattle.contraction.specs.Steps.{recs};
+ghost use Rattle.tree_tokens.specs.Tokens.{flat, toks, Shelves, Sized, Leaves};
 ghost use Rattle.tree_rake.specs.Steps.{Lengths};
 ghost use Rattle.tree_dwarf.specs.Dwarfed.{Plans, Planned, Dwarfed};
-ghost use Rattle.tree_dwarf.specs.Steps.{plant as planting, view, IsTree, Contracted, Bounded};
+ghost use Rattle.tree_dwarf.specs.Steps.{plantCode, plantingIn, IsTree, Contracted, Bounded};
 
 // What a dwarf tree is told by, besides its records.
-pub struct Built {
+pub struct Figures {
     pub leaves: usize,
     pub nodes: usize,
     pub rounds: usize,
@@ -38,10 +39,10 @@ fn plant_one(
     requires { ⌜ Sized (now a) (now kinds) (now firsts) (now seconds) ⌝ }
     requires { ⌜ (i < 2048) × (next < 3072) ⌝ }
     ensures { λ _. ⌜ Sized (now (a .exit)) (now (kinds .exit)) (now (firsts .exit)) (now (seconds .exit)) ⌝ }
-    ensures { λ r. ⌜ (view (now (a .exit)) (i + 1) (now (kinds .exit)) (now (firsts .exit)) (now (seconds .exit)) r
-        ≡ planting (view (now (a .entry)) i (now (kinds .entry)) (now (firsts .entry)) (now (seconds .entry)) next) c) × (r ≤ next + 1) ⌝ }
+    ensures { λ r. ⌜ (plantingIn (now (a .exit)) (i + 1) (now (kinds .exit)) (now (firsts .exit)) (now (seconds .exit)) r
+        ≡ plantCode (plantingIn (now (a .entry)) i (now (kinds .entry)) (now (firsts .entry)) (now (seconds .entry)) next) c) × (r ≤ next + 1) ⌝ }
 {
-    if c < 65520 {
+    if c < 0xFFF0 {
         tree_tokens::put_token(next, a, i);
         tree_tokens::put_record(0, c, 65535, kinds, firsts, seconds, next);
         next + 1
@@ -86,13 +87,13 @@ fn round(
     firsts: &mut [u16; 3072],
     seconds: &mut [u16; 3072],
     next: u16,
-) -> Filled
+) -> Extent
     requires { ⌜ (length (now a) ≡ 2048) × Lengths (now b) (now st) (now kinds) (now firsts) (now seconds) ⌝ }
     requires { ⌜ (1 < n) × (n ≤ 2048) × (next + n ≤ 3072) × IsTree (toks (now a) n) ⌝ }
     ensures { λ _. ⌜ (length (now (a .exit)) ≡ 2048) × Lengths (now (b .exit)) (now (st .exit)) (now (kinds .exit)) (now (firsts .exit)) (now (seconds .exit)) ⌝ }
     ensures { λ r. ⌜ (r .at < n) × (r .next + r .at ≤ next + n) ⌝ }
     ensures { λ r. ⌜ ((w : Work) → toks (now (a .entry)) n ≡ flat w
-        → Leaves (roundLeaves w next) (recs (now (kinds .entry)) (now (firsts .entry)) (now (seconds .entry)) next) (roundMakes w next)
+        → Leaves (roundLeaves w next) (recs (now (kinds .entry)) (now (firsts .entry)) (now (seconds .entry)) 0 next) (roundMakes w next)
         (now (a .exit)) (now (kinds .exit)) (now (firsts .exit)) (now (seconds .exit)) r) ⌝ }
 {
     let m = tree_rake::rake(a, n, b, st, kinds, firsts, seconds, next);
@@ -114,8 +115,8 @@ fn contract(
     requires { ⌜ (n ≤ 2048) × (next + n ≤ 3072) × IsTree (toks (now a) n) ⌝ }
     ensures { λ r. ⌜ Shelves (now (kinds .exit)) (now (firsts .exit)) (now (seconds .exit)) × (r .nodes ≤ 3072) ⌝ }
     ensures { λ r. ⌜ ((w : Work) → toks (now (a .entry)) n ≡ flat w
-        → Contracted w next (recs (now (kinds .entry)) (now (firsts .entry)) (now (seconds .entry)) next)
-        (recs (now (kinds .exit)) (now (firsts .exit)) (now (seconds .exit)) (r .nodes)) (r .rounds)) ⌝ }
+        → Contracted w next (recs (now (kinds .entry)) (now (firsts .entry)) (now (seconds .entry)) 0 next)
+        (recs (now (kinds .exit)) (now (firsts .exit)) (now (seconds .exit)) 0 (r .nodes)) (r .rounds)) ⌝ }
 {
     let mut b = [0u16; 2048];
     let mut st = [0u16; 2048];
@@ -135,13 +136,13 @@ fn contract(
 }
 
 // Builds the dwarf tree of the formula whose postfix order the first n codes are.
-pub fn build(
+pub fn build_tree(
     codes: &[u16; 2048],
     n: usize,
     kinds: &mut [u16; 3072],
     firsts: &mut [u16; 3072],
     seconds: &mut [u16; 3072],
-) -> Built
+) -> Figures
     requires { ⌜ (length (now codes) ≡ 2048) × Shelves (now kinds) (now firsts) (now seconds) ⌝ }
     requires { ⌜ (n ≤ 2047) × Planned (now codes) n ⌝ }
     ensures { λ r. ⌜ Shelves (now (kinds .exit)) (now (firsts .exit)) (now (seconds .exit)) × Bounded r ⌝ }
@@ -152,7 +153,7 @@ pub fn build(
     let done = contract(&mut a, n, kinds, firsts, seconds, leaves);
     let nodes = done.nodes as usize;
     let tall = tree_height::height(kinds, firsts, seconds, nodes);
-    Built {
+    Figures {
         leaves: leaves as usize,
         nodes,
         rounds: done.rounds,

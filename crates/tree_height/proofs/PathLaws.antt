@@ -13,7 +13,8 @@ use lib.Seq.{getD-take, take-suc-set, getD-set-same, getD-set-other}
 use Rattle.contraction.specs.Records.{Rec}
 use Rattle.contraction.specs.Height.{worked, last, path, height}
 use Rattle.contraction.proofs.Worked.{worked-snoc}
-use Rattle.tree_tokens.specs.Tokens.{recs, recAt}
+use Rattle.contraction.proofs.Steps.{recs-next}
+use Rattle.contraction.specs.Steps.{recs, recAt}
 use Rattle.tree_height.specs.Steps.{Low}
 
 -- ---- a step to a node
@@ -52,15 +53,15 @@ last-snoc [] x = refl
 last-snoc (y ∷ []) x = refl
 last-snoc (y ∷ z ∷ ys) x = last-snoc (z ∷ ys) x
 
-module _ (ks fs ss paths : List ℕ) (i v : ℕ) (so-far : take i paths ≡ worked path [] (recs ks fs ss i))
+module _ (ks fs ss paths : List ℕ) (i v : ℕ) (so-far : take i paths ≡ worked path [] (recs ks fs ss 0 i))
     (is : v ≡ path (take i paths) (recAt ks fs ss i)) (h : i < length paths) where
-  worked-more : worked path [] (recs ks fs ss (i + 1)) ≡ take i paths ++ (v ∷ [])
-  worked-more = rw (add-one) (worked-snoc path (recs ks fs ss i) (recAt ks fs ss i) [] ∙ rw (← so-far, ← is))
+  worked-more : worked path [] (recs ks fs ss 0 (i + 1)) ≡ take i paths ++ (v ∷ [])
+  worked-more = ap (worked path []) (recs-next ks fs ss i) ∙ worked-snoc path (recs ks fs ss 0 i) (recAt ks fs ss i) [] ∙ rw (← so-far, ← is)
 
-  pub paths-more : take (i + 1) (set paths i v) ≡ worked path [] (recs ks fs ss (i + 1))
+  pub paths-more : take (i + 1) (set paths i v) ≡ worked path [] (recs ks fs ss 0 (i + 1))
   paths-more = rw (add-one) (take-suc-set paths i v h) ∙ sym worked-more
 
-  pub last-more : v ≡ height (recs ks fs ss (i + 1))
+  pub last-more : v ≡ height (recs ks fs ss 0 (i + 1))
   last-more = sym (ap last worked-more ∙ last-snoc (take i paths) v)
 
 pub low-more : (paths : List ℕ) (i v : ℕ) → Low i paths → v ≤ i + 1 → i < length paths → Low (i + 1) (set paths i v)

@@ -3,7 +3,8 @@ ghost use mathlib.Core.Path.{_≡_};
 ghost use Prim.Native.Nat.{_+_, _≤_, _<_, max};
 ghost use lib.ListN.{length, getD, take};
 ghost use Rattle.contraction.specs.Height.{height as heightOf, path as pathOf};
-ghost use Rattle.tree_tokens.specs.Tokens.{recs, Shelves};
+ghost use Rattle.contraction.specs.Steps.{recs};
+ghost use Rattle.tree_tokens.specs.Tokens.{Shelves};
 ghost use Rattle.tree_height.specs.Steps.{Low};
 
 fn larger(a: u16, b: u16) -> u16
@@ -47,7 +48,7 @@ fn path(paths: &[u16; 3072], i: usize, kind: u16, first: u16, second: u16) -> u1
 // The height of the tree of the first n records: the longest path from the last of them.
 pub fn height(kinds: &[u16; 3072], firsts: &[u16; 3072], seconds: &[u16; 3072], n: usize) -> u16
     requires { ⌜ Shelves (now kinds) (now firsts) (now seconds) × (n ≤ 3072) ⌝ }
-    ensures { λ r. ⌜ r ≡ heightOf (recs (now (kinds .entry)) (now (firsts .entry)) (now (seconds .entry)) n) ⌝ }
+    ensures { λ r. ⌜ r ≡ heightOf (recs (now (kinds .entry)) (now (firsts .entry)) (now (seconds .entry)) 0 n) ⌝ }
 {
     let mut paths = [0u16; 3072];
     let mut last: u16 = 0;

@@ -7,10 +7,11 @@ use mathlib.Core.List.{List, [], _∷_, _++_, foldl, foldl-append}
 use lib.ListN.{length, getD, set}
 use lib.Seq.{getD-set-same, getD-set-other}
 use Rattle.contraction.specs.Records.{Rec}
-use Rattle.tree_tokens.specs.Tokens.{decode, present, toks, recs}
+use Rattle.contraction.specs.Steps.{recs}
+use Rattle.tree_tokens.specs.Tokens.{decode, present, toks}
 use Rattle.tree_tokens.proofs.TokensLaws.{toks-next, decode-bare, decode-single, decode-double, decode-new, present-none, present-some}
-use Rattle.tree_rake.specs.Steps.{State, kept, makes, act, operands, view}
-use Rattle.tree_rake.specs.declared.Marks.{Marks}
+use Rattle.tree_rake.specs.Steps.{Raking, kept, makes, rakeToken, operands, rakingIn}
+use Rattle.tree_rake.specs.declared.RakingMarks.{RakingMarks}
 
 -- ---- the stack
 operands-keep : (l : List ℕ) (i v n : ℕ) → n ≤ i → operands (set l i v) n ≡ operands l n
@@ -27,61 +28,61 @@ operands-pop2 : (l : List ℕ) (n : ℕ) → 2 ≤ n → operands l n ≡ presen
 operands-pop2 l n z = let e : n - 1 - 1 ≡ n - 2 = omega arith in operands-pop l n (omega arith) ∙ rw (operands-pop l (n - 1) (omega arith), e)
 
 -- ---- a token out, and a record besides
-pub view-keep : (out out′ st : List ℕ) (m : Marks) (t : ℕ) → toks out′ (m .at + 1) ≡ toks out (m .at) ++ (decode t ∷ []) → m .top < length st
-    → (ks fs ss : List ℕ) → view out′ (set st (m .top) 65535) ks fs ss (record { top = m .top + 1; at = m .at + 1; next = m .next }) ≡ kept (decode t) (view out st ks fs ss m)
+pub view-keep : (out out′ st : List ℕ) (m : RakingMarks) (t : ℕ) → toks out′ (m .at + 1) ≡ toks out (m .at) ++ (decode t ∷ []) → m .top < length st
+    → (ks fs ss : List ℕ) → rakingIn out′ (set st (m .top) 65535) ks fs ss (record { top = m .top + 1; at = m .at + 1; next = m .next }) ≡ kept (decode t) (rakingIn out st ks fs ss m)
 view-keep out out′ st m t e h ks fs ss = rw (e, operands-push st (m .top) 65535 h)
 
-pub view-make : {σ : State} (out st ks fs ss ks′ fs′ ss′ : List ℕ) (m : Marks) (t : ℕ) (r : Rec) → recs ks′ fs′ ss′ (m .next + 1) ≡ recs ks fs ss (m .next) ++ (r ∷ [])
-    → σ ≡ kept (decode t) (view out st ks′ fs′ ss′ (record { top = m .top; at = m .at; next = m .next + 1 })) → σ ≡ makes r (decode t) (view out st ks fs ss m)
+pub view-make : {σ : Raking} (out st ks fs ss ks′ fs′ ss′ : List ℕ) (m : RakingMarks) (t : ℕ) (r : Rec) → recs ks′ fs′ ss′ 0 (m .next + 1) ≡ recs ks fs ss 0 (m .next) ++ (r ∷ [])
+    → σ ≡ kept (decode t) (rakingIn out st ks′ fs′ ss′ (record { top = m .top; at = m .at; next = m .next + 1 })) → σ ≡ makes r (decode t) (rakingIn out st ks fs ss m)
 view-make out st ks fs ss ks′ fs′ ss′ m t r e q = q ∙ rw e
 
 -- ---- a step, by what stands on the stack. r is what a callee left, as its contract says it
-two-none-at : (σ : State) (st : List ℕ) (n t : ℕ) → σ .stack ≡ operands st n → n < 2 → 65520 ≤ t → σ ≡ act σ (decode t)
+two-none-at : (σ : Raking) (st : List ℕ) (n t : ℕ) → σ .stack ≡ operands st n → n < 2 → 0xFFF0 ≤ t → σ ≡ rakeToken σ (decode t)
 two-none-at σ st zero t e z h = rw (decode-double t h, e)
 two-none-at σ st (suc zero) t e z h = rw (decode-double t h, e)
 two-none-at σ st (suc (suc n)) t e z h = absurd (omega arith)
 
-module _ (out st ks fs ss : List ℕ) (m : Marks) (t : ℕ) where
-  abbrev σ : State
-  σ = view out st ks fs ss m
+module _ (out st ks fs ss : List ℕ) (m : RakingMarks) (t : ℕ) where
+  abbrev σ : Raking
+  σ = rakingIn out st ks fs ss m
 
   -- with the last k operands taken
-  abbrev less : ℕ → State
-  less k = view out st ks fs ss (record { top = m .top - k; at = m .at; next = m .next })
+  abbrev less : ℕ → Raking
+  less k = rakingIn out st ks fs ss (record { top = m .top - k; at = m .at; next = m .next })
 
-  pub one-none : m .top < 1 → 4096 ≤ t → t < 65520 → σ ≡ act σ (decode t)
+  pub one-none : m .top < 1 → 4096 ≤ t → t < 0xFFF0 → σ ≡ rakeToken σ (decode t)
   one-none z h l = let n0 : m .top ≡ 0 = omega arith in rw (decode-single t h l, n0)
 
-  module _ {r : State} (h : 4096 ≤ t) (l : t < 65520) (z : 1 ≤ m .top) where
-    pub one-kept : getD st (m .top - 1) 0 ≡ 65535 → r ≡ kept (decode t) (less 1) → r ≡ act σ (decode t)
+  module _ {r : Raking} (h : 4096 ≤ t) (l : t < 0xFFF0) (z : 1 ≤ m .top) where
+    pub one-kept : getD st (m .top - 1) 0 ≡ 65535 → r ≡ kept (decode t) (less 1) → r ≡ rakeToken σ (decode t)
     one-kept v e = e ∙ rw (decode-single t h l, operands-pop st (m .top) z, present-none _ v)
 
     pub one-raked : (getD st (m .top - 1) 0 ≡ 65535 → ⊥) → m .next < 3072
-        → r ≡ makes (record { kind = 13; first = t - 4096; second = getD st (m .top - 1) 0 }) (decode (m .next)) (less 1) → r ≡ act σ (decode t)
+        → r ≡ makes (record { kind = 13; first = t - 4096; second = getD st (m .top - 1) 0 }) (decode (m .next)) (less 1) → r ≡ rakeToken σ (decode t)
     one-raked v b e = e ∙ rw (decode-single t h l, operands-pop st (m .top) z, present-some _ v, decode-bare (m .next) (omega arith))
 
-  pub two-none : m .top < 2 → 65520 ≤ t → σ ≡ act σ (decode t)
+  pub two-none : m .top < 2 → 0xFFF0 ≤ t → σ ≡ rakeToken σ (decode t)
   two-none z h = two-none-at σ st (m .top) t refl z h
 
-  module _ {r : State} (h : 65520 ≤ t) (z : 2 ≤ m .top) where
-    pub two-kept : getD st (m .top - 1) 0 ≡ 65535 → getD st (m .top - 2) 0 ≡ 65535 → r ≡ kept (decode t) (less 2) → r ≡ act σ (decode t)
+  module _ {r : Raking} (h : 0xFFF0 ≤ t) (z : 2 ≤ m .top) where
+    pub two-kept : getD st (m .top - 1) 0 ≡ 65535 → getD st (m .top - 2) 0 ≡ 65535 → r ≡ kept (decode t) (less 2) → r ≡ rakeToken σ (decode t)
     two-kept y x e = e ∙ rw (decode-double t h, operands-pop2 st (m .top) z, present-none _ y, present-none _ x)
 
     pub two-right : (getD st (m .top - 1) 0 ≡ 65535 → ⊥) → getD st (m .top - 2) 0 ≡ 65535 → m .next < 3072
-        → r ≡ makes (record { kind = 9 + (t - 65520); first = getD st (m .top - 1) 0; second = 65535 }) (decode (4096 + m .next)) (less 2) → r ≡ act σ (decode t)
+        → r ≡ makes (record { kind = 9 + (t - 0xFFF0); first = getD st (m .top - 1) 0; second = 65535 }) (decode (4096 + m .next)) (less 2) → r ≡ rakeToken σ (decode t)
     two-right y x b e = e ∙ rw (decode-double t h, operands-pop2 st (m .top) z, present-some _ y, present-none _ x, decode-new (m .next) b)
 
     pub two-left : getD st (m .top - 1) 0 ≡ 65535 → (getD st (m .top - 2) 0 ≡ 65535 → ⊥) → m .next < 3072
-        → r ≡ makes (record { kind = 5 + (t - 65520); first = getD st (m .top - 2) 0; second = 65535 }) (decode (4096 + m .next)) (less 2) → r ≡ act σ (decode t)
+        → r ≡ makes (record { kind = 5 + (t - 0xFFF0); first = getD st (m .top - 2) 0; second = 65535 }) (decode (4096 + m .next)) (less 2) → r ≡ rakeToken σ (decode t)
     two-left y x b e = e ∙ rw (decode-double t h, operands-pop2 st (m .top) z, present-none _ y, present-some _ x, decode-new (m .next) b)
 
     pub two-both : (getD st (m .top - 1) 0 ≡ 65535 → ⊥) → (getD st (m .top - 2) 0 ≡ 65535 → ⊥) → m .next < 3072
-        → r ≡ makes (record { kind = 1 + (t - 65520); first = getD st (m .top - 2) 0; second = getD st (m .top - 1) 0 }) (decode (m .next)) (less 2) → r ≡ act σ (decode t)
+        → r ≡ makes (record { kind = 1 + (t - 0xFFF0); first = getD st (m .top - 2) 0; second = getD st (m .top - 1) 0 }) (decode (m .next)) (less 2) → r ≡ rakeToken σ (decode t)
     two-both y x b e = e ∙ rw (decode-double t h, operands-pop2 st (m .top) z, present-some _ y, present-some _ x, decode-bare (m .next) (omega arith))
 
-  pub bare-step : m .top < length st → t < 4096 → view out (set st (m .top) t) ks fs ss (record { top = m .top + 1; at = m .at; next = m .next }) ≡ act σ (decode t)
+  pub bare-step : m .top < length st → t < 4096 → rakingIn out (set st (m .top) t) ks fs ss (record { top = m .top + 1; at = m .at; next = m .next }) ≡ rakeToken σ (decode t)
   bare-step b h = rw (operands-push st (m .top) t b, decode-bare t h, present-some t (λ q. omega arith))
 
 -- ---- the loop: σ is the state after i tokens, and r one step on
-pub run-next : (σ₀ : State) (l : List ℕ) (i : ℕ) {σ r : State} → r ≡ act σ (decode (getD l i 0)) → σ ≡ foldl act σ₀ (toks l i) → i < length l → r ≡ foldl act σ₀ (toks l (i + 1))
-run-next σ₀ l i q e h = q ∙ ap (λ (s : State). act s (decode (getD l i 0))) e ∙ rw (toks-next l i h) (sym (foldl-append act σ₀ (toks l i) (decode (getD l i 0) ∷ [])))
+pub run-next : (σ₀ : Raking) (l : List ℕ) (i : ℕ) {σ r : Raking} → r ≡ rakeToken σ (decode (getD l i 0)) → σ ≡ foldl rakeToken σ₀ (toks l i) → i < length l → r ≡ foldl rakeToken σ₀ (toks l (i + 1))
+run-next σ₀ l i q e h = q ∙ ap (λ (s : Raking). rakeToken s (decode (getD l i 0))) e ∙ rw (toks-next l i h) (sym (foldl-append rakeToken σ₀ (toks l i) (decode (getD l i 0) ∷ [])))

@@ -11,7 +11,7 @@ use Rattle.formula.specs.Formula.{Op, index}
 use Rattle.contraction.specs.Records.{Rec}
 use Rattle.contraction.specs.Rounds.{Work, tip, one, two, tipOf, oneRemains, rakeOne, rakeTwo, rakes, leftOne, leftTwo, raked}
 use Rattle.tree_tokens.specs.Tokens.{Token, bare, single, double, flat}
-use Rattle.tree_rake.specs.Steps.{State, onOne, onTwo, act}
+use Rattle.tree_rake.specs.Steps.{Raking, onSingle, onDouble, rakeToken}
 
 -- what rake leaves of a node, by what its children were
 abbrev leftSingle : ℕ → Option ℕ → ℕ → Token
@@ -48,47 +48,47 @@ two-written o (two e c d) (one f g) n k m = refl
 two-written o (two e c d) (two h f g) n k m = refl
 
 -- a step at a node puts a token out and makes the node's records
-abbrev settled : Token → List Rec → List (Option ℕ) → State → State
+abbrev settled : Token → List Rec → List (Option ℕ) → Raking → Raking
 settled t rs st σ = record { stack = none ∷ st; out = σ .out ++ (t ∷ []); made = σ .made ++ rs; next = σ .next + length rs }
 
-onOne-settled : (d : ℕ) (a : Option ℕ) (st : List (Option ℕ)) (σ : State) → onOne d σ (a ∷ st) ≡ settled (leftSingle d a (σ .next)) (rakeOne d a) st σ
-onOne-settled d (some v) st σ = refl
-onOne-settled d none st σ = rw (append-nil (σ .made), add-zero (σ .next))
+onSingle-settled : (d : ℕ) (a : Option ℕ) (st : List (Option ℕ)) (σ : Raking) → onSingle d σ (a ∷ st) ≡ settled (leftSingle d a (σ .next)) (rakeOne d a) st σ
+onSingle-settled d (some v) st σ = refl
+onSingle-settled d none st σ = rw (append-nil (σ .made), add-zero (σ .next))
 
-onTwo-settled : (o : Op) (a b : Option ℕ) (st : List (Option ℕ)) (σ : State)
-    → onTwo (index o) σ (b ∷ a ∷ st) ≡ settled (leftDouble (index o) a b (σ .next)) (rakeTwo o a b) st σ
-onTwo-settled o (some a) (some b) st σ = refl
-onTwo-settled o (some a) none st σ = refl
-onTwo-settled o none (some b) st σ = refl
-onTwo-settled o none none st σ = rw (append-nil (σ .made), add-zero (σ .next))
+onDouble-settled : (o : Op) (a b : Option ℕ) (st : List (Option ℕ)) (σ : Raking)
+    → onDouble (index o) σ (b ∷ a ∷ st) ≡ settled (leftDouble (index o) a b (σ .next)) (rakeTwo o a b) st σ
+onDouble-settled o (some a) (some b) st σ = refl
+onDouble-settled o (some a) none st σ = refl
+onDouble-settled o none (some b) st σ = refl
+onDouble-settled o none none st σ = rw (append-nil (σ .made), add-zero (σ .next))
 
 -- a tree is done
-abbrev done : Work → State → State
+abbrev done : Work → Raking → Raking
 done w σ = record { stack = tipOf w ∷ σ .stack; out = σ .out ++ written w (σ .next); made = σ .made ++ rakes w; next = σ .next + length (rakes w) }
 
 same : (s : List (Option ℕ)) {a b : List Token} {c d : List Rec} {n m : ℕ} → a ≡ b → c ≡ d → n ≡ m
-    → _≡_ {A = State} (record { stack = s; out = a; made = c; next = n }) (record { stack = s; out = b; made = d; next = m })
+    → _≡_ {A = Raking} (record { stack = s; out = a; made = c; next = n }) (record { stack = s; out = b; made = d; next = m })
 same s p q e = rw (p, q, e)
 
-one-done : (d : ℕ) (c : Work) (σ : State) → onOne d (done c σ) (tipOf c ∷ σ .stack) ≡ done (one d c) σ
+one-done : (d : ℕ) (c : Work) (σ : Raking) → onSingle d (done c σ) (tipOf c ∷ σ .stack) ≡ done (one d c) σ
 one-done d c σ =
     let n = σ .next in
-    onOne-settled d (tipOf c) (σ .stack) (done c σ)
+    onSingle-settled d (tipOf c) (σ .stack) (done c σ)
     ∙ same _ (append-assoc (σ .out) (written c n) _ ∙ ap (λ z. σ .out ++ z) (sym (one-written d c n _))) (append-assoc (σ .made) (rakes c) _)
     (omega (arith, length-append (rakes c) (rakeOne d (tipOf c))))
 
-two-done : (o : Op) (l r : Work) (σ : State) → onTwo (index o) (done r (done l σ)) (tipOf r ∷ tipOf l ∷ σ .stack) ≡ done (two o l r) σ
+two-done : (o : Op) (l r : Work) (σ : Raking) → onDouble (index o) (done r (done l σ)) (tipOf r ∷ tipOf l ∷ σ .stack) ≡ done (two o l r) σ
 two-done o l r σ =
     let n = σ .next in
     let k = n + length (rakes l) in
     let t = rakeTwo o (tipOf l) (tipOf r) in
-    onTwo-settled o (tipOf l) (tipOf r) (σ .stack) (done r (done l σ))
+    onDouble-settled o (tipOf l) (tipOf r) (σ .stack) (done r (done l σ))
     ∙ same _
     (append-assoc (σ .out ++ written l n) (written r k) _ ∙ append-assoc (σ .out) (written l n) _ ∙ ap (λ z. σ .out ++ z) (sym (two-written o l r n k _)))
     (append-assoc (σ .made ++ rakes l) (rakes r) t ∙ append-assoc (σ .made) (rakes l) (rakes r ++ t))
     (omega (arith, length-append (rakes l) (rakes r ++ t), length-append (rakes r) t))
 
-run-tree : (w : Work) (σ : State) → foldl act σ (flat w) ≡ done w σ
+run-tree : (w : Work) (σ : Raking) → foldl rakeToken σ (flat w) ≡ done w σ
 run-tree (tip d) σ = rw (append-nil (σ .out), append-nil (σ .made), add-zero (σ .next))
 run-tree (one d c) σ = rw (foldl-append, run-tree c σ) (one-done d c σ)
 run-tree (two o l r) σ = rw (foldl-append, foldl-append, run-tree l σ, run-tree r) (two-done o l r σ)
@@ -99,13 +99,13 @@ whole (tip d) n e = let z : _≡_ {A = ℕ} 0 1 = cc in absurd (omega arith)
 whole (one d c) n e = refl
 whole (two o l r) n e = refl
 
-module _ (w : Work) (rs : List Rec) (n : ℕ) (many : oneRemains w ≡ false) {ts : List Token} {σ : State} (e : ts ≡ flat w)
-    (ran : σ ≡ foldl act (record { stack = []; out = []; made = rs; next = n }) ts) where
+module _ (w : Work) (rs : List Rec) (n : ℕ) (many : oneRemains w ≡ false) {ts : List Token} {σ : Raking} (e : ts ≡ flat w)
+    (ran : σ ≡ foldl rakeToken (record { stack = []; out = []; made = rs; next = n }) ts) where
   ran-done : σ ≡ done w (record { stack = []; out = []; made = rs; next = n })
   ran-done = (rw e at ran) ∙ run-tree w _
 
   pub raked-tree : σ .out ≡ flat (raked w n)
-  raked-tree = ap (λ (s : State). s .out) ran-done ∙ whole w n many
+  raked-tree = ap (λ (s : Raking). s .out) ran-done ∙ whole w n many
 
   pub raked-records : σ .made ≡ rs ++ rakes w
-  raked-records = ap (λ (s : State). s .made) ran-done
+  raked-records = ap (λ (s : Raking). s .made) ran-done

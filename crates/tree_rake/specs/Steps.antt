@@ -5,45 +5,46 @@ use mathlib.Core.List.{List, [], _∷_, _++_}
 use mathlib.Core.Option.{Option, none, some}
 use lib.ListN.{length, getD}
 use Rattle.contraction.specs.Records.{Rec, absent, S-rec}
-use Rattle.tree_tokens.specs.Tokens.{Token, bare, single, double, present, toks, recs, Sized}
-use Rattle.tree_rake.specs.declared.Marks.{Marks}
+use Rattle.contraction.specs.Steps.{recs}
+use Rattle.tree_tokens.specs.Tokens.{Token, bare, single, double, present, toks, Sized}
+use Rattle.tree_rake.specs.declared.RakingMarks.{RakingMarks}
 
 -- The operands that wait, the last one first: a leaf as the round found it, with its dwarf root, is raked, and was not put out;
 -- of a larger tree the tokens are out, and none stands here. Then the tokens out, the records made, and the next number.
-pub record State : Type 0 where
+pub record Raking : Type 0 where
   pub stack : List (Option ℕ)
   pub out : List Token
   pub made : List Rec
   pub next : ℕ
 
-abbrev pub withStack : List (Option ℕ) → State → State
+abbrev pub withStack : List (Option ℕ) → Raking → Raking
 withStack st σ = record { stack = st; out = σ .out; made = σ .made; next = σ .next }
 
 -- A token goes out, and a larger tree waits.
-abbrev pub kept : Token → State → State
+abbrev pub kept : Token → Raking → Raking
 kept t σ = record { stack = none ∷ σ .stack; out = σ .out ++ (t ∷ []); made = σ .made; next = σ .next }
 
 -- A record is made besides.
-abbrev pub makes : Rec → Token → State → State
+abbrev pub makes : Rec → Token → Raking → Raking
 makes r t σ = record { stack = none ∷ σ .stack; out = σ .out ++ (t ∷ []); made = σ .made ++ (r ∷ []); next = σ .next + 1 }
 
-abbrev pub onOne : ℕ → State → List (Option ℕ) → State
-onOne d σ [] = σ
-onOne d σ (some v ∷ st) = makes (S-rec d v) (bare (σ .next)) (withStack st σ)
-onOne d σ (none ∷ st) = kept (single d) (withStack st σ)
+abbrev pub onSingle : ℕ → Raking → List (Option ℕ) → Raking
+onSingle d σ [] = σ
+onSingle d σ (some v ∷ st) = makes (S-rec d v) (bare (σ .next)) (withStack st σ)
+onSingle d σ (none ∷ st) = kept (single d) (withStack st σ)
 
-abbrev pub onTwo : ℕ → State → List (Option ℕ) → State
-onTwo o σ [] = σ
-onTwo o σ (b ∷ []) = σ
-onTwo o σ (some b ∷ some a ∷ st) = makes (record { kind = 1 + o; first = a; second = b }) (bare (σ .next)) (withStack st σ)
-onTwo o σ (none ∷ some a ∷ st) = makes (record { kind = 5 + o; first = a; second = absent }) (single (σ .next)) (withStack st σ)
-onTwo o σ (some b ∷ none ∷ st) = makes (record { kind = 9 + o; first = b; second = absent }) (single (σ .next)) (withStack st σ)
-onTwo o σ (none ∷ none ∷ st) = kept (double o) (withStack st σ)
+abbrev pub onDouble : ℕ → Raking → List (Option ℕ) → Raking
+onDouble o σ [] = σ
+onDouble o σ (b ∷ []) = σ
+onDouble o σ (some b ∷ some a ∷ st) = makes (record { kind = 1 + o; first = a; second = b }) (bare (σ .next)) (withStack st σ)
+onDouble o σ (none ∷ some a ∷ st) = makes (record { kind = 5 + o; first = a; second = absent }) (single (σ .next)) (withStack st σ)
+onDouble o σ (some b ∷ none ∷ st) = makes (record { kind = 9 + o; first = b; second = absent }) (single (σ .next)) (withStack st σ)
+onDouble o σ (none ∷ none ∷ st) = kept (double o) (withStack st σ)
 
-abbrev pub act : State → Token → State
-act σ (bare d) = withStack (some d ∷ σ .stack) σ
-act σ (single d) = onOne d σ (σ .stack)
-act σ (double o) = onTwo o σ (σ .stack)
+abbrev pub rakeToken : Raking → Token → Raking
+rakeToken σ (bare d) = withStack (some d ∷ σ .stack) σ
+rakeToken σ (single d) = onSingle d σ (σ .stack)
+rakeToken σ (double o) = onDouble o σ (σ .stack)
 
 -- ---- What the arrays hold of it
 
@@ -52,13 +53,13 @@ abbrev pub operands : List ℕ → ℕ → List (Option ℕ)
 operands l zero = []
 operands l (suc n) = present (getD l n 0) ∷ operands l n
 
-abbrev pub view : List ℕ → List ℕ → List ℕ → List ℕ → List ℕ → Marks → State
-view out st ks fs ss m =
-    record { stack = operands st (m .top); out = toks out (m .at); made = recs ks fs ss (m .next); next = m .next }
+abbrev pub rakingIn : List ℕ → List ℕ → List ℕ → List ℕ → List ℕ → RakingMarks → Raking
+rakingIn out st ks fs ss m =
+    record { stack = operands st (m .top); out = toks out (m .at); made = recs ks fs ss 0 (m .next); next = m .next }
 
 -- Where a pass begins: nothing waits and nothing is out.
-abbrev pub start : List ℕ → List ℕ → List ℕ → ℕ → State
-start ks fs ss next = record { stack = []; out = []; made = recs ks fs ss next; next = next }
+abbrev pub rakingStart : List ℕ → List ℕ → List ℕ → ℕ → Raking
+rakingStart ks fs ss next = record { stack = []; out = []; made = recs ks fs ss 0 next; next = next }
 
 -- All arrays have their full length.
 pub record Lengths (out st ks fs ss : List ℕ) : Type 0 where
@@ -66,13 +67,13 @@ pub record Lengths (out st ks fs ss : List ℕ) : Type 0 where
   pub sized : Sized out ks fs ss
 
 -- There is room for one token more.
-pub record Room (m : Marks) : Type 0 where
+pub record RakingRoom (m : RakingMarks) : Type 0 where
   pub top : m .top < 2048
   pub at : m .at < 2048
   pub next : m .next < 3072
 
 -- A step's answer: the state that is due, and each mark at most one further.
-pub record Stepped (due σ : State) (m r : Marks) : Type 0 where
+pub record RakingStep (due σ : Raking) (m r : RakingMarks) : Type 0 where
   pub is : σ ≡ due
   pub top : r .top ≤ m .top + 1
   pub at : r .at ≤ m .at + 1

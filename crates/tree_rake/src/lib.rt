@@ -1,33 +1,34 @@
 // Rake: takes every leaf of a tree away, judged as the round found it, in one pass over its tokens.
-use tree_tokens::Filled;
+use tree_tokens::Extent;
 ghost use mathlib.Core.Path.{_≡_};
 ghost use mathlib.Core.Bool.{false};
 ghost use mathlib.Core.List.{List};
 ghost use Prim.Native.Nat.{ℕ, _+_, _≤_, _<_};
 ghost use lib.ListN.{length};
 ghost use Rattle.contraction.specs.Rounds.{Work, oneRemains, rakes, raked};
-ghost use Rattle.tree_tokens.specs.Tokens.{decode, flat, toks, recs, Leaves};
-ghost use Rattle.tree_rake.specs.Steps.{kept, makes, act, view, Lengths, Room, Stepped};
+ghost use Rattle.contraction.specs.Steps.{recs};
+ghost use Rattle.tree_tokens.specs.Tokens.{decode, flat, toks, Leaves};
+ghost use Rattle.tree_rake.specs.Steps.{kept, makes, rakeToken, rakingIn, Lengths, RakingRoom, RakingStep};
 
 // How far the stack, the tokens out and the records are filled.
-struct Marks {
+struct RakingMarks {
     top: usize,
     at: usize,
     next: u16,
 }
 
 // Puts a token out; its tree waits, and this step does not rake it.
-fn keep(t: u16, out: &mut [u16; 2048], st: &mut [u16; 2048], m: Marks) -> Marks
+fn keep(t: u16, out: &mut [u16; 2048], st: &mut [u16; 2048], m: RakingMarks) -> RakingMarks
     requires { ⌜ (length (now out) ≡ 2048) × (length (now st) ≡ 2048) × (m .top < 2048) × (m .at < 2048) ⌝ }
     ensures { λ _. ⌜ (length (now (out .exit)) ≡ 2048) × (length (now (st .exit)) ≡ 2048) ⌝ }
-    ensures { λ r. ⌜ ((ks fs ss : List ℕ) → view (now (out .exit)) (now (st .exit)) ks fs ss r ≡ kept (decode t) (view (now (out .entry)) (now (st .entry)) ks fs ss m)) ⌝ }
+    ensures { λ r. ⌜ ((ks fs ss : List ℕ) → rakingIn (now (out .exit)) (now (st .exit)) ks fs ss r ≡ kept (decode t) (rakingIn (now (out .entry)) (now (st .entry)) ks fs ss m)) ⌝ }
     ensures { λ r. ⌜ (r .top ≡ m .top + 1) × (r .at ≡ m .at + 1) × (r .next ≡ m .next) ⌝ }
 {
     let top = m.top;
     let at = m.at;
     tree_tokens::put_token(t, out, at);
     st[top] = 65535;
-    Marks {
+    RakingMarks {
         top: top + 1,
         at: at + 1,
         next: m.next,
@@ -45,18 +46,18 @@ fn make(
     kinds: &mut [u16; 3072],
     firsts: &mut [u16; 3072],
     seconds: &mut [u16; 3072],
-    m: Marks,
-) -> Marks
+    m: RakingMarks,
+) -> RakingMarks
     requires { ⌜ Lengths (now out) (now st) (now kinds) (now firsts) (now seconds) ⌝ }
-    requires { ⌜ Room m ⌝ }
+    requires { ⌜ RakingRoom m ⌝ }
     ensures { λ _. ⌜ Lengths (now (out .exit)) (now (st .exit)) (now (kinds .exit)) (now (firsts .exit)) (now (seconds .exit)) ⌝ }
-    ensures { λ r. ⌜ view (now (out .exit)) (now (st .exit)) (now (kinds .exit)) (now (firsts .exit)) (now (seconds .exit)) r
-        ≡ makes (record { kind = kind; first = first; second = second }) (decode t) (view (now (out .entry)) (now (st .entry)) (now (kinds .entry)) (now (firsts .entry)) (now (seconds .entry)) m) ⌝ }
+    ensures { λ r. ⌜ rakingIn (now (out .exit)) (now (st .exit)) (now (kinds .exit)) (now (firsts .exit)) (now (seconds .exit)) r
+        ≡ makes (record { kind = kind; first = first; second = second }) (decode t) (rakingIn (now (out .entry)) (now (st .entry)) (now (kinds .entry)) (now (firsts .entry)) (now (seconds .entry)) m) ⌝ }
     ensures { λ r. ⌜ (r .top ≡ m .top + 1) × (r .at ≡ m .at + 1) × (r .next ≡ m .next + 1) ⌝ }
 {
     let next = m.next;
     tree_tokens::put_record(kind, first, second, kinds, firsts, seconds, next);
-    let more = Marks {
+    let more = RakingMarks {
         top: m.top,
         at: m.at,
         next: next + 1,
@@ -72,20 +73,20 @@ fn rake_one(
     kinds: &mut [u16; 3072],
     firsts: &mut [u16; 3072],
     seconds: &mut [u16; 3072],
-    m: Marks,
-) -> Marks
+    m: RakingMarks,
+) -> RakingMarks
     requires { ⌜ Lengths (now out) (now st) (now kinds) (now firsts) (now seconds) ⌝ }
-    requires { ⌜ Room m ⌝ }
-    requires { ⌜ (4096 ≤ t) × (t < 65520) ⌝ }
+    requires { ⌜ RakingRoom m ⌝ }
+    requires { ⌜ (4096 ≤ t) × (t < 0xFFF0) ⌝ }
     ensures { λ _. ⌜ Lengths (now (out .exit)) (now (st .exit)) (now (kinds .exit)) (now (firsts .exit)) (now (seconds .exit)) ⌝ }
-    ensures { λ r. ⌜ Stepped (act (view (now (out .entry)) (now (st .entry)) (now (kinds .entry)) (now (firsts .entry)) (now (seconds .entry)) m) (decode t))
-        (view (now (out .exit)) (now (st .exit)) (now (kinds .exit)) (now (firsts .exit)) (now (seconds .exit)) r) m r ⌝ }
+    ensures { λ r. ⌜ RakingStep (rakeToken (rakingIn (now (out .entry)) (now (st .entry)) (now (kinds .entry)) (now (firsts .entry)) (now (seconds .entry)) m) (decode t))
+        (rakingIn (now (out .exit)) (now (st .exit)) (now (kinds .exit)) (now (firsts .exit)) (now (seconds .exit)) r) m r ⌝ }
 {
     let top = m.top;
     if top < 1 {
         return m;
     }
-    let low = Marks {
+    let low = RakingMarks {
         top: top - 1,
         at: m.at,
         next: m.next,
@@ -108,27 +109,27 @@ fn rake_two(
     kinds: &mut [u16; 3072],
     firsts: &mut [u16; 3072],
     seconds: &mut [u16; 3072],
-    m: Marks,
-) -> Marks
+    m: RakingMarks,
+) -> RakingMarks
     requires { ⌜ Lengths (now out) (now st) (now kinds) (now firsts) (now seconds) ⌝ }
-    requires { ⌜ Room m ⌝ }
-    requires { ⌜ 65520 ≤ t ⌝ }
+    requires { ⌜ RakingRoom m ⌝ }
+    requires { ⌜ 0xFFF0 ≤ t ⌝ }
     ensures { λ _. ⌜ Lengths (now (out .exit)) (now (st .exit)) (now (kinds .exit)) (now (firsts .exit)) (now (seconds .exit)) ⌝ }
-    ensures { λ r. ⌜ Stepped (act (view (now (out .entry)) (now (st .entry)) (now (kinds .entry)) (now (firsts .entry)) (now (seconds .entry)) m) (decode t))
-        (view (now (out .exit)) (now (st .exit)) (now (kinds .exit)) (now (firsts .exit)) (now (seconds .exit)) r) m r ⌝ }
+    ensures { λ r. ⌜ RakingStep (rakeToken (rakingIn (now (out .entry)) (now (st .entry)) (now (kinds .entry)) (now (firsts .entry)) (now (seconds .entry)) m) (decode t))
+        (rakingIn (now (out .exit)) (now (st .exit)) (now (kinds .exit)) (now (firsts .exit)) (now (seconds .exit)) r) m r ⌝ }
 {
     let top = m.top;
     if top < 2 {
         return m;
     }
-    let low = Marks {
+    let low = RakingMarks {
         top: top - 2,
         at: m.at,
         next: m.next,
     };
     let b = st[top - 1];
     let a = st[top - 2];
-    let o = t - 65520;
+    let o = t - 0xFFF0;
     let leaf = m.next;
     let one = 4096 + m.next;
     if a == 65535 {
@@ -147,31 +148,31 @@ fn rake_two(
 }
 
 // One token.
-fn step(
+fn rake_token(
     t: u16,
     out: &mut [u16; 2048],
     st: &mut [u16; 2048],
     kinds: &mut [u16; 3072],
     firsts: &mut [u16; 3072],
     seconds: &mut [u16; 3072],
-    m: Marks,
-) -> Marks
+    m: RakingMarks,
+) -> RakingMarks
     requires { ⌜ Lengths (now out) (now st) (now kinds) (now firsts) (now seconds) ⌝ }
-    requires { ⌜ Room m ⌝ }
+    requires { ⌜ RakingRoom m ⌝ }
     ensures { λ _. ⌜ Lengths (now (out .exit)) (now (st .exit)) (now (kinds .exit)) (now (firsts .exit)) (now (seconds .exit)) ⌝ }
-    ensures { λ r. ⌜ Stepped (act (view (now (out .entry)) (now (st .entry)) (now (kinds .entry)) (now (firsts .entry)) (now (seconds .entry)) m) (decode t))
-        (view (now (out .exit)) (now (st .exit)) (now (kinds .exit)) (now (firsts .exit)) (now (seconds .exit)) r) m r ⌝ }
+    ensures { λ r. ⌜ RakingStep (rakeToken (rakingIn (now (out .entry)) (now (st .entry)) (now (kinds .entry)) (now (firsts .entry)) (now (seconds .entry)) m) (decode t))
+        (rakingIn (now (out .exit)) (now (st .exit)) (now (kinds .exit)) (now (firsts .exit)) (now (seconds .exit)) r) m r ⌝ }
 {
     if t < 4096 {
         let top = m.top;
         st[top] = t;
-        return Marks {
+        return RakingMarks {
             top: top + 1,
             at: m.at,
             next: m.next,
         };
     }
-    if t < 65520 {
+    if t < 0xFFF0 {
         rake_one(t, out, st, kinds, firsts, seconds, m)
     } else {
         rake_two(t, out, st, kinds, firsts, seconds, m)
@@ -188,16 +189,16 @@ pub fn rake(
     firsts: &mut [u16; 3072],
     seconds: &mut [u16; 3072],
     next: u16,
-) -> Filled
+) -> Extent
     requires { ⌜ Lengths (now out) (now st) (now kinds) (now firsts) (now seconds) ⌝ }
     requires { ⌜ (length (now tokens) ≡ 2048) × (n ≤ 2048) × (next + n ≤ 3072) ⌝ }
     ensures { λ _. ⌜ Lengths (now (out .exit)) (now (st .exit)) (now (kinds .exit)) (now (firsts .exit)) (now (seconds .exit)) ⌝ }
     ensures { λ r. ⌜ r .at ≤ n ⌝ }
     ensures { λ r. ⌜ ((w : Work) → toks (now (tokens .entry)) n ≡ flat w → oneRemains w ≡ false
-        → Leaves (raked w next) (recs (now (kinds .entry)) (now (firsts .entry)) (now (seconds .entry)) next) (rakes w)
+        → Leaves (raked w next) (recs (now (kinds .entry)) (now (firsts .entry)) (now (seconds .entry)) 0 next) (rakes w)
         (now (out .exit)) (now (kinds .exit)) (now (firsts .exit)) (now (seconds .exit)) r) ⌝ }
 {
-    let mut m = Marks {
+    let mut m = RakingMarks {
         top: 0,
         at: 0,
         next,
@@ -205,10 +206,10 @@ pub fn rake(
     let mut i: usize = 0;
     while i < n {
         let t = tokens[i];
-        m = step(t, out, st, kinds, firsts, seconds, m);
+        m = rake_token(t, out, st, kinds, firsts, seconds, m);
         i += 1;
     }
-    Filled {
+    Extent {
         at: m.at,
         next: m.next,
     }

@@ -1,5 +1,6 @@
 -- Laws of what the arrays hold: how many tokens, what a number says, and one token or one record more.
 use Prim.Native.Nat.{ℕ, zero, suc, _+_, _-_, _≤_, _<_}
+use native.Mathlib.Nat.{zero-add}
 use native.Mathlib.Numerals.{add-one}
 use native.Mathlib.Omega.{arith}
 use mathlib.Core.Path.{_≡_, refl, sym, ap, _∙_}
@@ -10,7 +11,9 @@ use lib.ListN.{length, getD, set, take, length-append, length-map}
 use lib.Seq.{take-suc, take-suc-set, length-take-le, getD-set-same, getD-set-other}
 use Rattle.formula.specs.Formula.{index}
 use Rattle.contraction.specs.Rounds.{Work, tip, one, two, nodes}
-use Rattle.tree_tokens.specs.Tokens.{bare, single, double, flat, decode, present, toks, recAt, recs}
+use Rattle.contraction.specs.Steps.{recs}
+use Rattle.contraction.proofs.Steps.{recs-none, recs-last, recs-next}
+use Rattle.tree_tokens.specs.Tokens.{bare, single, double, flat, decode, present, toks}
 
 -- as many tokens as nodes
 pub length-flat : (w : Work) → length (flat w) ≡ nodes w
@@ -23,11 +26,11 @@ length-flat (two o l r) =
 pub decode-bare : (t : ℕ) → t < 4096 → decode t ≡ bare t
 decode-bare t h = rw (lt-ltb t 4096 h)
 
-pub decode-single : (t : ℕ) → 4096 ≤ t → t < 65520 → decode t ≡ single (t - 4096)
-decode-single t h l = rw (le-ltb t 4096 h, lt-ltb t 65520 l)
+pub decode-single : (t : ℕ) → 4096 ≤ t → t < 0xFFF0 → decode t ≡ single (t - 4096)
+decode-single t h l = rw (le-ltb t 4096 h, lt-ltb t 0xFFF0 l)
 
-pub decode-double : (t : ℕ) → 65520 ≤ t → decode t ≡ double (t - 65520)
-decode-double t h = rw (le-ltb t 4096 (omega arith), le-ltb t 65520 h)
+pub decode-double : (t : ℕ) → 0xFFF0 ≤ t → decode t ≡ double (t - 0xFFF0)
+decode-double t h = rw (le-ltb t 4096 (omega arith), le-ltb t 0xFFF0 h)
 
 pub decode-new : (d : ℕ) → d < 3072 → decode (4096 + d) ≡ single d
 decode-new d h = decode-single (4096 + d) (omega arith) (omega arith) ∙ ap single (omega arith)
@@ -52,14 +55,13 @@ pub toks-next : (l : List ℕ) (n : ℕ) → n < length l → toks l (n + 1) ≡
 toks-next l n h = rw (add-one, take-suc l n 0) (map-append decode (take n l) (getD l n 0 ∷ []))
 
 -- the first n records, and one more
-pub length-recs : (ks fs ss : List ℕ) (n : ℕ) → length (recs ks fs ss n) ≡ n
-length-recs ks fs ss zero = refl
-length-recs ks fs ss (suc n) = omega (arith, length-append (recs ks fs ss n) (recAt ks fs ss n ∷ []), length-recs ks fs ss n)
-
-recs-keep : (ks fs ss : List ℕ) (i k f s n : ℕ) → n ≤ i → recs (set ks i k) (set fs i f) (set ss i s) n ≡ recs ks fs ss n
-recs-keep ks fs ss i k f s zero h = refl
+recs-keep : (ks fs ss : List ℕ) (i k f s n : ℕ) → n ≤ i → recs (set ks i k) (set fs i f) (set ss i s) 0 n ≡ recs ks fs ss 0 n
+recs-keep ks fs ss i k f s zero h = recs-none (set ks i k) (set fs i f) (set ss i s) 0 ∙ sym (recs-none ks fs ss 0)
 recs-keep ks fs ss i k f s (suc n) h =
     rw (
+      recs-last (set ks i k) (set fs i f) (set ss i s) n 0,
+      recs-last ks fs ss n 0,
+      zero-add n,
       recs-keep ks fs ss i k f s n (omega arith),
       getD-set-other ks i n k 0 (omega arith),
       getD-set-other fs i n f 0 (omega arith),
@@ -67,6 +69,7 @@ recs-keep ks fs ss i k f s (suc n) h =
     )
 
 pub recs-put : (ks fs ss : List ℕ) (k f s n : ℕ) → n < length ks → n < length fs → n < length ss
-    → recs (set ks n k) (set fs n f) (set ss n s) (n + 1) ≡ recs ks fs ss n ++ (record { kind = k; first = f; second = s } ∷ [])
+    → recs (set ks n k) (set fs n f) (set ss n s) 0 (n + 1) ≡ recs ks fs ss 0 n ++ (record { kind = k; first = f; second = s } ∷ [])
 recs-put ks fs ss k f s n hk hf hs =
-    rw (add-one, recs-keep ks fs ss n k f s n (omega arith), getD-set-same ks n k 0 hk, getD-set-same fs n f 0 hf, getD-set-same ss n s 0 hs)
+    recs-next (set ks n k) (set fs n f) (set ss n s) n
+    ∙ rw (recs-keep ks fs ss n k f s n (omega arith), getD-set-same ks n k 0 hk, getD-set-same fs n f 0 hf, getD-set-same ss n s 0 hs)

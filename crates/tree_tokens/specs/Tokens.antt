@@ -1,15 +1,16 @@
 -- What the arrays of a contraction hold: the working tree in postfix order, a token a node, and the records made so far.
-use Prim.Native.Nat.{ℕ, zero, suc, _+_, _-_}
+use Prim.Native.Nat.{ℕ, _+_, _-_}
 use mathlib.Core.Path.{_≡_}
 use mathlib.Core.Bool.{cond}
 use mathlib.Core.List.{List, [], _∷_, _++_, map}
 use mathlib.Core.Option.{Option, none, some}
 use lib.Dec.{ltb, eqb}
-use lib.ListN.{length, getD, take}
+use lib.ListN.{length, take}
 use Rattle.formula.specs.Formula.{index, firstOperation}
 use Rattle.contraction.specs.Records.{Rec, absent}
 use Rattle.contraction.specs.Rounds.{Work, tip, one, two}
-use Rattle.tree_tokens.specs.declared.Filled.{Filled}
+use Rattle.contraction.specs.Steps.{recs}
+use Rattle.tree_tokens.specs.declared.Extent.{Extent}
 
 -- A leaf or a one-child node with its dwarf root; a two-child node with its operation's index.
 pub data Token : Type 0 where
@@ -39,14 +40,6 @@ present x = cond (eqb x absent) none (some x)
 abbrev pub toks : List ℕ → ℕ → List Token
 toks l n = map decode (take n l)
 
--- The first n records of three arrays.
-abbrev pub recAt : List ℕ → List ℕ → List ℕ → ℕ → Rec
-recAt ks fs ss i = record { kind = getD ks i 0; first = getD fs i 0; second = getD ss i 0 }
-
-abbrev pub recs : List ℕ → List ℕ → List ℕ → ℕ → List Rec
-recs ks fs ss zero = []
-recs ks fs ss (suc n) = recs ks fs ss n ++ (recAt ks fs ss n ∷ [])
-
 -- The arrays of records have their full length.
 pub record Shelves (ks fs ss : List ℕ) : Type 0 where
   pub kinds-length : length ks ≡ 3072
@@ -59,6 +52,6 @@ pub record Sized (out ks fs ss : List ℕ) : Type 0 where
   pub shelves : Shelves ks fs ss
 
 -- What a step leaves: the tokens of the tree w, and behind the records it found those that it made.
-pub record Leaves (w : Work) (found made : List Rec) (out ks fs ss : List ℕ) (r : Filled) : Type 0 where
+pub record Leaves (w : Work) (found made : List Rec) (out ks fs ss : List ℕ) (r : Extent) : Type 0 where
   pub tree : toks out (r .at) ≡ flat w
-  pub records : recs ks fs ss (r .next) ≡ found ++ made
+  pub records : recs ks fs ss 0 (r .next) ≡ found ++ made

@@ -3,10 +3,6 @@ use Rattle.accepting.proofs.PreparedLaws.{code-refused, few-codes, plan
 use borrow.Author.Needs.{needs}
 use Rattle.accepting.proofs.prepare.Statement.{statement}
 use Rattle.accepting.proofs.prepare.Tie as tie
-use Rattle.accepting.proofs.prepare.Reads as reads
-use Rattle.accepting.proofs.prepare.Lts as lts
-use Rattle.accepting.proofs.accept.Reads as accept-reads
-use Rattle.tree_dwarf.proofs.build.Reads as build-reads
 
 accept-requires : tie.Need-accept-requires
 accept-requires c κs = search needs
@@ -17,16 +13,16 @@ enum-known-number c = search needs
 enum-known-names : tie.Need-enum-known-names
 enum-known-names c = search needs
 
-build-requires : tie.Need-build-requires
-build-requires c κs = search (few-codes, planned, needs)
+build-tree-requires : tie.Need-build-tree-requires
+build-tree-requires c κs = search (few-codes, planned, needs)
 
 returns : tie.Need-returns
 returns c = search (code-refused, needs)
 
 returns-2 : tie.Need-returns-2
-returns-2 c = search (built, c .build .ensures .1, needs)
+returns-2 c = search (built, c .build-tree .ensures .1, needs)
 
 pub prepare-spec : {M : Type 1} → statement M
 prepare-spec =
     tie.close
-    (tie.spec accept-requires enum-known-number enum-known-names build-requires returns returns-2)
+    (tie.spec accept-requires enum-known-number enum-known-names build-tree-requires returns returns-2)

@@ -3,9 +3,6 @@ use Rattle.host.proofs.ReportLaws.{build-reported, build-refused}
 use borrow.Author.Needs.{needs}
 use Rattle.host.proofs.kressedach_build.Statement.{statement}
 use Rattle.host.proofs.kressedach_build.Tie as tie
-use Rattle.host.proofs.kressedach_build.Reads as reads
-use Rattle.host.proofs.kressedach_build.Lts as lts
-use Rattle.job_build.proofs.build.Reads as build-reads
 
 build-requires : tie.Need-build-requires
 build-requires c κs = search needs

@@ -3,9 +3,6 @@ use Rattle.host.proofs.ReportLaws.{classify-reported, classify-refused}
 use borrow.Author.Needs.{needs}
 use Rattle.host.proofs.kressedach_classify.Statement.{statement}
 use Rattle.host.proofs.kressedach_classify.Tie as tie
-use Rattle.host.proofs.kressedach_classify.Reads as reads
-use Rattle.host.proofs.kressedach_classify.Lts as lts
-use Rattle.job_classify.proofs.classify.Reads as classify-reads
 
 classify-requires : tie.Need-classify-requires
 classify-requires c κs = search needs

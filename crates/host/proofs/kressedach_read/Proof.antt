@@ -3,9 +3,6 @@ use Rattle.host.proofs.ReportLaws.{read-reported, read-refused}
 use borrow.Author.Needs.{needs}
 use Rattle.host.proofs.kressedach_read.Statement.{statement}
 use Rattle.host.proofs.kressedach_read.Tie as tie
-use Rattle.host.proofs.kressedach_read.Reads as reads
-use Rattle.host.proofs.kressedach_read.Lts as lts
-use Rattle.sheet_reading.proofs.read_sheet.Reads as read-reads
 
 read-sheet-requires : tie.Need-read-sheet-requires
 read-sheet-requires c κs = search needs

@@ -3,9 +3,6 @@ use Rattle.host.proofs.ReportLaws.{run-reported, run-refused}
 use borrow.Author.Needs.{needs}
 use Rattle.host.proofs.kressedach_run.Statement.{statement}
 use Rattle.host.proofs.kressedach_run.Tie as tie
-use Rattle.host.proofs.kressedach_run.Reads as reads
-use Rattle.host.proofs.kressedach_run.Lts as lts
-use Rattle.job_run.proofs.run.Reads as run-reads
 
 run-requires : tie.Need-run-requires
 run-requires c κs = search needs

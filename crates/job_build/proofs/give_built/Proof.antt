@@ -1,48 +1,36 @@
+-- `job_build::give_built` meets its contract: the answer lists are judged, then filled.
 use Rattle.job_build.proofs.BuildLaws.{kinds-short, firsts-short, seconds-short, all-given}
 use borrow.Author.Needs.{needs}
 use Rattle.job_build.proofs.give_built.Statement.{statement}
 use Rattle.job_build.proofs.give_built.Tie as tie
-use Rattle.job_build.proofs.give_built.Reads as reads
-use Rattle.job_build.proofs.give_built.Lts as lts
-use Rattle.basics.proofs.copy_out.Reads as copy-out-reads
 
--- src/lib.rt:43:9
 returns : tie.Need-returns
 returns c = search (kinds-short, needs)
 
--- src/lib.rt:46:9
 returns-2 : tie.Need-returns-2
 returns-2 c = search (firsts-short, needs)
 
--- src/lib.rt:49:9
 returns-3 : tie.Need-returns-3
 returns-3 c = search (seconds-short, needs)
 
--- src/lib.rt:51:5
 copy-out-requires : tie.Need-copy-out-requires
 copy-out-requires c κs = search needs
 
--- src/lib.rt:52:5
 copy-out-requires-2 : tie.Need-copy-out-requires-2
 copy-out-requires-2 c κs = search needs
 
--- src/lib.rt:53:5
 copy-out-requires-3 : tie.Need-copy-out-requires-3
 copy-out-requires-3 c κs = search needs
 
--- src/lib.rt:27:1
 same-length : tie.Need-same-length
 same-length c = search needs
 
--- src/lib.rt:27:1
 same-length-2 : tie.Need-same-length-2
 same-length-2 c = search needs
 
--- src/lib.rt:27:1
 same-length-3 : tie.Need-same-length-3
 same-length-3 c = search needs
 
--- src/lib.rt:27:1
 returns-4 : tie.Need-returns-4
 returns-4 c = search (all-given, needs)
 

@@ -1,9 +1,6 @@
 -- `labels::fill_chains` meets its contract. The loop keeps: the chains of the leaves from j on are filled.
-use Prim.Native.Nat.{_-_, _<_}
-use mathlib.Core.Path.{refl}
-use native.Mathlib.Omega.{arith}
 use borrow.Author.Needs.{needs}
-use Rattle.labels.proofs.Fills.{ChainsFrom, chains-start, chains-more, chains-end}
+use Rattle.labels.proofs.Fills.{ChainsFrom, chains-start, shape-named, shape-fits, chains-more, chains-end}
 use Rattle.labels.proofs.fill_chains.Statement.{statement}
 use Rattle.labels.proofs.fill_chains.Tie as tie
 
@@ -14,56 +11,49 @@ abbrev μ-loop : tie.MeasureT-loop
 μ-loop kinds firsts seconds leaves nodes heads₀ nexts₀ j₀ heads nexts j = j
 
 loop-holds : tie.Need-loop-holds Inv-loop μ-loop
-loop-holds c = chains-start _ _ _ _ _ (c .before .before .pre)
+loop-holds c = search chains-start
 
 sub-j : tie.Need-sub-j Inv-loop μ-loop
-sub-j c = omega arith
+sub-j c = search needs
 
 wide-requires : tie.Need-wide-requires Inv-loop μ-loop
 wide-requires c κs = search needs
 
 mul-wide : tie.Need-mul-wide Inv-loop μ-loop
-mul-wide c = omega arith
+mul-wide c = search needs
 
 element-copy-out-wide : tie.Need-element-copy-out-wide Inv-loop μ-loop
-element-copy-out-wide c = omega (arith, c .wide .ensures, c .before .before .loop .inv .within, c .before .before .before .before .before .pre .few)
+element-copy-out-wide c = search needs
 
 wide-requires-2 : tie.Need-wide-requires-2 Inv-loop μ-loop
 wide-requires-2 c κs = search needs
 
--- the leaf's shape is one of 256
-shape : (c : tie.After-wide2 Inv-loop μ-loop) → c .wide2 .result < 256
-shape c =
-    omega (arith, c .wide2 .ensures, c .before .before .before .before .before .before .before .pre .named (c .before .before .wide .result) (omega (arith, c .before .before .wide .ensures, c .before .before .before .before .loop .inv .within)))
-
 mul-nexts : tie.Need-mul-nexts Inv-loop μ-loop
-mul-nexts c = omega (arith, shape c)
+mul-nexts c = search shape-fits
 
 element-copy-out-nexts : tie.Need-element-copy-out-nexts Inv-loop μ-loop
-element-copy-out-nexts c = shape c
+element-copy-out-nexts c = search shape-named
 
 mul-nexts-2 : tie.Need-mul-nexts-2 Inv-loop μ-loop
-mul-nexts-2 c = omega arith
+mul-nexts-2 c = search needs
 
 element-write-nexts : tie.Need-element-write-nexts Inv-loop μ-loop
-element-write-nexts c = omega (arith, c .before .before .before .wide .ensures, c .before .before .before .before .before .loop .inv .within, c .before .before .before .before .before .before .before .before .pre .few)
+element-write-nexts c = search needs
 
 mul-heads : tie.Need-mul-heads Inv-loop μ-loop
-mul-heads c = omega (arith, shape (c .before))
+mul-heads c = search shape-fits
 
 element-write-heads : tie.Need-element-write-heads Inv-loop μ-loop
-element-write-heads c = shape (c .before)
+element-write-heads c = search shape-named
 
 loop-less : tie.Need-loop-less Inv-loop μ-loop
-loop-less c = omega arith
+loop-less c = search needs
 
 loop-again : tie.Need-loop-again Inv-loop μ-loop
-loop-again c = let i = c .before .before .before .wide .ensures in
-    let at = c .before .before .before .before .before .loop in
-    rw i (chains-more _ _ _ _ _ (at .j) _ _ _ _ (c .before .before .before .before .before .before .before .before .pre) (at .inv) (c .before .before .before .before .loop-test .taken) refl (rw i at (c .before .wide2 .ensures)))
+loop-again c = search chains-more
 
 returns : tie.Need-returns Inv-loop μ-loop
-returns c = chains-end _ _ _ _ _ _ _ _ (c .before .loop .inv) (c .loop-test .left)
+returns c = search chains-end
 
 pub fill-chains-spec : {M : Type 1} → statement M
 fill-chains-spec =

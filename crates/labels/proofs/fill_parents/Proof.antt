@@ -1,7 +1,5 @@
 -- `labels::fill_parents` meets its contract. The loop keeps: the parents among the nodes from j on are filled.
 use Prim.Native.Nat.{_-_}
-use mathlib.Core.Path.{refl}
-use native.Mathlib.Omega.{arith}
 use borrow.Author.Needs.{needs}
 use Rattle.labels.proofs.Fills.{ParentsFrom, parents-start, parents-more, parents-end}
 use Rattle.labels.proofs.fill_parents.Statement.{statement}
@@ -14,44 +12,43 @@ abbrev μ-loop : tie.MeasureT-loop
 μ-loop kinds firsts seconds nodes parents₀ j₀ parents j = j
 
 loop-holds : tie.Need-loop-holds Inv-loop μ-loop
-loop-holds c = parents-start _ _ _ _
+loop-holds c = parents-start _
 
 sub-j : tie.Need-sub-j Inv-loop μ-loop
-sub-j c = omega arith
+sub-j c = search needs
 
 wide-requires : tie.Need-wide-requires Inv-loop μ-loop
 wide-requires c κs = search needs
 
 mul-adopt : tie.Need-mul-adopt Inv-loop μ-loop
-mul-adopt c = omega arith
+mul-adopt c = search needs
 
 element-copy-out-adopt : tie.Need-element-copy-out-adopt Inv-loop μ-loop
-element-copy-out-adopt c = omega (arith, c .before .wide .ensures, c .before .before .before .loop .inv .within, c .before .before .before .before .before .pre)
+element-copy-out-adopt c = search needs
 
 mul-adopt-2 : tie.Need-mul-adopt-2 Inv-loop μ-loop
-mul-adopt-2 c = omega arith
+mul-adopt-2 c = search needs
 
 element-copy-out-adopt-2 : tie.Need-element-copy-out-adopt-2 Inv-loop μ-loop
-element-copy-out-adopt-2 c = omega (arith, c .before .before .wide .ensures, c .before .before .before .before .loop .inv .within, c .before .before .before .before .before .before .pre)
+element-copy-out-adopt-2 c = search needs
 
 mul-adopt-3 : tie.Need-mul-adopt-3 Inv-loop μ-loop
-mul-adopt-3 c = omega arith
+mul-adopt-3 c = search needs
 
 element-copy-out-adopt-3 : tie.Need-element-copy-out-adopt-3 Inv-loop μ-loop
-element-copy-out-adopt-3 c = omega (arith, c .before .before .before .wide .ensures, c .before .before .before .before .before .loop .inv .within, c .before .before .before .before .before .before .before .pre)
+element-copy-out-adopt-3 c = search needs
 
 adopt-requires : tie.Need-adopt-requires Inv-loop μ-loop
 adopt-requires c κs = search needs
 
 loop-less : tie.Need-loop-less Inv-loop μ-loop
-loop-less c = omega arith
+loop-less c = search needs
 
 loop-again : tie.Need-loop-again Inv-loop μ-loop
-loop-again c = let at = c .before .before .before .before .before .before .before .loop in
-    rw (c .adopt .ensures, c .before .before .before .before .before .wide .ensures) (parents-more _ _ _ _ (at .j) _ _ (at .inv) (c .before .before .before .before .before .before .loop-test .taken) refl)
+loop-again c = search parents-more
 
 returns : tie.Need-returns Inv-loop μ-loop
-returns c = parents-end _ _ _ _ _ _ (c .before .loop .inv) (c .loop-test .left) (c .before .before .before .pre)
+returns c = search parents-end
 
 pub fill-parents-spec : {M : Type 1} → statement M
 fill-parents-spec =

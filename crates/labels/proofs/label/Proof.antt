@@ -1,7 +1,5 @@
 -- `labels::label` meets its contract: each range of kinds is one case of the rule.
-use mathlib.Core.Path.{_∙_, sym}
-use native.Mathlib.Omega.{arith}
-use Rattle.labels.proofs.Ranges.{at-E, at-left, at-right, at-none}
+use Rattle.labels.proofs.Ranges.{arm-leaf, arm-pick, arm-both, arm-E, arm-left, arm-right, arm-none}
 use borrow.Author.Needs.{needs}
 use Rattle.labels.proofs.label.Statement.{statement}
 use Rattle.labels.proofs.label.Tie as tie
@@ -61,29 +59,25 @@ raked-right-requires : tie.Need-raked-right-requires
 raked-right-requires c κs = search needs
 
 returns : tie.Need-returns
-returns c = rw (c .before .match .keys1) (c .bit .ensures)
+returns c = search arm-leaf
 
 returns-2 : tie.Need-returns-2
-returns-2 c = c .bit2 .ensures ∙ rw (c .before .pick .ensures, c .before .before .on .ensures, c .before .before .before .match .keys2)
+returns-2 c = search arm-pick
 
 returns-3 : tie.Need-returns-3
-returns-3 c = c .pair .ensures ∙ rw (c .before .pick5 .ensures, c .before .before .pick4 .ensures, c .before .before .before .pick3 .ensures, c .before .before .before .before .pick2 .ensures, c .before .before .before .before .before .match .keys3)
+returns-3 c = search arm-both
 
 returns-4 : tie.Need-returns-4
-returns-4 c = let a = c .before .before .before .before .before .before .args in
-    c .bit3 .ensures ∙ rw (c .before .meaning .ensures, c .before .before .on3 .ensures, c .before .before .before .on2 .ensures) (sym (at-E (a .kind) (a .inside) (a .x) (a .y) (omega arith) (omega arith)))
+returns-4 c = search arm-E
 
 returns-5 : tie.Need-returns-5
-returns-5 c = let a = c .before .before .before .before .before .args in
-    c .raked-left .ensures ∙ rw (c .before .on4 .ensures) (sym (at-left (a .kind) (a .inside) (a .x) (a .y) (omega arith) (omega arith)))
+returns-5 c = search arm-left
 
 returns-6 : tie.Need-returns-6
-returns-6 c = let a = c .before .before .before .before .before .before .args in
-    c .raked-right .ensures ∙ rw (c .before .on5 .ensures) (sym (at-right (a .kind) (a .inside) (a .x) (a .y) (omega arith) (omega arith)))
+returns-6 c = search arm-right
 
 returns-7 : tie.Need-returns-7
-returns-7 c = let a = c .before .before .before .before .args in
-    sym (at-none (a .kind) (a .inside) (a .x) (a .y) (omega arith))
+returns-7 c = search arm-none
 
 pub label-spec : {M : Type 1} → statement M
 label-spec =

@@ -1,7 +1,5 @@
 -- `labels::meaning` meets its contract.
-use native.Mathlib.Omega.{arith}
-use Rattle.labels.proofs.Ranges.{exclusive-test}
-use Rattle.formula.proofs.Laws.{opAt-exclusive}
+use Rattle.labels.proofs.Ranges.{meaning-rest}
 use Rattle.labels.proofs.meaning.Statement.{statement}
 use Rattle.labels.proofs.meaning.Tie as tie
 
@@ -15,7 +13,7 @@ returns-3 : tie.Need-returns-3
 returns-3 c = rw (c .match .keys3)
 
 returns-4 : tie.Need-returns-4
-returns-4 c = rw (opAt-exclusive (c .before .args .o) (omega arith)) (exclusive-test (c .before .args .a) (c .before .args .b))
+returns-4 c = search meaning-rest
 
 pub meaning-spec : {M : Type 1} → statement M
 meaning-spec = tie.close (tie.spec returns returns-2 returns-3 returns-4)

@@ -1,6 +1,5 @@
 -- `labels::raked_left` meets its contract.
-use native.Mathlib.Omega.{arith}
-use Rattle.formula.proofs.Laws.{opAt-exclusive}
+use Rattle.labels.proofs.Ranges.{table-on, table-off}
 use borrow.Author.Needs.{needs}
 use Rattle.labels.proofs.raked_left.Statement.{statement}
 use Rattle.labels.proofs.raked_left.Tie as tie
@@ -24,10 +23,10 @@ returns-6 : tie.Need-returns-6
 returns-6 c = search needs
 
 returns-7 : tie.Need-returns-7
-returns-7 c = rw (opAt-exclusive (c .before .before .args .o) (omega arith), c .if4 .taken)
+returns-7 c = search table-on
 
 returns-8 : tie.Need-returns-8
-returns-8 c = rw (opAt-exclusive (c .before .before .args .o) (omega arith), c .if4 .left)
+returns-8 c = search table-off
 
 pub raked-left-spec : {M : Type 1} → statement M
 raked-left-spec =

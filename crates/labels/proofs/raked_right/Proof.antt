@@ -1,5 +1,4 @@
 -- `labels::raked_right` meets its contract.
-use mathlib.Core.Path.{_∙_}
 use Rattle.labels.proofs.Ranges.{side-free}
 use borrow.Author.Needs.{needs}
 use Rattle.labels.proofs.raked_right.Statement.{statement}
@@ -15,7 +14,7 @@ returns-2 : tie.Need-returns-2
 returns-2 c = search needs
 
 returns-3 : tie.Need-returns-3
-returns-3 c = c .raked-left .ensures ∙ side-free (c .before .before .args .o) (c .before .before .args .v) (c .before .match .rest .1)
+returns-3 c = search side-free
 
 pub raked-right-spec : {M : Type 1} → statement M
 raked-right-spec = tie.close (tie.spec raked-left-requires returns returns-2 returns-3)

@@ -8,7 +8,7 @@ returns : tie.Need-returns
 returns c = search needs
 
 returns-2 : tie.Need-returns-2
-returns-2 c = flip-on (c .before .args .v) (c .if1 .left)
+returns-2 c = search flip-on
 
 pub flip-spec : {M : Type 1} → statement M
 flip-spec = tie.close (tie.spec returns returns-2)

@@ -1,23 +1,17 @@
 -- `toggles::root` meets its contract.
-use Prim.Native.Nat.{_-_, _≤_}
-use mathlib.Core.Path.{sym, _∙_}
-use native.Mathlib.Omega.{arith}
-use lib.ListN.{length}
-use lib.Seq.{getD-take}
+use borrow.Author.Needs.{needs}
 use Rattle.toggles.proofs.Filling.{last-take}
 use Rattle.toggles.proofs.root.Statement.{statement}
 use Rattle.toggles.proofs.root.Tie as tie
 
 sub-result : tie.Need-sub-result
-sub-result c = omega (arith, c .before .pre .0)
+sub-result c = search needs
 
 shared-slice-read-result : tie.Need-shared-slice-read-result
-shared-slice-read-result c = omega (arith, c .before .before .pre .0, c .before .before .pre .1)
+shared-slice-read-result c = search needs
 
 returns : tie.Need-returns
-returns c = let a = c .before .before .args in
-    let l : a .nodes ≤ length (a .labels .now) = omega (arith, c .before .before .pre .1) in
-    sym (last-take (a .labels .now) (a .nodes) (c .before .before .pre .0) l ∙ getD-take (a .nodes) (a .labels .now) (a .nodes - 1) 0 (omega (arith, c .before .before .pre .0)))
+returns c = search last-take
 
 pub root-spec : {M : Type 1} → statement M
 root-spec = tie.close (tie.spec sub-result shared-slice-read-result returns)

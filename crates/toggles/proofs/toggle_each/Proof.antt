@@ -1,11 +1,9 @@
 -- `toggles::toggle_each` meets its contract. The loop keeps: the first i toggles are done.
 use Prim.Native.Nat.{_-_}
-use native.Mathlib.Omega.{arith}
 use borrow.Author.Needs.{needs}
 use lib.ListN.{length, take}
-use Rattle.labels.specs.Steps.{recs}
-use Rattle.toggles.proofs.Filling.{Running, running-start, running-more, running-long, running-end}
-use Rattle.toggles.proofs.RanLaws.{named-at}
+use Rattle.contraction.specs.Steps.{recs}
+use Rattle.toggles.proofs.Filling.{Running, running-start, shape-below, count-room, root-room, running-more, running-end}
 use Rattle.toggles.proofs.toggle_each.Statement.{statement}
 use Rattle.toggles.proofs.toggle_each.Tie as tie
 
@@ -19,45 +17,43 @@ loop-holds : tie.Need-loop-holds Inv-loop μ-loop
 loop-holds c = running-start _ _ _ _ _
 
 mul-wide : tie.Need-mul-wide Inv-loop μ-loop
-mul-wide c = omega arith
+mul-wide c = search needs
 
 shared-slice-read-wide : tie.Need-shared-slice-read-wide Inv-loop μ-loop
-shared-slice-read-wide c = omega arith
+shared-slice-read-wide c = search needs
 
 wide-requires : tie.Need-wide-requires Inv-loop μ-loop
 wide-requires c κs = search needs
 
 toggle-requires : tie.Need-toggle-requires Inv-loop μ-loop
-toggle-requires c κs = (c .before .before .before .before .before .before .before .before .pre .0, named-at _ _ _ (c .before .before .before .before .before .before .before .before .pre .1) (c .before .wide .result) _ (c .before .wide .ensures) (omega arith))
+toggle-requires c κs = (search needs, search shape-below)
 
 mul-counts : tie.Need-mul-counts Inv-loop μ-loop
-mul-counts c = omega arith
+mul-counts c = search needs
 
 slice-write-counts : tie.Need-slice-write-counts Inv-loop μ-loop
-slice-write-counts c = let long = running-long _ _ _ _ _ _ _ _ _ (c .before .before .before .before .before .before .before .before .before .pre .1) (c .before .before .before .before .before .loop .inv) in
-    omega (arith, long .1, c .before .before .before .before .before .before .before .before .before .pre .1 .for-counts, c .before .before .before .before .loop-test .taken)
+slice-write-counts c = search count-room
 
 root-requires : tie.Need-root-requires Inv-loop μ-loop
-root-requires c κs = (c .before .before .before .before .before .before .before .before .before .before .pre .0 .shaped .some, c .before .before .before .before .before .before .before .before .before .before .pre .0 .shaped .room)
+root-requires c κs = search needs
 
 slice-write-roots : tie.Need-slice-write-roots Inv-loop μ-loop
-slice-write-roots c = let long = running-long _ _ _ _ _ _ _ _ _ (c .before .before .before .before .before .before .before .before .before .before .before .pre .1) (c .before .before .before .before .before .before .before .loop .inv) in
-    omega (arith, long .0, c .before .before .before .before .before .before .before .before .before .before .before .pre .1 .for-roots, c .before .before .before .before .before .before .loop-test .taken)
+slice-write-roots c = search root-room
 
 add-i : tie.Need-add-i Inv-loop μ-loop
-add-i c = omega arith
+add-i c = search needs
 
 loop-less : tie.Need-loop-less Inv-loop μ-loop
-loop-less c = omega arith
+loop-less c = search needs
 
 loop-again : tie.Need-loop-again Inv-loop μ-loop
 loop-again c = search running-more
 
 same-length : tie.Need-same-length Inv-loop μ-loop
-same-length c = running-long _ _ _ _ _ _ _ _ _ (c .before .before .before .before .before .pre .1) (c .before .loop .inv) .0
+same-length c = search needs
 
 same-length-2 : tie.Need-same-length-2 Inv-loop μ-loop
-same-length-2 c = running-long _ _ _ _ _ _ _ _ _ (c .before .before .before .before .before .pre .1) (c .before .loop .inv) .1
+same-length-2 c = search needs
 
 returns : tie.Need-returns Inv-loop μ-loop
 returns c = search running-end

@@ -1,24 +1,26 @@
--- `dwarf::plant` meets its contract. The invariant: the first i codes are planted. Assumes nothing.
+-- `tree_dwarf::plant` meets its contract. The invariant: the first i codes are planted. Assumes nothing.
 use borrow.Author.Needs.{needs}
 use Prim.Native.Nat.{_-_, _≤_}
 use native.Mathlib.Omega.{arith}
 use mathlib.Core.Path.{_≡_, refl}
 use mathlib.Core.List.{foldl}
 use lib.ListN.{take}
+use Rattle.contraction.specs.Steps.{recs}
 use Rattle.tree_tokens.specs.Tokens.{Sized}
-use Rattle.tree_dwarf.specs.Steps.{plant, view, start}
+use Rattle.tree_dwarf.specs.Steps.{plantCode, plantingIn, plantingStart}
 use Rattle.tree_dwarf.proofs.PlantLaws.{plant-next, planted-tree, planted-records}
 use Rattle.tree_dwarf.proofs.plant.Statement.{statement}
 use Rattle.tree_dwarf.proofs.plant.Tie as tie
 
 abbrev Inv-loop : tie.InvT-loop
 Inv-loop codes n a₀ kinds₀ firsts₀ seconds₀ next₀ i₀ a kinds firsts seconds next i =
-    (i ≤ n) × (next ≤ i) × Sized a kinds firsts seconds × (view a i kinds firsts seconds next ≡ foldl plant start (take i codes))
+    (i ≤ n) × (next ≤ i) × Sized a kinds firsts seconds × (plantingIn a i kinds firsts seconds next ≡ foldl plantCode plantingStart (take i codes))
 
 abbrev μ-loop : tie.MeasureT-loop
 μ-loop codes n a₀ kinds₀ firsts₀ seconds₀ next₀ i₀ a kinds firsts seconds next i = n - i
 
 loop-holds : tie.Need-loop-holds Inv-loop μ-loop
+unfolding recs
 loop-holds c = (search needs, search needs, search needs, refl)
 
 loop-again : tie.Need-loop-again Inv-loop μ-loop

@@ -1,4 +1,4 @@
--- `dwarf::plant_one` meets its contract. Assumes nothing.
+-- `tree_dwarf::plant_one` meets its contract. Assumes nothing.
 use Rattle.tree_dwarf.proofs.PlantLaws.{plant-leaf, plant-operation}
 use borrow.Author.Needs.{needs}
 use Rattle.tree_dwarf.proofs.plant_one.Statement.{statement}

@@ -1,4 +1,4 @@
--- `height::height` meets its contract. The invariant: the paths of the first i nodes are worked out, and the last of them is the height so far. Assumes nothing.
+-- `tree_height::height` meets its contract. The invariant: the paths of the first i nodes are worked out, and the last of them is the height so far. Assumes nothing.
 use borrow.Author.Needs.{needs}
 use Prim.Native.Nat.{_-_, _≤_}
 use native.Mathlib.Omega.{arith}
@@ -6,7 +6,7 @@ use mathlib.Core.Path.{_≡_, refl}
 use mathlib.Core.List.{[]}
 use lib.ListN.{length, take}
 use Rattle.contraction.specs.Height.{worked, path, height}
-use Rattle.tree_tokens.specs.Tokens.{recs}
+use Rattle.contraction.specs.Steps.{recs}
 use Rattle.tree_height.specs.Steps.{Low}
 use Rattle.tree_height.proofs.PathLaws.{paths-more, last-more, low-more}
 use Rattle.tree_height.proofs.height.Statement.{statement}
@@ -14,13 +14,14 @@ use Rattle.tree_height.proofs.height.Tie as tie
 
 abbrev Inv-loop : tie.InvT-loop
 Inv-loop kinds firsts seconds n paths₀ last₀ i₀ paths last i =
-    (i ≤ n) × (length paths ≡ 3072) × Low i paths × (take i paths ≡ worked path [] (recs kinds firsts seconds i))
-    × (last ≡ height (recs kinds firsts seconds i))
+    (i ≤ n) × (length paths ≡ 3072) × Low i paths × (take i paths ≡ worked path [] (recs kinds firsts seconds 0 i))
+    × (last ≡ height (recs kinds firsts seconds 0 i))
 
 abbrev μ-loop : tie.MeasureT-loop
 μ-loop kinds firsts seconds n paths₀ last₀ i₀ paths last i = n - i
 
 loop-holds : tie.Need-loop-holds Inv-loop μ-loop
+unfolding recs
 loop-holds c = (search needs, refl, λ j h. absurd (omega arith), refl, refl)
 
 path-requires : tie.Need-path-requires Inv-loop μ-loop

@@ -1,4 +1,4 @@
--- `height::path` meets its contract. Assumes nothing.
+-- `tree_height::path` meets its contract. Assumes nothing.
 use lib.ListN.{take}
 use native.Mathlib.Omega.{arith}
 use mathlib.Core.Path.{sym, _∙_}

@@ -1,4 +1,4 @@
--- `height::through` meets its contract. Assumes nothing.
+-- `tree_height::through` meets its contract. Assumes nothing.
 use native.Mathlib.Omega.{arith}
 use Rattle.tree_height.proofs.PathLaws.{through-known, through-past}
 use borrow.Author.Needs.{needs}

@@ -1,4 +1,4 @@
--- `rake::keep` meets its contract. Assumes nothing.
+-- `tree_rake::keep` meets its contract. Assumes nothing.
 use Rattle.tree_rake.proofs.StepsLaws.{view-keep}
 use borrow.Author.Needs.{needs}
 use Rattle.tree_rake.proofs.keep.Statement.{statement}

@@ -1,4 +1,4 @@
--- `rake::make` meets its contract. Assumes nothing.
+-- `tree_rake::make` meets its contract. Assumes nothing.
 use Rattle.tree_rake.proofs.StepsLaws.{view-make}
 use borrow.Author.Needs.{needs}
 use Rattle.tree_rake.proofs.make.Statement.{statement}

@@ -1,11 +1,12 @@
--- `rake::rake` meets its contract. The invariant: the arrays hold what the steps come to after the first i tokens, and no mark has gone further than i. Assumes nothing.
+-- `tree_rake::rake` meets its contract. The invariant: the arrays hold what the steps come to after the first i tokens, and no mark has gone further than i. Assumes nothing.
 use borrow.Author.Needs.{needs}
 use Prim.Native.Nat.{_+_, _-_, _≤_}
 use native.Mathlib.Omega.{arith}
 use mathlib.Core.Path.{_≡_, refl}
 use mathlib.Core.List.{foldl}
-use Rattle.tree_tokens.specs.Tokens.{toks, recs}
-use Rattle.tree_rake.specs.Steps.{act, view, start, Lengths}
+use Rattle.contraction.specs.Steps.{recs}
+use Rattle.tree_tokens.specs.Tokens.{toks}
+use Rattle.tree_rake.specs.Steps.{rakeToken, rakingIn, rakingStart, Lengths}
 use Rattle.tree_rake.proofs.StepsLaws.{run-next}
 use Rattle.tree_rake.proofs.Trees.{raked-tree, raked-records}
 use Rattle.tree_rake.proofs.rake.Statement.{statement}
@@ -14,7 +15,7 @@ use Rattle.tree_rake.proofs.rake.Tie as tie
 abbrev Inv-loop : tie.InvT-loop
 Inv-loop tokens n out₀ st₀ kinds₀ firsts₀ seconds₀ next m₀ i₀ out st kinds firsts seconds m i =
     (i ≤ n) × (m .top ≤ i) × (m .at ≤ i) × (m .next ≤ next + i) × Lengths out st kinds firsts seconds
-    × (view out st kinds firsts seconds m ≡ foldl act (start kinds₀ firsts₀ seconds₀ next) (toks tokens i))
+    × (rakingIn out st kinds firsts seconds m ≡ foldl rakeToken (rakingStart kinds₀ firsts₀ seconds₀ next) (toks tokens i))
 
 abbrev μ-loop : tie.MeasureT-loop
 μ-loop tokens n out₀ st₀ kinds₀ firsts₀ seconds₀ next m₀ i₀ out st kinds firsts seconds m i = n - i
@@ -30,7 +31,7 @@ loop-again c =
       search needs,
       search needs,
       search needs,
-      run-next _ (h .before .args .tokens .now) (h .loop .i) (c .step .ensures .1 .is) (h .loop .inv .5) (search needs),
+      run-next _ (h .before .args .tokens .now) (h .loop .i) (c .rake-token .ensures .1 .is) (h .loop .inv .5) (search needs),
     )
 
 returns : tie.Need-returns Inv-loop μ-loop
@@ -38,7 +39,7 @@ returns c =
     let h = c .before in
     let a = h .before .args in
     let end : h .loop .i ≡ a .n = omega arith in
-    let rs = recs (a .kinds .now) (a .firsts .now) (a .seconds .now) (a .next) in (
+    let rs = recs (a .kinds .now) (a .firsts .now) (a .seconds .now) 0 (a .next) in (
       search needs,
       (
         search needs,

@@ -1,4 +1,4 @@
--- `rake::rake_one` meets its contract. Assumes nothing.
+-- `tree_rake::rake_one` meets its contract. Assumes nothing.
 use Rattle.tree_rake.proofs.StepsLaws.{one-none, one-kept, one-raked}
 use borrow.Author.Needs.{needs}
 use Rattle.tree_rake.proofs.rake_one.Statement.{statement}

@@ -1,4 +1,4 @@
--- `rake::rake_two` meets its contract. Assumes nothing.
+-- `tree_rake::rake_two` meets its contract. Assumes nothing.
 use Rattle.tree_rake.proofs.StepsLaws.{two-none, two-kept, two-right, two-left, two-both}
 use borrow.Author.Needs.{needs}
 use Rattle.tree_rake.proofs.rake_two.Statement.{statement}

@@ -1,4 +1,4 @@
--- `tokens::put_record` meets its contract. Assumes nothing.
+-- `tree_tokens::put_record` meets its contract. Assumes nothing.
 use borrow.Author.Needs.{needs}
 use Rattle.tree_tokens.proofs.TokensLaws.{recs-put}
 use Rattle.tree_tokens.proofs.put_record.Statement.{statement}

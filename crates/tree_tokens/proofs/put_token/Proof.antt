@@ -1,4 +1,4 @@
--- `tokens::put_token` meets its contract. Assumes nothing.
+-- `tree_tokens::put_token` meets its contract. Assumes nothing.
 use borrow.Author.Needs.{needs}
 use Rattle.tree_tokens.proofs.TokensLaws.{toks-put}
 use Rattle.tree_tokens.proofs.put_token.Statement.{statement}
