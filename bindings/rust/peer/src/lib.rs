@@ -1,4 +1,4 @@
-//! Document 01 in plain Rust, written from the document: what the proved library is compared with.
+//! Documents 01 and 02 in plain Rust, written from the documents: what the proved library is compared with.
 //!
 //! Nothing here is proved or tuned, and nothing is shared with the library: the formula is a tree of boxes, the contraction works on
 //! nodes that point to each other, and a line is evaluated position by position. Each module follows one section of the document.
@@ -7,6 +7,8 @@
 //! Each job takes the lengths of the answer lists (`rooms`), in the order in which the document names them, and gives what the first
 //! entries of those lists become.
 
+pub mod balls;
+pub mod crossings;
 pub mod dwarf;
 pub mod formula;
 pub mod lines;

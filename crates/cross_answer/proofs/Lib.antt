@@ -1,0 +1,4 @@
+pub mod WriteLaws
+pub mod GiveLaws
+pub mod FitLaws
+pub mod Unique

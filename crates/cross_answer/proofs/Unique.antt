@@ -1,0 +1,105 @@
+-- What the promise of a crossing job settles: two results that both meet it are equal, and a refusal is 9 or one of the shapes' own number.
+use Prim.Native.Nat.{ℕ, _+_}
+use mathlib.Core.Path.{_≡_, refl, sym, ap, _∙_}
+use mathlib.Core.Bool.{Bool, true, false}
+use mathlib.Core.List.{List, [], _∷_}
+use mathlib.Core.Logic.{_⊎_, inl, inr}
+use native.Mathlib.Omega.{arith}
+use lib.Dec.{leb}
+use lib.ListN.{length}
+use Rattle.outcome.specs.Outcome.{Outcome, given, refused, need, _>>_}
+use Rattle.outcome.proofs.Questions.{then-given, given-same}
+use Rattle.cross_cuts.specs.Cuts.{Cut, sound, startRow, crossings, faultless, roomy, answered}
+use Rattle.cross_answer.specs.Answer.{Counts, counts, crossedOf, Lists, Promise}
+use Rattle.cross_answer.specs.declared.CrossAnswer.{CrossAnswer}
+use Rattle.cross_answer.specs.declared.CrossAnswer.the-variants.{Crossed, Refused}
+
+-- ---- an answer is known by its numbers and values
+crossedOf-same : (r q : CrossAnswer) → crossedOf r ≡ crossedOf q → r ≡ q
+crossedOf-same r q h = sym (same r) ∙ ap back h ∙ same q
+  where
+    back : Outcome Counts → CrossAnswer
+    back (given (counts shapes crossings)) = Crossed shapes crossings
+    back (refused number place) = Refused number place
+
+    same : (r : CrossAnswer) → back (crossedOf r) ≡ r
+    same (Crossed shapes crossings) = refl
+    same (Refused number place) = refl
+
+pub crossed-unique : (o : Outcome (List Cut)) (lent : Lists) (r q : CrossAnswer) (L₁ L₂ : Lists) → Promise o lent r L₁ → Promise o lent q L₂
+    → (r ≡ q) × (L₁ .starts ≡ L₂ .starts) × (L₁ .positions ≡ L₂ .positions) × (L₁ .shapes ≡ L₂ .shapes)
+crossed-unique o lent r q L₁ L₂ a b = (
+  crossedOf-same r q (a .answer ∙ sym (b .answer)),
+  a .starts-list ∙ sym (b .starts-list),
+  a .positions-list ∙ sym (b .positions-list),
+  a .shapes-list ∙ sym (b .shapes-list),
+)
+
+-- ---- the number of a refusal
+refused-same : {A : Type 0} (k p i q : ℕ) → _≡_ {A = Outcome A} (refused k p) (refused i q) → i ≡ k
+refused-same k p i q e = cc
+
+-- a question that refuses does so with its own number, or the rest refuses
+pub need-refused : {A : Type 0} (b : Bool) (k p : ℕ) (o : Outcome A) (i q : ℕ) → (need b k p >> o) ≡ refused i q → (i ≡ k) ⊎ (o ≡ refused i q)
+need-refused true k p o i q e = inr e
+need-refused false k p o i q e = inl (refused-same k p i q e)
+
+then-refused : {A B : Type 0} (q : Outcome A) (o : Outcome B) (k p : ℕ) → (q >> o) ≡ refused k p → (q ≡ refused k p) ⊎ (o ≡ refused k p)
+then-refused (given a) o k p e = inr e
+then-refused (refused i r) o k p e =
+    let a : i ≡ k = cc in
+    let b : r ≡ p = cc in
+    inl (rw (a, b))
+
+faultless-refused : (number i : ℕ) (cuts : List Cut) (k p : ℕ) → faultless number i cuts ≡ refused k p → k ≡ number
+unfolding faultless
+faultless-refused number i [] k p e = let z : _≡_ {A = ℕ} 0 1 = cc in absurd (omega arith)
+faultless-refused number i (c ∷ cuts) k p e = by (need-refused (sound c) number i (faultless number (i + 1) cuts) k p e) (faultless-refused number (i + 1) cuts k p)
+  where
+    by : (k ≡ number) ⊎ (faultless number (i + 1) cuts ≡ refused k p) → (faultless number (i + 1) cuts ≡ refused k p → k ≡ number) → k ≡ number
+    by (inl a) rest = a
+    by (inr b) rest = rest b
+
+never-given : {A : Type 0} (v : A) (k p : ℕ) → given v ≡ refused k p → ⊥
+never-given v k p e = let z : _≡_ {A = ℕ} 0 1 = cc in omega arith
+
+roomy-refused : (cuts : List Cut) (a b c k p : ℕ) → roomy cuts a b c ≡ refused k p → k ≡ 9
+roomy-refused cuts a b c k p e = first (need-refused (leb n a) 9 n (need (leb m b) 9 m >> need (leb m c) 9 m) k p e)
+  where
+    n : ℕ
+    n = length (startRow cuts)
+
+    m : ℕ
+    m = length (crossings cuts)
+
+    last : (t : Bool) → need t 9 m ≡ refused k p → k ≡ 9
+    last true f = absurd (never-given tt k p f)
+    last false f = refused-same {A = Unit {0}} 9 m k p f
+
+    second : (k ≡ 9) ⊎ (need (leb m c) 9 m ≡ refused k p) → k ≡ 9
+    second (inl f) = f
+    second (inr f) = last (leb m c) f
+
+    first : (k ≡ 9) ⊎ ((need (leb m b) 9 m >> need (leb m c) 9 m) ≡ refused k p) → k ≡ 9
+    first (inl f) = f
+    first (inr f) = second (need-refused (leb m b) 9 m (need (leb m c) 9 m) k p f)
+
+pub answered-refused : (number : ℕ) (cuts : List Cut) (a b c k p : ℕ) → answered number cuts a b c ≡ refused k p → (k ≡ number) ⊎ (k ≡ 9)
+unfolding answered
+answered-refused number cuts a b c k p e = by (then-refused (faultless number 0 cuts) (roomy cuts a b c >> given cuts) k p e)
+  where
+    rest : (roomy cuts a b c ≡ refused k p) ⊎ (given cuts ≡ refused k p) → (k ≡ number) ⊎ (k ≡ 9)
+    rest (inl f) = inr (roomy-refused cuts a b c k p f)
+    rest (inr f) = absurd (never-given cuts k p f)
+
+    by : (faultless number 0 cuts ≡ refused k p) ⊎ ((roomy cuts a b c >> given cuts) ≡ refused k p) → (k ≡ number) ⊎ (k ≡ 9)
+    by (inl f) = inl (faultless-refused number 0 cuts k p f)
+    by (inr f) = rest (then-refused (roomy cuts a b c) (given cuts) k p f)
+
+-- ---- what is given
+pub answered-given : (number : ℕ) (cuts : List Cut) (a b c : ℕ) (v : List Cut) → answered number cuts a b c ≡ given v → cuts ≡ v
+unfolding answered
+answered-given number cuts a b c v e =
+    let f = then-given (faultless number 0 cuts) (roomy cuts a b c >> given cuts) v e in
+    let g = then-given (roomy cuts a b c) (given cuts) v (f .2) in
+    given-same cuts v (g .2)

@@ -1,0 +1,66 @@
+-- `cross_answer::order` meets its contract: the first m keys are put into order, and the rest stays.
+use Rattle.cross_answer.proofs.GiveLaws.{ordered}
+use borrow.Author.Needs.{needs}
+use Rattle.cross_answer.proofs.order.Statement.{statement}
+use Rattle.cross_answer.proofs.order.Tie as tie
+
+sub-sort : tie.Need-sub-sort
+sub-sort c = search needs
+
+part-sort-start : tie.Need-part-sort-start
+part-sort-start c = search needs
+
+part-sort-end : tie.Need-part-sort-end
+part-sort-end c = search needs
+
+slice-aggregate-sort : tie.Need-slice-aggregate-sort
+slice-aggregate-sort c = search needs
+
+sort-requires : tie.Need-sort-requires
+sort-requires c κs = search needs
+
+same-length : tie.Need-same-length
+same-length c = search needs
+
+returns : tie.Need-returns
+returns c = search (ordered, needs)
+
+sub-sort-2 : tie.Need-sub-sort-2
+sub-sort-2 c = search needs
+
+part-sort-start-2 : tie.Need-part-sort-start-2
+part-sort-start-2 c = search needs
+
+part-sort-end-2 : tie.Need-part-sort-end-2
+part-sort-end-2 c = search needs
+
+slice-aggregate-sort-2 : tie.Need-slice-aggregate-sort-2
+slice-aggregate-sort-2 c = search needs
+
+sort-requires-2 : tie.Need-sort-requires-2
+sort-requires-2 c κs = search needs
+
+same-length-2 : tie.Need-same-length-2
+same-length-2 c = search needs
+
+returns-2 : tie.Need-returns-2
+returns-2 c = search (ordered, needs)
+
+pub order-spec : {M : Type 1} → statement M
+order-spec =
+    tie.close
+    (tie.spec
+    sub-sort
+    part-sort-start
+    part-sort-end
+    slice-aggregate-sort
+    sort-requires
+    same-length
+    returns
+    sub-sort-2
+    part-sort-start-2
+    part-sort-end-2
+    slice-aggregate-sort-2
+    sort-requires-2
+    same-length-2
+    returns-2)

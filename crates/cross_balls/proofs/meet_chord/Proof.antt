@@ -1,0 +1,64 @@
+-- `cross_balls::meet_chord` meets its contract: the difference is negative, or the half chord is 0, or the two sides are the centre less and plus it.
+use Rattle.cross_balls.proofs.BallLaws.{chord-missed, half-small, chord-none, chord-two}
+use native.Mathlib.Omega.{arith}
+use Prim.Native.Nat.{_≤_}
+use borrow.Author.Needs.{needs}
+use Rattle.cross_balls.proofs.meet_chord.Statement.{statement}
+use Rattle.cross_balls.proofs.meet_chord.Tie as tie
+
+square-requires : tie.Need-square-requires
+square-requires c κs = search needs
+
+square-requires-2 : tie.Need-square-requires-2
+square-requires-2 c κs = search needs
+
+add-off : tie.Need-add-off
+add-off c = search needs
+
+square-requires-3 : tie.Need-square-requires-3
+square-requires-3 c κs = search needs
+
+returns : tie.Need-returns
+returns c = search (chord-missed, needs)
+
+root-requires : tie.Need-root-requires
+root-requires c κs = search needs
+
+returns-2 : tie.Need-returns-2
+returns-2 c = search (chord-none, needs)
+
+wide-requires : tie.Need-wide-requires
+wide-requires c κs = search needs
+
+sub-narrow : tie.Need-sub-narrow
+sub-narrow c = let h : c .before .before .root .result ≤ 1000000 = search half-small in omega arith
+
+narrow-requires : tie.Need-narrow-requires
+narrow-requires c κs = search needs
+
+add-narrow : tie.Need-add-narrow
+add-narrow c = let h : c .before .before .before .root .result ≤ 1000000 = search half-small in omega arith
+
+narrow-requires-2 : tie.Need-narrow-requires-2
+narrow-requires-2 c κs = let h : c .before .before .before .root .result ≤ 1000000 = search half-small in omega arith
+
+returns-3 : tie.Need-returns-3
+returns-3 c = search (chord-two, needs)
+
+pub meet-chord-spec : {M : Type 1} → statement M
+meet-chord-spec =
+    tie.close
+    (tie.spec
+    square-requires
+    square-requires-2
+    add-off
+    square-requires-3
+    returns
+    root-requires
+    returns-2
+    wide-requires
+    sub-narrow
+    narrow-requires
+    add-narrow
+    narrow-requires-2
+    returns-3)

@@ -1,0 +1,32 @@
+-- `cross_balls::square` meets its contract: below the middle the number is the middle less the mark, else the mark less the middle.
+use Rattle.cross_balls.proofs.BallLaws.{square-fits, square-low, square-high}
+use native.Mathlib.Omega.{arith}
+use borrow.Author.Needs.{needs}
+use Rattle.cross_balls.proofs.square.Statement.{statement}
+use Rattle.cross_balls.proofs.square.Tie as tie
+
+sub-wide : tie.Need-sub-wide
+sub-wide c = search needs
+
+wide-requires : tie.Need-wide-requires
+wide-requires c κs = search needs
+
+mul-result : tie.Need-mul-result
+mul-result c = omega (arith, square-fits (c .wide .result) (search needs))
+
+returns : tie.Need-returns
+returns c = (search (square-low, needs), square-fits (c .wide .result) (search needs))
+
+wide-requires-2 : tie.Need-wide-requires-2
+wide-requires-2 c κs = search needs
+
+mul-result-2 : tie.Need-mul-result-2
+mul-result-2 c = omega (arith, square-fits (c .wide2 .result) (search needs))
+
+returns-2 : tie.Need-returns-2
+returns-2 c = (search (square-high, needs), square-fits (c .wide2 .result) (search needs))
+
+pub square-spec : {M : Type 1} → statement M
+square-spec =
+    tie.close
+    (tie.spec sub-wide wide-requires mul-result returns wide-requires-2 mul-result-2 returns-2)

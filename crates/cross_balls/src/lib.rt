@@ -1,0 +1,167 @@
+// One line's crossings of balls, the line parallel to an axis. The job asks nothing of its caller.
+use cross_answer::CrossAnswer;
+use cross_cuts::Added;
+use cross_cuts::Met;
+use cross_cuts::Row;
+ghost use mathlib.Core.Path.{_≡_};
+ghost use Prim.Native.Nat.{_*_, _<_, _≤_};
+ghost use lib.IntN.{pos};
+ghost use lib.ListN.{length, getD};
+ghost use Rattle.cross_marks.specs.Marks.{unmark};
+ghost use Rattle.cross_cuts.specs.Cuts.{fault};
+ghost use Rattle.cross_cuts.specs.Keys.{cutOf, Ends};
+ghost use Rattle.cross_answer.specs.Answer.{lists, Promise};
+ghost use Rattle.cross_balls.specs.Balls.{within, inRanges, squared, chordCut, ballCut, cutsOf, crossing};
+ghost use Rattle.cross_balls.specs.Small.{Small};
+
+fn wide(x: u32) -> u64
+    ensures { λ r. ⌜ (r ≡ x) × (r < 4294967296) ⌝ }
+{
+    x as u64
+}
+
+fn in_range(mark: u32, low: u32, high: u32) -> bool
+    ensures { λ r. ⌜ r ≡ within (unmark low) (unmark high) (unmark mark) ⌝ }
+{
+    if mark < low {
+        return false;
+    }
+    mark <= high
+}
+
+// The four numbers of a ball are in their ranges, each by its mark.
+fn in_ranges(u: u32, v: u32, radius: u32, centre: u32) -> bool
+    ensures { λ r. ⌜ r ≡ inRanges (unmark u) (unmark v) (unmark radius) (unmark centre) ⌝ }
+{
+    if in_range(u, 2146483648, 2148483648) {
+        if in_range(v, 2146483648, 2148483648) {
+            if in_range(radius, 2147483649, 2148483648) {
+                return in_range(centre, 1147483648, 3147483648);
+            }
+        }
+    }
+    false
+}
+
+// The square of the number that a mark of a small number stands for.
+fn square(mark: u32) -> u64
+    requires { ⌜ (2146483648 ≤ mark) × (mark ≤ 2148483648) ⌝ }
+    ensures { λ r. ⌜ (r ≡ squared (unmark mark)) × (r ≤ 1000000000000) ⌝ }
+{
+    if mark < 2147483648 {
+        let size = wide(2147483648 - mark);
+        return size * size;
+    }
+    let size = wide(mark - 2147483648);
+    size * size
+}
+
+fn narrow(x: u64) -> u32
+    requires { ⌜ x < 4294967296 ⌝ }
+    ensures { λ r. ⌜ r ≡ x ⌝ }
+{
+    x as u32
+}
+
+// A ball whose numbers are in range: it is met where the half chord is not 0.
+fn meet_chord(u: u32, v: u32, radius: u32, centre: u32) -> Met
+    requires { ⌜ Small u v radius centre ⌝ }
+    ensures { λ r. ⌜ cutOf r ≡ chordCut (unmark u) (unmark v) (unmark radius) (unmark centre) ⌝ }
+{
+    let off = square(u) + square(v);
+    let whole = square(radius);
+    if whole < off {
+        return Met::Never(false);
+    }
+    let half = cross_root::root(whole - off);
+    if half == 0 {
+        return Met::Never(false);
+    }
+    let at = wide(centre);
+    let first = narrow(at - half);
+    let last = narrow(at + half);
+    Met::Twice(first, last)
+}
+
+fn meet_ball(u: u32, v: u32, radius: u32, centre: u32) -> Met
+    ensures { λ r. ⌜ cutOf r ≡ ballCut (unmark u) (unmark v) (unmark radius) (unmark centre) ⌝ }
+{
+    if in_ranges(u, v, radius, centre) {
+        return meet_chord(u, v, radius, centre);
+    }
+    Met::Fault
+}
+
+fn mark_at(numbers: &[i32], k: usize) -> u32
+    requires { ⌜ k < length (now numbers) ⌝ }
+    ensures { λ r. ⌜ unmark r ≡ getD (now (numbers .entry)) k (pos 0) ⌝ }
+{
+    cross_marks::mark_of(numbers[k])
+}
+
+// The i-th ball, from 0; one that is only begun is at fault.
+fn meet_at(numbers: &[i32], i: usize) -> Met
+    requires { ⌜ (4 * i < length (now numbers)) × (i < 256) ⌝ }
+    ensures { λ r. ⌜ cutOf r ≡ getD (cutsOf (now (numbers .entry))) i fault ⌝ }
+{
+    let k = 4 * i;
+    if numbers.len() < k + 4 {
+        return Met::Fault;
+    }
+    let u = mark_at(numbers, k);
+    let v = mark_at(numbers, k + 1);
+    let radius = mark_at(numbers, k + 2);
+    let centre = mark_at(numbers, k + 3);
+    meet_ball(u, v, radius, centre)
+}
+
+// All the balls of one line, in turn.
+fn gather(numbers: &[i32], bytes: &mut [u8], keys: &mut [u64]) -> Row
+    requires { ⌜ (length (now numbers) ≤ 1024) × (length (now bytes) ≡ 256) × (length (now keys) ≡ 512) ⌝ }
+    ensures { λ r. ⌜ Ends 18 (cutsOf (now (numbers .entry))) (now (bytes .exit)) (now (keys .exit)) r ⌝ }
+{
+    let mut i = 0usize;
+    let mut m = 0usize;
+    while 4 * i < numbers.len() {
+        let met = meet_at(numbers, i);
+        match cross_cuts::add(met, i, m, bytes, keys) {
+            Added::Fault => {
+                return Row::Fault(i);
+            }
+            Added::Count(n) => {
+                m = n;
+                i += 1;
+            }
+        }
+    }
+    Row::Count(m)
+}
+
+// Crosses the balls that are lent with one line.
+pub fn cross(
+    numbers: &[i32],
+    starts: &mut [u8],
+    positions: &mut [i32],
+    shapes: &mut [u16],
+) -> CrossAnswer
+    ensures { λ r. ⌜ Promise (crossing (now (numbers .entry)) (length (now (starts .entry))) (length (now (positions .entry))) (length (now (shapes .entry))))
+        (lists (now (starts .entry)) (now (positions .entry)) (now (shapes .entry))) r (lists (now (starts .exit)) (now (positions .exit)) (now (shapes .exit))) ⌝ }
+{
+    let long = numbers.len();
+    if 1024 < long {
+        return CrossAnswer::Refused {
+            number: 18,
+            place: 256,
+        };
+    }
+    let n = (long + 3) / 4;
+    let mut bytes = [0u8; 256];
+    let mut keys = [0u64; 512];
+    match gather(numbers, &mut bytes, &mut keys) {
+        Row::Fault(i) => CrossAnswer::Refused {
+            number: 18,
+            place: i,
+        },
+        Row::Count(m) => { cross_answer::give(n, m, &bytes, &mut keys, starts, positions, shapes) }
+    }
+}

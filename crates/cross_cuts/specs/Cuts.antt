@@ -1,0 +1,74 @@
+-- One line's answer, from what the line has of each shape: document 02, 'Crossings from the drawing's own numbers'.
+use Prim.Native.Nat.{ℕ, _+_}
+use mathlib.Core.Bool.{Bool, true, false, not, cond, _&&_, _||_}
+use mathlib.Core.List.{List, [], _∷_, _++_, map}
+use lib.Dec.{ltb, leb}
+use lib.IntN.{ℤ}
+use lib.ListN.{length}
+use lib.Signed.{ltZ}
+use Rattle.outcome.specs.Outcome.{Outcome, given, need, _>>_}
+use Rattle.cross_order.specs.Order.{inOrder}
+
+-- What a line has of one shape: the shape is at fault; or whether it starts inside, and the positions where it is crossed.
+pub data Cut : Type 0 where
+  fault : Cut
+  cut : Bool → List ℤ → Cut
+
+abbrev pub sound : Cut → Bool
+sound fault = false
+sound (cut inside positions) = true
+
+abbrev pub positionsOf : Cut → List ℤ
+positionsOf fault = []
+positionsOf (cut inside positions) = positions
+
+-- A start row has "one byte a shape, 1 for inside".
+abbrev pub startOf : Cut → ℕ
+startOf fault = 0
+startOf (cut inside positions) = cond inside 1 0
+
+abbrev pub startRow : List Cut → List ℕ
+startRow cuts = map startOf cuts
+
+-- A crossing: its position and its shape's number.
+pub data Crossing : Type 0 where
+  crossing : ℤ → ℕ → Crossing
+
+abbrev pub positionOf : Crossing → ℤ
+positionOf (crossing position shape) = position
+
+abbrev pub shapeOf : Crossing → ℕ
+shapeOf (crossing position shape) = shape
+
+-- The crossings of the shapes from number i on.
+unfoldable pub crossingsFrom : ℕ → List Cut → List Crossing
+crossingsFrom i [] = []
+crossingsFrom i (c ∷ cs) = map (λ p. crossing p i) (positionsOf c) ++ crossingsFrom (i + 1) cs
+
+-- "By rising position, then rising shape number."
+abbrev pub before : Crossing → Crossing → Bool
+before (crossing p i) (crossing q j) = ltZ p q || (not (ltZ q p) && ltb i j)
+
+abbrev pub crossings : List Cut → List Crossing
+crossings cuts = inOrder before (crossingsFrom 0 cuts)
+
+-- The first shape at fault, from number i on, is refused with this number; the place is the shape's number.
+unfoldable pub faultless : ℕ → ℕ → List Cut → Outcome (Unit {0})
+faultless number i [] = given tt
+faultless number i (c ∷ cs) = do
+  need (sound c) number i
+  faultless number (i + 1) cs
+
+-- "Then 9 for start row, positions and shapes in turn, by the entries given."
+abbrev pub roomy : List Cut → ℕ → ℕ → ℕ → Outcome (Unit {0})
+roomy cuts starts positions shapes = do
+  need (leb (length (startRow cuts)) starts) 9 (length (startRow cuts))
+  need (leb (length (crossings cuts)) positions) 9 (length (crossings cuts))
+  need (leb (length (crossings cuts)) shapes) 9 (length (crossings cuts))
+
+-- What the shapes of one line give, with the lengths of the lists lent for start row, positions and shapes.
+unfoldable pub answered : ℕ → List Cut → ℕ → ℕ → ℕ → Outcome (List Cut)
+answered number cuts starts positions shapes = do
+  faultless number 0 cuts
+  roomy cuts starts positions shapes
+  given cuts

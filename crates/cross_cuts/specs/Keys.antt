@@ -1,0 +1,69 @@
+-- How the code holds one line's crossings: what it meets of a shape, a key for each crossing, and what it has gathered so far.
+use Prim.Native.Nat.{ℕ, _+_, _*_, _/_, _%_, _≤_}
+use mathlib.Core.Path.{_≡_}
+use mathlib.Core.Bool.{Bool, true, false, cond}
+use mathlib.Core.List.{List, [], _∷_, _++_, map}
+use lib.ListN.{length, take, drop}
+use Rattle.outcome.specs.Outcome.{given, refused}
+use Rattle.cross_marks.specs.Marks.{unmark}
+use Rattle.cross_cuts.specs.Cuts.{Cut, fault, cut, sound, startRow, Crossing, crossing, crossingsFrom, faultless}
+use Rattle.cross_cuts.specs.declared.Met.{Met}
+use Rattle.cross_cuts.specs.declared.Met.the-variants.{Fault, Never, Once, Twice}
+use Rattle.cross_cuts.specs.declared.Added.{Added}
+use Rattle.cross_cuts.specs.declared.Added.the-variants as added
+use Rattle.cross_cuts.specs.declared.Row.{Row}
+use Rattle.cross_cuts.specs.declared.Row.the-variants as row
+
+-- What the line has of a shape, by what the code meets: no, one or two crossings, each by its mark.
+abbrev pub cutOf : Met → Cut
+cutOf Fault = fault
+cutOf (Never inside) = cut inside []
+cutOf (Once inside a) = cut inside (unmark a ∷ [])
+cutOf (Twice a b) = cut false (unmark a ∷ unmark b ∷ [])
+
+-- A crossing's key rises as positions do, and at one position as shapes do.
+abbrev pub keyOf : ℕ → ℕ → ℕ
+keyOf mark shape = mark * 256 + shape
+
+abbrev pub crossingOf : ℕ → Crossing
+crossingOf key = crossing (unmark (key / 256)) (key % 256)
+
+abbrev pub bitOf : Bool → ℕ
+bitOf inside = cond inside 1 0
+
+-- A byte for each of 256 shapes, a key for each of 512 crossings; i shapes and m crossings are there.
+pub record Held (starts keys : List ℕ) (i m : ℕ) : Type 0 where
+  pub starts-sized : length starts ≡ 256
+  pub keys-sized : length keys ≡ 512
+  pub some : i ≤ 256
+  pub few : m ≤ 2 * i
+
+-- What is there is what these cuts give.
+pub record Gathered (cuts : List Cut) (starts keys : List ℕ) (i m : ℕ) : Type 0 where
+  pub all : length cuts ≡ i
+  pub started : take i starts ≡ startRow cuts
+  pub keyed : map crossingOf (take m keys) ≡ crossingsFrom 0 cuts
+
+-- One cut more: it is at fault, or it is there with the others.
+abbrev pub Adds : Cut → List ℕ → List ℕ → ℕ → ℕ → List ℕ → List ℕ → Added → Type 0
+Adds c starts keys i m starts′ keys′ added.Fault = c ≡ fault
+Adds c starts keys i m starts′ keys′ (added.Count n) =
+    (sound c ≡ true) × Held starts′ keys′ (i + 1) n × ((cuts : List Cut) → Gathered cuts starts keys i m → Gathered (cuts ++ (c ∷ [])) starts′ keys′ (i + 1) n)
+
+-- The first i of all the cuts are gathered, and what is left decides which is at fault.
+pub record Going (number : ℕ) (all : List Cut) (starts keys : List ℕ) (i m : ℕ) : Type 0 where
+  pub held : Held starts keys i m
+  pub within : i ≤ length all
+  pub gathered : Gathered (take i all) starts keys i m
+  pub left : faultless number 0 all ≡ faultless number i (drop i all)
+
+-- All of them are gathered, and none is at fault.
+pub record Complete (number : ℕ) (all : List Cut) (starts keys : List ℕ) (n m : ℕ) : Type 0 where
+  pub held : Held starts keys n m
+  pub gathered : Gathered all starts keys n m
+  pub none : faultless number 0 all ≡ given tt
+
+-- By cases: the first cut at fault, which is refused; or all of them are gathered.
+abbrev pub Ends : ℕ → List Cut → List ℕ → List ℕ → Row → Type 0
+Ends number all starts keys (row.Fault i) = faultless number 0 all ≡ refused number i
+Ends number all starts keys (row.Count m) = Complete number all starts keys (length all) m

@@ -1,0 +1,4 @@
+pub mod Cuts
+pub mod Every
+pub mod Fit
+pub mod Keys

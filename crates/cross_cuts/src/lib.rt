@@ -1,0 +1,71 @@
+// What a line meets of each shape, gathered: the start row's bytes, and a key for each crossing.
+ghost use mathlib.Core.Path.{_≡_};
+ghost use Prim.Native.Nat.{_+_, _*_, _<_};
+ghost use Rattle.cross_cuts.specs.Keys.{cutOf, keyOf, bitOf, Held, Adds};
+
+// What a line meets of a shape: the shape is at fault; or whether it starts inside, with no, one or two crossings, each by its mark.
+pub enum Met {
+    Fault,
+    Never(bool),
+    Once(bool, u32),
+    Twice(u32, u32),
+}
+
+// A shape taken in: it is at fault, or so many crossings are there now.
+pub enum Added {
+    Fault,
+    Count(usize),
+}
+
+// What all the shapes of one line give: the first at fault, or so many crossings.
+pub enum Row {
+    Fault(usize),
+    Count(usize),
+}
+
+fn wide(x: u32) -> u64
+    ensures { λ r. ⌜ (r ≡ x) × (r < 4294967296) ⌝ }
+{
+    x as u64
+}
+
+fn key(mark: u32, shape: usize) -> u64
+    requires { ⌜ shape < 256 ⌝ }
+    ensures { λ r. ⌜ r ≡ keyOf mark shape ⌝ }
+{
+    wide(mark) * 256 + shape as u64
+}
+
+fn bit(inside: bool) -> u8
+    ensures { λ r. ⌜ r ≡ bitOf inside ⌝ }
+{
+    if inside {
+        return 1;
+    }
+    0
+}
+
+// Takes in what is met of shape i, where m crossings are there.
+pub fn add(met: Met, i: usize, m: usize, starts: &mut [u8], keys: &mut [u64]) -> Added
+    requires { ⌜ Held (now starts) (now keys) i m × (i < 256) ⌝ }
+    ensures { λ r. ⌜ Adds (cutOf met) (now (starts .entry)) (now (keys .entry)) i m (now (starts .exit)) (now (keys .exit)) r ⌝ }
+{
+    match met {
+        Met::Fault => Added::Fault,
+        Met::Never(inside) => {
+            starts[i] = bit(inside);
+            Added::Count(m)
+        }
+        Met::Once(inside, a) => {
+            starts[i] = bit(inside);
+            keys[m] = key(a, i);
+            Added::Count(m + 1)
+        }
+        Met::Twice(a, b) => {
+            starts[i] = 0;
+            keys[m] = key(a, i);
+            keys[m + 1] = key(b, i);
+            Added::Count(m + 2)
+        }
+    }
+}

@@ -1,0 +1,4 @@
+pub mod LentLaws
+pub mod LineLaws
+pub mod Theorems
+pub mod Cases

@@ -1,0 +1,3 @@
+pub mod Positions
+pub mod Found
+pub mod Fields

@@ -1,0 +1,4 @@
+pub mod FloatLaws
+pub mod BoxLaws
+pub mod ShapeLaws
+pub mod RangeLaws
