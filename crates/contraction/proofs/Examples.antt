@@ -2,11 +2,11 @@
 use mathlib.Core.Path.{_≡_, refl}
 use mathlib.Core.List.{[], _∷_}
 use Rattle.formula.specs.Formula.{union, difference}
-use Rattle.contraction.specs.Records.{E-rec, R-right, C-rec}
+use Rattle.contraction.specs.Records.{right, E-rec, R-rec, C-rec}
 use Rattle.contraction.specs.Rounds.{tip, one, two, rakes, raked, compresses, compressed}
 
 -- A leaf that this step makes is not raked in it: the node above it has the one leaf child that the round found.
-made-leaf-waits : (rakes (two difference (two union (tip 0) (tip 1)) (tip 2)) ≡ E-rec union 0 1 ∷ R-right difference 2 ∷ [])
+made-leaf-waits : (rakes (two difference (two union (tip 0) (tip 1)) (tip 2)) ≡ E-rec union 0 1 ∷ R-rec right difference 2 ∷ [])
     × (raked (two difference (two union (tip 0) (tip 1)) (tip 2)) 3 ≡ one 4 (tip 3))
 made-leaf-waits = (refl, refl)
 

@@ -3,18 +3,17 @@ use Prim.Native.Nat.{ℕ, zero, suc}
 use mathlib.Core.Path.{_≡_, refl}
 use mathlib.Core.Bool.{true, false}
 use mathlib.Core.Option.{Option, none, some}
-use lib.Dec.{eqb}
-use Rattle.formula.specs.Formula.{Op, union, intersection, difference, exclusive, Formula, leaf, node}
-use Rattle.contraction.specs.Records.{Rec}
+use Rattle.formula.specs.Formula.{Op, Formula, leaf, node}
+use Rattle.contraction.specs.Records.{Rec, isLeaf}
 use Rattle.contraction.specs.Rounds.{Work, tip, one, two, tipOf, rakeOne, rakeTwo, rakes, raked, compresses, roundMakes, roundLeaves, leafRecs}
 use Rattle.contraction.proofs.Rounds.{allMade}
 use Rattle.contraction.proofs.Worked.{Each, each-append}
 
 abbrev pub IsLeaf : ℕ → Rec → Type 0
-IsLeaf n r = eqb (r .kind) 0 ≡ true
+IsLeaf n r = isLeaf (r .kind) ≡ true
 
 abbrev pub NoLeaf : ℕ → Rec → Type 0
-NoLeaf n r = eqb (r .kind) 0 ≡ false
+NoLeaf n r = isLeaf (r .kind) ≡ false
 
 pub leafRecs-leaf : (f : Formula) (n : ℕ) → Each IsLeaf n (leafRecs f)
 leafRecs-leaf (leaf s) n = (refl, tt)
@@ -26,18 +25,9 @@ one-none d none n = tt
 
 two-none : (o : Op) (a b : Option ℕ) (n : ℕ) → Each NoLeaf n (rakeTwo o a b)
 two-none o none none n = tt
-two-none union (some a) (some b) n = (refl, tt)
-two-none union (some a) none n = (refl, tt)
-two-none union none (some b) n = (refl, tt)
-two-none intersection (some a) (some b) n = (refl, tt)
-two-none intersection (some a) none n = (refl, tt)
-two-none intersection none (some b) n = (refl, tt)
-two-none difference (some a) (some b) n = (refl, tt)
-two-none difference (some a) none n = (refl, tt)
-two-none difference none (some b) n = (refl, tt)
-two-none exclusive (some a) (some b) n = (refl, tt)
-two-none exclusive (some a) none n = (refl, tt)
-two-none exclusive none (some b) n = (refl, tt)
+two-none o (some a) (some b) n = (refl, tt)
+two-none o (some a) none n = (refl, tt)
+two-none o none (some b) n = (refl, tt)
 
 rakes-none : (w : Work) (n : ℕ) → Each NoLeaf n (rakes w)
 rakes-none (tip d) n = tt

@@ -11,11 +11,10 @@ use borrow.Author.Tests.{eqb-true, eqb-false, eq-eqb, ne-eqb}
 use lib.ListN.{length}
 use Rattle.formula.specs.Formula.{Op, Formula, leaf, node, leaves}
 use Rattle.formula.specs.States.{times}
-use Rattle.contraction.specs.Records.{Rec, children, E-rec, R-left, R-right, S-rec, C-rec}
+use Rattle.contraction.specs.Records.{Side, left, right, Rec, children, E-rec, R-rec, S-rec, C-rec}
 use Rattle.contraction.specs.Rounds.{Work, tip, one, two, tipOf, rakeOne, rakeTwo, rakes, leftOne, leftTwo, raked}
 use Rattle.contraction.specs.Rounds.{compresses, compressed, roundMakes, roundLeaves, planted, leafRecs, enough, dwarf}
 use Rattle.contraction.proofs.Rounds.{allMade, remains, dwarf-all, length-leafRecs, root}
-use Rattle.contraction.proofs.Order.{children-E, children-left, children-right}
 
 -- how often node c is a child in a record, and in a list of records
 abbrev pub refs : ℕ → Rec → ℕ
@@ -81,15 +80,11 @@ born-some (r ∷ rs) c n h k = go (eqb c n) refl (born-some rs c (suc n))
 module _ (c : ℕ) where
   refs-E : (o : Op) (a b : ℕ) → refs c (E-rec o a b) ≡ hit c a + (hit c b + 0)
   unfolding times
-  refs-E o a b = rw (children-E o a b)
+  refs-E o a b = refl
 
-  refs-left : (o : Op) (a : ℕ) → refs c (R-left o a) ≡ hit c a + 0
+  refs-R : (side : Side) (o : Op) (a : ℕ) → refs c (R-rec side o a) ≡ hit c a + 0
   unfolding times
-  refs-left o a = rw (children-left o a)
-
-  refs-right : (o : Op) (a : ℕ) → refs c (R-right o a) ≡ hit c a + 0
-  unfolding times
-  refs-right o a = rw (children-right o a)
+  refs-R side o a = refl
 
   refs-S : (a b : ℕ) → refs c (S-rec a b) ≡ hit c a + (hit c b + 0)
   unfolding times
@@ -109,10 +104,10 @@ module _ (c : ℕ) where
       → ((v : ℕ) → tipOf l ≡ some v → occ c l′ ≡ hit c v) → ((v : ℕ) → tipOf r ≡ some v → occ c r′ ≡ hit c v)
       → us + uses c (rakeTwo o (tipOf l) (tipOf r)) + occ c (leftTwo o (tipOf l) (tipOf r) l′ r′ n) ≡ occ c l + occ c r + (bs + born c n (rakeTwo o (tipOf l) (tipOf r)))
   two-occ o (tip a) (tip b) l′ r′ n us bs e p q = omega (arith, p a refl, q b refl, refs-E o a b)
-  two-occ o (tip a) (one d w) l′ r′ n us bs e p q = omega (arith, p a refl, refs-left o a)
-  two-occ o (tip a) (two f w d) l′ r′ n us bs e p q = omega (arith, p a refl, refs-left o a)
-  two-occ o (one d w) (tip b) l′ r′ n us bs e p q = omega (arith, q b refl, refs-right o b)
-  two-occ o (two f w d) (tip b) l′ r′ n us bs e p q = omega (arith, q b refl, refs-right o b)
+  two-occ o (tip a) (one d w) l′ r′ n us bs e p q = omega (arith, p a refl, refs-R left o a)
+  two-occ o (tip a) (two f w d) l′ r′ n us bs e p q = omega (arith, p a refl, refs-R left o a)
+  two-occ o (one d w) (tip b) l′ r′ n us bs e p q = omega (arith, q b refl, refs-R right o b)
+  two-occ o (two f w d) (tip b) l′ r′ n us bs e p q = omega (arith, q b refl, refs-R right o b)
   two-occ o (one d w) (one d′ w′) l′ r′ n us bs e p q = omega arith
   two-occ o (one d w) (two f w′ d′) l′ r′ n us bs e p q = omega arith
   two-occ o (two f w d) (one d′ w′) l′ r′ n us bs e p q = omega arith

@@ -7,7 +7,7 @@ use mathlib.Core.List.{List, [], _∷_, _++_}
 use mathlib.Core.Option.{Option, none, some}
 use lib.ListN.{length, length-append}
 use Rattle.formula.specs.Formula.{Op, union, intersection, difference, exclusive, Formula, leaf, node, leaves}
-use Rattle.contraction.specs.Records.{Rec, leafRec, E-rec, R-left, R-right, S-rec, C-rec, children}
+use Rattle.contraction.specs.Records.{Side, left, right, Rec, leafRec, E-rec, R-rec, S-rec, C-rec, children}
 use Rattle.contraction.specs.Rounds.{Work, tip, one, two, tipOf, rakeOne, rakeTwo, rakes, leftOne, leftTwo, raked}
 use Rattle.contraction.specs.Rounds.{compresses, compressed, roundMakes, roundLeaves, planted, leafRecs, enough, dwarf}
 use Rattle.contraction.specs.Height.{worked}
@@ -29,8 +29,7 @@ below-mono (two o l r) n m h b = (below-mono l n m h (b .0), below-mono r n m h 
 pub record Kinds (P : ℕ → Rec → Type 0) : Type 0 where
   pub at-leaf : (s n : ℕ) → P n (leafRec s)
   pub at-E : (o : Op) (a b n : ℕ) → a < n → b < n → P n (E-rec o a b)
-  pub at-left : (o : Op) (a n : ℕ) → a < n → P n (R-left o a)
-  pub at-right : (o : Op) (a n : ℕ) → a < n → P n (R-right o a)
+  pub at-R : (side : Side) (o : Op) (a n : ℕ) → a < n → P n (R-rec side o a)
   pub at-S : (a b n : ℕ) → a < n → b < n → P n (S-rec a b)
   pub at-C : (a b n : ℕ) → a < n → b < n → P n (C-rec a b)
 
@@ -42,10 +41,10 @@ module _ (P : ℕ → Rec → Type 0) (ok : Kinds P) where
 
   two-each : (o : Op) (l r : Work) (n m : ℕ) → Below n l → Below n r → n ≤ m → Each P m (rakeTwo o (tipOf l) (tipOf r))
   two-each o (tip a) (tip b) n m p q h = (ok .at-E o a b m (omega arith) (omega arith), tt)
-  two-each o (tip a) (one d c) n m p q h = (ok .at-left o a m (omega arith), tt)
-  two-each o (tip a) (two e c d) n m p q h = (ok .at-left o a m (omega arith), tt)
-  two-each o (one d c) (tip b) n m p q h = (ok .at-right o b m (omega arith), tt)
-  two-each o (two e c d) (tip b) n m p q h = (ok .at-right o b m (omega arith), tt)
+  two-each o (tip a) (one d c) n m p q h = (ok .at-R left o a m (omega arith), tt)
+  two-each o (tip a) (two e c d) n m p q h = (ok .at-R left o a m (omega arith), tt)
+  two-each o (one d c) (tip b) n m p q h = (ok .at-R right o b m (omega arith), tt)
+  two-each o (two e c d) (tip b) n m p q h = (ok .at-R right o b m (omega arith), tt)
   two-each o (one d c) (one d′ c′) n m p q h = tt
   two-each o (one d c) (two e′ c′ d′) n m p q h = tt
   two-each o (two e c d) (one d′ c′) n m p q h = tt
@@ -137,25 +136,6 @@ module _ (P : ℕ → Rec → Type 0) (ok : Kinds P) where
 pub dwarf-good : (by : List ℕ → Rec → ℕ) → Kinds (Steady by) → (f : Formula) → Good by (worked by [] (dwarf f)) 0 (dwarf f)
 dwarf-good by ok f = worked-good by (dwarf f) [] 0 refl (dwarf-each (Steady by) ok f)
 
--- the nodes that each kind of record stands over
-pub children-E : (o : Op) (a b : ℕ) → children (E-rec o a b) ≡ a ∷ b ∷ []
-children-E union a b = refl
-children-E intersection a b = refl
-children-E difference a b = refl
-children-E exclusive a b = refl
-
-pub children-left : (o : Op) (a : ℕ) → children (R-left o a) ≡ a ∷ []
-children-left union a = refl
-children-left intersection a = refl
-children-left difference a = refl
-children-left exclusive a = refl
-
-pub children-right : (o : Op) (a : ℕ) → children (R-right o a) ≡ a ∷ []
-children-right union a = refl
-children-right intersection a = refl
-children-right difference a = refl
-children-right exclusive a = refl
-
 abbrev pub AllBelow : ℕ → List ℕ → Type 0
 AllBelow n [] = Unit {0}
 AllBelow n (c ∷ cs) = (c < n) × AllBelow n cs
@@ -168,9 +148,8 @@ children-below : Kinds ChildrenBelow
 children-below =
     record {
       at-leaf = λ s n. tt;
-      at-E = λ o a b n ha hb. rw (children-E o a b) (ha, (hb, tt));
-      at-left = λ o a n ha. rw (children-left o a) (ha, tt);
-      at-right = λ o a n ha. rw (children-right o a) (ha, tt);
+      at-E = λ o a b n ha hb. (ha, (hb, tt));
+      at-R = λ side o a n ha. (ha, tt);
       at-S = λ a b n ha hb. (ha, (hb, tt));
       at-C = λ a b n ha hb. (ha, (hb, tt));
     }

@@ -6,14 +6,13 @@ use mathlib.Core.Path.{_≡_, refl, subst}
 use mathlib.Core.List.{List, [], _++_}
 use lib.ListN.{length, getD}
 use Rattle.formula.specs.Formula.{Op, Formula, leaf, node, leaves}
-use Rattle.contraction.specs.Records.{Rec, E-rec, R-left, R-right}
+use Rattle.contraction.specs.Records.{Side, left, right, Rec, E-rec, R-rec}
 use Rattle.contraction.specs.Rounds.{Work, tip, one, two, nodes, tipOf, rakeOne, rakeTwo, rakes, leftOne, leftTwo, raked}
 use Rattle.contraction.specs.Rounds.{compresses, compressed, roundMakes, roundLeaves, rounds, planted, leafRecs, enough, dwarf, roundsOf}
 use Rattle.contraction.specs.Height.{path, height}
 use Rattle.contraction.proofs.Counts.{Many, four-fifths, nodes-pos}
 use Rattle.contraction.proofs.Rounds.{allMade, remains, dwarf-all, length-leafRecs, root}
 use Rattle.contraction.proofs.Worked.{Good, good-left, good-right, last-is, length-worked}
-use Rattle.contraction.proofs.Order.{children-E, children-left, children-right}
 use Rattle.contraction.proofs.Paths.{paths, paths-good}
 use Rattle.contraction.proofs.Size.{planted-nodes, height-leaf}
 
@@ -52,13 +51,10 @@ twenty-nine f h = few-rounds 29 (enough f) (planted f 0) (leaves f) 2047 (omega 
 
 module _ (xs : List ℕ) where
   path-E : (o : Op) (a b t : ℕ) → getD xs a 0 ≤ t → getD xs b 0 ≤ t → path xs (E-rec o a b) ≤ suc t
-  path-E o a b t h g = rw (children-E o a b) (omega arith)
+  path-E o a b t h g = omega arith
 
-  path-left : (o : Op) (a t : ℕ) → getD xs a 0 ≤ t → path xs (R-left o a) ≤ suc t
-  path-left o a t h = rw (children-left o a) (omega arith)
-
-  path-right : (o : Op) (a t : ℕ) → getD xs a 0 ≤ t → path xs (R-right o a) ≤ suc t
-  path-right o a t h = rw (children-right o a) (omega arith)
+  path-R : (side : Side) (o : Op) (a t : ℕ) → getD xs a 0 ≤ t → path xs (R-rec side o a) ≤ suc t
+  path-R side o a t h = omega arith
 
   abbrev Deep : ℕ → List Rec → Type 0
   Deep n rs = Good path xs n rs
@@ -83,10 +79,10 @@ module _ (xs : List ℕ) where
     two-low : (o : Op) (l r l′ r′ : Work) (n : ℕ) → Deep n (rakeTwo o (tipOf l) (tipOf r)) → Low t u l → Low t u r
         → Low t′ u′ l′ → Low t′ u′ r′ → Low t′ u′ (leftTwo o (tipOf l) (tipOf r) l′ r′ n)
     two-low o (tip a) (tip b) l′ r′ n g p q p′ q′ = omega (arith, g .0, path-E o a b t p q)
-    two-low o (tip a) (one d c) l′ r′ n g p q p′ q′ = (omega (arith, g .0, path-left o a t p), q′)
-    two-low o (tip a) (two e c d) l′ r′ n g p q p′ q′ = (omega (arith, g .0, path-left o a t p), q′)
-    two-low o (one d c) (tip b) l′ r′ n g p q p′ q′ = (omega (arith, g .0, path-right o b t q), p′)
-    two-low o (two e c d) (tip b) l′ r′ n g p q p′ q′ = (omega (arith, g .0, path-right o b t q), p′)
+    two-low o (tip a) (one d c) l′ r′ n g p q p′ q′ = (omega (arith, g .0, path-R left o a t p), q′)
+    two-low o (tip a) (two e c d) l′ r′ n g p q p′ q′ = (omega (arith, g .0, path-R left o a t p), q′)
+    two-low o (one d c) (tip b) l′ r′ n g p q p′ q′ = (omega (arith, g .0, path-R right o b t q), p′)
+    two-low o (two e c d) (tip b) l′ r′ n g p q p′ q′ = (omega (arith, g .0, path-R right o b t q), p′)
     two-low o (one d c) (one f h) l′ r′ n g p q p′ q′ = (p′, q′)
     two-low o (one d c) (two e f h) l′ r′ n g p q p′ q′ = (p′, q′)
     two-low o (two e c d) (one f h) l′ r′ n g p q p′ q′ = (p′, q′)

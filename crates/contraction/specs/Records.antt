@@ -1,12 +1,32 @@
 -- The record of a dwarf node: kind, first, second.
 use Prim.Native.Nat.{ℕ, _+_}
-use mathlib.Core.Bool.{Bool, false, cond, _||_}
+use mathlib.Core.Bool.{Bool, true, false, _||_}
 use mathlib.Core.List.{List, [], _∷_, map}
-use lib.Dec.{ltb, eqb}
+use lib.Dec.{eqb}
 use Rattle.formula.specs.Formula.{Op, index}
 
+-- Which operand was raked.
+pub data Side : Type 0 where
+  left right : Side
+
+pub data Kind : Type 0 where
+  leaf : Kind
+  E : Op → Kind
+  R : Side → Op → Kind
+  S C : Kind
+
+-- Kind 0: leaf. Kinds 1 to 4: E for union, intersection, difference, exclusive union.
+-- 5 to 8: R for the same four, the left operand raked. 9 to 12: R, the right one raked. 13: S. 14: C.
+abbrev pub number : Kind → ℕ
+number leaf = 0
+number (E o) = 1 + index o
+number (R left o) = 5 + index o
+number (R right o) = 9 + index o
+number S = 13
+number C = 14
+
 pub record Rec : Type 0 where
-  pub kind : ℕ
+  pub kind : Kind
   pub first : ℕ
   pub second : ℕ
 
@@ -14,36 +34,43 @@ pub record Rec : Type 0 where
 abbrev pub absent : ℕ
 absent = 65535
 
--- Kind 0: leaf, first is the shape.
+-- Leaf: first is the shape.
 abbrev pub leafRec : ℕ → Rec
-leafRec s = record { kind = 0; first = s; second = absent }
+leafRec s = record { kind = leaf; first = s; second = absent }
 
--- Kinds 1 to 4: E for union, intersection, difference, exclusive union (left, right).
+-- E (left, right).
 abbrev pub E-rec : Op → ℕ → ℕ → Rec
-E-rec o left right = record { kind = 1 + index o; first = left; second = right }
+E-rec o a b = record { kind = E o; first = a; second = b }
 
--- 5 to 8: R for the same four, the left operand raked.
-abbrev pub R-left : Op → ℕ → Rec
-R-left o raked = record { kind = 5 + index o; first = raked; second = absent }
+-- R over the raked operand.
+abbrev pub R-rec : Side → Op → ℕ → Rec
+R-rec side o raked = record { kind = R side o; first = raked; second = absent }
 
--- 9 to 12: R, the right one raked.
-abbrev pub R-right : Op → ℕ → Rec
-R-right o raked = record { kind = 9 + index o; first = raked; second = absent }
-
--- 13: S (pair node, value node).
+-- S (pair node, value node).
 abbrev pub S-rec : ℕ → ℕ → Rec
-S-rec pair value = record { kind = 13; first = pair; second = value }
+S-rec pair value = record { kind = S; first = pair; second = value }
 
--- 14: C (upper, lower).
+-- C (upper, lower).
 abbrev pub C-rec : ℕ → ℕ → Rec
-C-rec upper lower = record { kind = 14; first = upper; second = lower }
+C-rec upper lower = record { kind = C; first = upper; second = lower }
+
+abbrev pub isLeaf : Kind → Bool
+isLeaf leaf = true
+isLeaf (E o) = false
+isLeaf (R side o) = false
+isLeaf S = false
+isLeaf C = false
 
 -- The nodes that a record stands over: none where it is a leaf, the first alone where it is R, else both.
+abbrev pub below : Kind → ℕ → ℕ → List ℕ
+below leaf a b = []
+below (E o) a b = a ∷ b ∷ []
+below (R side o) a b = a ∷ []
+below S a b = a ∷ b ∷ []
+below C a b = a ∷ b ∷ []
+
 abbrev pub children : Rec → List ℕ
-children r =
-    cond (ltb (r .kind) 1) []
-    (cond (ltb (r .kind) 5) (r .first ∷ r .second ∷ [])
-    (cond (ltb (r .kind) 13) (r .first ∷ []) (r .first ∷ r .second ∷ [])))
+children r = below (r .kind) (r .first) (r .second)
 
 abbrev pub listed : ℕ → List ℕ → Bool
 listed c [] = false
@@ -55,7 +82,7 @@ over c r = listed c (children r)
 
 -- Building fills three answer lists with the records: kinds, firsts, seconds, one entry a dwarf node.
 abbrev pub kindsOf : List Rec → List ℕ
-kindsOf rs = map (λ r. r .kind) rs
+kindsOf rs = map (λ r. number (r .kind)) rs
 
 abbrev pub firstsOf : List Rec → List ℕ
 firstsOf rs = map (λ r. r .first) rs

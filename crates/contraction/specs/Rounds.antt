@@ -7,7 +7,7 @@ use mathlib.Core.List.{List, [], _∷_, _++_}
 use mathlib.Core.Option.{Option, none, some}
 use lib.ListN.{length}
 use Rattle.formula.specs.Formula.{Op, Formula, leaf, node, leaves}
-use Rattle.contraction.specs.Records.{Rec, leafRec, E-rec, R-left, R-right, S-rec, C-rec}
+use Rattle.contraction.specs.Records.{left, right, Rec, leafRec, E-rec, R-rec, S-rec, C-rec}
 
 -- The tree between the steps. A leaf and a one-child node have a dwarf root each, which is its number.
 pub data Work : Type 0 where
@@ -36,8 +36,8 @@ rakeOne d none = []
 -- What it makes at a two-child node: E over two leaf children, R over the one leaf child.
 abbrev pub rakeTwo : Op → Option ℕ → Option ℕ → List Rec
 rakeTwo o (some a) (some b) = E-rec o a b ∷ []
-rakeTwo o (some a) none = R-left o a ∷ []
-rakeTwo o none (some b) = R-right o b ∷ []
+rakeTwo o (some a) none = R-rec left o a ∷ []
+rakeTwo o none (some b) = R-rec right o b ∷ []
 rakeTwo o none none = []
 
 abbrev pub rakes : Work → List Rec

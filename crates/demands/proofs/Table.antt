@@ -7,7 +7,7 @@ use lib.ListN.{length}
 use Rattle.outcome.specs.Outcome.{given, part}
 use Rattle.formula.specs.Formula.{union, intersection, difference, exclusive, Formula, leaf, node, postfix}
 use Rattle.formula.specs.States.{times, toggledBy}
-use Rattle.contraction.specs.Records.{Rec}
+use Rattle.contraction.specs.Records.{number}
 use Rattle.contraction.specs.Rounds.{dwarf}
 use Rattle.sheet.specs.Sheet.{lengthAt, pastAt, bytesAt, allGood, same, taken, codesOf, allCodes, formulaOf, header, nameAt, formulaAt, fieldAt, fields, reading}
 use Rattle.accepting.specs.Accepting.{accepted}
@@ -71,8 +71,8 @@ pub data Case : Type 0 where
   bytes : List ℕ → List ℕ → Case
   -- of a sheet: leaves, dwarf nodes, rounds, height
   builds : List ℕ → Summary → Case
-  -- and its records
-  lists : List ℕ → List Rec → Case
+  -- and its records: kind, first, second
+  lists : List ℕ → List (ℕ × ℕ × ℕ) → Case
   -- of a sheet and toggles
   runs : List ℕ → List ℕ → Answers → Case
   -- of a sheet and the crossings of line 0, by position and shape: walls by start and end
@@ -81,7 +81,7 @@ pub data Case : Type 0 where
 abbrev pub Holds : Case → Type 0
 Holds (bytes s b) = s ≡ b
 Holds (builds s n) = part summaryOf (building s room room room) ≡ given n
-Holds (lists s rs) = part dwarf (building s room room room) ≡ given rs
+Holds (lists s rs) = part (λ f. map (λ r. (number (r .kind), r .first, r .second)) (dwarf f)) (building s room room room) ≡ given rs
 Holds (runs s ts a) = part (ranOn ts) (running s ts room room room) ≡ given a
 Holds (walls s xs ws) =
     classifying s (map (λ x. 0) xs) (map (λ x. x .0) xs) (map (λ x. x .1) xs) room room room
@@ -91,9 +91,6 @@ abbrev pub All : List Case → Type 0
 All [] = Unit {0}
 All (c ∷ cs) = Holds c × All cs
 
-abbrev pub rec : ℕ → ℕ → ℕ → Rec
-rec k f s = record { kind = k; first = f; second = s }
-
 -- ---- The table
 
 abbrev pub table : List Case
@@ -101,7 +98,7 @@ table =
     -- The worked sheet, 30 bytes, and its listing.
     bytes worked (0x01 ∷ 0x00 ∷ 0x02 ∷ 0x00 ∷ 0x01 ∷ 0x02 ∷ 0x00 ∷ 0x01 ∷ 0x41 ∷ 0x02 ∷ 0x00 ∷ 0x01 ∷ 0x42 ∷ 0x02 ∷ 0x00 ∷ 0x01 ∷ 0x43 ∷ 0x03 ∷ 0x00 ∷ 0x0A ∷ 0x00 ∷ 0x00 ∷ 0x00 ∷ 0x01 ∷ 0x00 ∷ 0x02 ∷ 0xFF ∷ 0xF0 ∷ 0xFF ∷ 0xF2 ∷ [])
     ∷ builds worked (summary 3 6 2 2)
-    ∷ lists worked (rec 0 0 65535 ∷ rec 0 1 65535 ∷ rec 0 2 65535 ∷ rec 1 1 2 ∷ rec 7 0 65535 ∷ rec 13 4 3 ∷ [])
+    ∷ lists worked ((0, 0, 65535) ∷ (0, 1, 65535) ∷ (0, 2, 65535) ∷ (1, 1, 2) ∷ (7, 0, 65535) ∷ (13, 4, 3) ∷ [])
     -- Toggles A, B, C, A on it.
     ∷ runs worked (0 ∷ 1 ∷ 2 ∷ 0 ∷ []) (answers (1 ∷ 0 ∷ 0 ∷ 0 ∷ []) (2 ∷ 2 ∷ 1 ∷ 2 ∷ []) (0 ∷ 1 ∷ 1 ∷ 1 ∷ 0 ∷ 0 ∷ []))
     -- Toggles B, C: the same labels.

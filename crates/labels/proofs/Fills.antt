@@ -13,7 +13,7 @@ use lib.Seq.{getD-set-same, getD-set-other, getD-take, take-suc-set}
 use borrow.Author.Tests.{eqb-true, eqb-false, eq-eqb, ne-eqb}
 use Rattle.formula.specs.States.{outside}
 use Rattle.contraction.specs.Records.{Rec, absent, children, listed, over}
-use Rattle.contraction.specs.Steps.{recAt, recs}
+use Rattle.contraction.specs.Steps.{entries, recAt, recs}
 use Rattle.contraction.proofs.Worked.{worked-snoc}
 use Rattle.contraction.proofs.Steps.{recs-more, recs-next}
 use Rattle.labels.specs.Labels.{label, labels, isOf}
@@ -32,7 +32,7 @@ module _ (p : Rec → Bool) (j : ℕ) (r : Rec) (rs : List Rec) where
 
 module _ (ks fs ss : List ℕ) where
   pub seek-none : (p : Rec → Bool) (j k d : ℕ) → d ≡ 0 → seek p j (recs ks fs ss k d) ≡ absent
-  unfolding recs seek
+  unfolding entries seek
   seek-none p j k d e = rw e
 
   -- where no record passes
@@ -65,7 +65,7 @@ module _ (ks fs ss : List ℕ) where
 
 module _ {ks fs ss : List ℕ} where
   pub labels-start : (nodes : ℕ) → LabelsTo ks fs ss nodes 0 (replicate 3072 0)
-  unfolding recs
+  unfolding entries
   labels-start nodes = record { within = omega arith; long = length-replicate {A = ℕ} 3072 0; so = refl }
 
   pub labels-more : {leaves nodes j v : ℕ} {ls : List ℕ} → Shaped ks fs ss leaves nodes → LabelsTo ks fs ss nodes j ls → j < nodes
@@ -147,7 +147,7 @@ module _ {ks fs ss : List ℕ} where
         longer = length-replicate {A = ℕ} 1024 65535;
         heads = λ s l.
             getD-replicate 256 s 65535 0 l
-            ∙ sym (seek-all ks fs ss (isOf s) (nodes - leaves) leaves (λ i b t. ap (λ z. z && eqb (getD fs i 0) s) (ne-eqb (getD ks i 0) 0 (sh .inner i b (omega (arith, sh .within))))));
+            ∙ sym (seek-all ks fs ss (isOf s) (nodes - leaves) leaves (λ i b t. ap (λ z. z && eqb (getD fs i 0) s) (sh .inner i b (omega (arith, sh .within)))));
         nexts = λ i b l. absurd (omega arith);
       }
 
@@ -185,7 +185,7 @@ module _ {ks fs ss : List ℕ} where
         j′ = omega arith
 
         is : (s : ℕ) → isOf s r ≡ eqb (getD fs k 0) s
-        is s = ap (λ z. z && eqb (getD fs k 0) s) (eq-eqb (getD ks k 0) 0 (sh .leaf k (omega (arith, u .within))))
+        is s = ap (λ z. z && eqb (getD fs k 0) s) (sh .leaf k (omega (arith, u .within)))
 
         head : (s : ℕ) → s < 256 → (b : Bool) → eqb s t ≡ b → getD (set hs t k) s 0 ≡ seek (isOf s) k (r ∷ recs ks fs ss (suc k) (nodes - suc k))
         head s l true z =

@@ -6,9 +6,8 @@ use mathlib.Core.Path.{_≡_, refl, sym, ap, _∙_}
 use mathlib.Core.List.{List, [], _∷_, _++_, map}
 use lib.ListN.{length, getD, take, length-append, length-map, List·getD-append, List·getD-map}
 use lib.Seq.{take-all, getD-take, getD-append-add}
-use borrow.Author.Tests.{eqb-true, eqb-false}
 use Rattle.formula.specs.Formula.{Formula, leaf, node, Over, leaves as leavesOf}
-use Rattle.contraction.specs.Records.{Rec, over}
+use Rattle.contraction.specs.Records.{leaf as leafKind, number, Rec, kindsOf, firstsOf, secondsOf, isLeaf, over}
 use Rattle.contraction.specs.Rounds.{dwarf, leafRecs, enough, planted}
 use Rattle.contraction.proofs.Worked.{Each, each-append}
 use Rattle.contraction.proofs.Rounds.{allMade, dwarf-all, length-leafRecs, root}
@@ -17,12 +16,13 @@ use Rattle.contraction.proofs.Over.{over-below}
 use Rattle.contraction.proofs.Leaves.{IsLeaf, NoLeaf, leafRecs-leaf, made-none}
 use Rattle.contraction.proofs.Size.{dwarf-few}
 use Rattle.labels.specs.Arrays.{Holds}
-use Rattle.contraction.specs.Steps.{recAt, recs}
+use Rattle.contraction.specs.Steps.{entries, kindAt, recAt, recs}
+use Rattle.contraction.proofs.Steps.{record-entry}
 use Rattle.labels.specs.Steps.{Shaped}
 
 -- record i of a list, where there is one
 abbrev blank : Rec
-blank = record { kind = 0; first = 0; second = 0 }
+blank = record { kind = leafKind; first = 0; second = 0 }
 
 abbrev at : List Rec → ℕ → Rec
 at rs i = getD rs i blank
@@ -37,7 +37,7 @@ field-at : (f : Rec → ℕ) → f blank ≡ 0 → (rs : List Rec) (xs : List �
 field-at f z rs xs n i e h = sym (getD-take n xs i 0 h) ∙ ap (λ l. getD l i 0) e ∙ ap (getD (map f rs) i) (sym z) ∙ List·getD-map f rs i blank
 
 recs-at : (ks fs ss : List ℕ) (rs : List Rec) (i : ℕ) → ((k : ℕ) → k < length rs → recAt ks fs ss (i + k) ≡ at rs k) → recs ks fs ss i (length rs) ≡ rs
-unfolding recs
+unfolding entries
 recs-at ks fs ss [] i e = refl
 recs-at ks fs ss (r ∷ rs) i e =
     let here : recAt ks fs ss i ≡ r = ap (recAt ks fs ss) (sym (add-zero i)) ∙ e 0 (omega arith) in
@@ -48,10 +48,11 @@ module _ (ks fs ss : List ℕ) (leaves nodes : ℕ) (f : Formula) (h : Holds ks 
   rec-at : (i : ℕ) → i < nodes → recAt ks fs ss i ≡ at (dwarf f) i
   rec-at i l =
       rw (
-        field-at (λ r. r .kind) refl (dwarf f) ks nodes i (h .kinds-are) l,
-        field-at (λ r. r .first) refl (dwarf f) fs nodes i (h .firsts-are) l,
-        field-at (λ r. r .second) refl (dwarf f) ss nodes i (h .seconds-are) l,
+        field-at (λ (r : Rec). number (r .kind)) refl (dwarf f) ks nodes i (h .kinds-are) l,
+        field-at (λ (r : Rec). r .first) refl (dwarf f) fs nodes i (h .firsts-are) l,
+        field-at (λ (r : Rec). r .second) refl (dwarf f) ss nodes i (h .seconds-are) l,
       )
+      (record-entry (at (dwarf f) i))
 
   pub held-records : recs ks fs ss 0 nodes ≡ dwarf f
   held-records =
@@ -84,8 +85,8 @@ leafRecs-named (leaf s) n o = (o, tt)
 leafRecs-named (node op l r) n o = each-append Named (leafRecs l) (leafRecs r) n (leafRecs-named l n (o .0)) (leafRecs-named r _ (o .1))
 
 module _ (ks fs ss : List ℕ) (leaves nodes : ℕ) (f : Formula) (h : Holds ks fs ss leaves nodes f) where
-  kind-is : (i : ℕ) → i < nodes → getD ks i 0 ≡ at (dwarf f) i .kind
-  kind-is i l = ap (λ r. r .kind) (rec-at ks fs ss leaves nodes f h i l)
+  kind-is : (i : ℕ) → i < nodes → isLeaf (kindAt (getD ks i 0)) ≡ isLeaf (at (dwarf f) i .kind)
+  kind-is i l = ap (λ (r : Rec). isLeaf (r .kind)) (rec-at ks fs ss leaves nodes f h i l)
 
   pub held-shaped : Shaped ks fs ss leaves nodes
   unfolding made
@@ -98,14 +99,13 @@ module _ (ks fs ss : List ℕ) (leaves nodes : ℕ) (f : Formula) (h : Holds ks 
         some = omega (arith, h .nodes-are, root f .2);
         room = omega (arith, h .nodes-are, dwarf-few f (h .few));
         leaf = λ i l.
-            kind-is i (omega arith) ∙ ap (λ r. r .kind) (leaf-at f i (omega (arith, h .leaves-are)))
-            ∙ eqb-true _ 0 (each-at IsLeaf (leafRecs f) 0 i (leafRecs-leaf f 0) (omega (arith, h .leaves-are, length-leafRecs f)));
-        inner = λ i b l z.
-            eqb-false (at (made f) (i - leavesOf f) .kind) 0
-            (each-at NoLeaf (made f) 0 (i - leavesOf f) (made-none (enough f) (planted f 0) (leavesOf f) 0) (omega (arith, h .leaves-are, h .nodes-are)))
-            (sym (kind-is i l ∙ ap (λ r. r .kind) (inner-at f i (omega (arith, h .leaves-are)))) ∙ z);
+            kind-is i (omega arith) ∙ ap (λ (r : Rec). isLeaf (r .kind)) (leaf-at f i (omega (arith, h .leaves-are)))
+            ∙ each-at IsLeaf (leafRecs f) 0 i (leafRecs-leaf f 0) (omega (arith, h .leaves-are, length-leafRecs f));
+        inner = λ i b l.
+            kind-is i l ∙ ap (λ (r : Rec). isLeaf (r .kind)) (inner-at f i (omega (arith, h .leaves-are)))
+            ∙ each-at NoLeaf (made f) 0 (i - leavesOf f) (made-none (enough f) (planted f 0) (leavesOf f) 0) (omega (arith, h .leaves-are, h .nodes-are));
         named = λ i l.
-            let e = ap (λ r. r .first) (rec-at ks fs ss leaves nodes f h i (omega arith) ∙ leaf-at f i (omega (arith, h .leaves-are))) in
+            let e = ap (λ (r : Rec). r .first) (rec-at ks fs ss leaves nodes f h i (omega arith) ∙ leaf-at f i (omega (arith, h .leaves-are))) in
             omega (arith, each-at Named (leafRecs f) 0 i (leafRecs-named f 0 (h .named)) (omega (arith, h .leaves-are, length-leafRecs f)));
         below = λ i c l o.
             over-below (at (dwarf f) i) i c (rw (zero-add i) at (each-at ChildrenBelow (dwarf f) 0 i (children-smaller f) (omega (arith, h .nodes-are))))
@@ -114,16 +114,16 @@ module _ (ks fs ss : List ℕ) (leaves nodes : ℕ) (f : Formula) (h : Holds ks 
 
 -- every formula within the limits is held by its own records
 pub dwarf-held : (f : Formula) → leavesOf f ≤ 1024 → Over 256 f
-    → Holds (map (λ r. r .kind) (dwarf f)) (map (λ r. r .first) (dwarf f)) (map (λ r. r .second) (dwarf f)) (leavesOf f) (length (dwarf f)) f
+    → Holds (kindsOf (dwarf f)) (firstsOf (dwarf f)) (secondsOf (dwarf f)) (leavesOf f) (length (dwarf f)) f
 dwarf-held f few named =
     record {
       leaves-are = refl;
       nodes-are = refl;
       few = few;
       named = named;
-      kinds-are = whole (λ r. r .kind);
-      firsts-are = whole (λ r. r .first);
-      seconds-are = whole (λ r. r .second);
+      kinds-are = whole (λ (r : Rec). number (r .kind));
+      firsts-are = whole (λ (r : Rec). r .first);
+      seconds-are = whole (λ (r : Rec). r .second);
     }
   where
     whole : (part : Rec → ℕ) → take (length (dwarf f)) (map part (dwarf f)) ≡ map part (dwarf f)

@@ -5,3 +5,4 @@ pub mod Value
 pub mod Root
 pub mod Fills
 pub mod Held
+pub mod Columns

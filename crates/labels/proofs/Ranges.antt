@@ -3,17 +3,18 @@ use Prim.Native.Nat.{ℕ, zero, suc, _-_, _/_, _%_, _<_, _≤_}
 use native.Mathlib.Omega.{arith}
 use mathlib.Core.Path.{_≡_, refl, sym, ap, _∙_}
 use mathlib.Core.Bool.{Bool, true, false, not, Bool·beq}
+use mathlib.Core.List.{List, [], _∷_}
 use lib.Dec.{eqb}
 use lib.ListN.{length, getD, set, List·getD-eq-default}
 use lib.Seq.{set-out}
-use borrow.Author.Tests.{lt-ltb, le-ltb, ne-eqb}
-use mathlib.Core.List.{List, [], _∷_}
-use Rattle.formula.specs.Formula.{exclusive, meaning, opAt}
+use borrow.Author.Tests.{ne-eqb}
+use Rattle.formula.specs.Formula.{Op, exclusive, meaning, opAt}
 use Rattle.formula.specs.States.{outside}
 use Rattle.formula.proofs.Laws.{opAt-exclusive}
-use Rattle.contraction.specs.Records.{children}
-use Rattle.contraction.specs.Steps.{recAt}
-use Rattle.labels.specs.Labels.{bit, on, pair, pick, table, left, right, rule, label}
+use Rattle.contraction.specs.Records.{Side, left, right, children}
+use Rattle.contraction.specs.Steps.{entry, kindAt, recOf, recAt}
+use Rattle.contraction.proofs.Steps.{kindAt-leaf, kindAt-E, kindAt-left, kindAt-right, kindAt-S, kindAt-C, below-none, below-E, below-R, below-rest}
+use Rattle.labels.specs.Labels.{bit, on, pair, pick, applied, raked, rule, label}
 use Rattle.labels.specs.Steps.{adopted}
 
 pub on-test : (x : ℕ) → not (eqb x 0) ≡ on x
@@ -29,64 +30,48 @@ module _ (p : ℕ) {v r : Bool} where
   pick-lower e q = rw e q
 
 -- an operation that is none of the first three
-module _ (o : ℕ) (n₀ : o ≡ 0 → ⊥) (n₁ : o ≡ 1 → ⊥) (n₂ : o ≡ 2 → ⊥) where
-  is-exclusive : opAt o ≡ exclusive
-  is-exclusive = opAt-exclusive o (omega arith)
+pub meaning-rest : (o : ℕ) (a b : Bool) → (o ≡ 0 → ⊥) → (o ≡ 1 → ⊥) → (o ≡ 2 → ⊥) → not (Bool·beq a b) ≡ meaning (opAt o) a b
+meaning-rest o a b n₀ n₁ n₂ = rw (opAt-exclusive o (omega arith)) (differ a b)
+  where
+    differ : (a b : Bool) → not (Bool·beq a b) ≡ meaning exclusive a b
+    differ true true = refl
+    differ true false = refl
+    differ false true = refl
+    differ false false = refl
 
-  pub meaning-rest : (a b : Bool) → not (Bool·beq a b) ≡ meaning (opAt o) a b
-  meaning-rest true true = rw is-exclusive
-  meaning-rest true false = rw is-exclusive
-  meaning-rest false true = rw is-exclusive
-  meaning-rest false false = rw is-exclusive
+-- the operation with 1 and with 0 on the open side
+pub opened : (side : Side) (o : Op) (v : Bool) {a b : Bool} {r : ℕ} → a ≡ applied side o v true → b ≡ applied side o v false → r ≡ pair a b → r ≡ raked side o v
+opened side o v p q e = e ∙ rw (p, q)
 
-  pub table-on : {v : Bool} → v ≡ true → 1 ≡ table (opAt o) left v
-  table-on e = rw (is-exclusive, e)
-
-  pub table-off : {v : Bool} → v ≡ false → 2 ≡ table (opAt o) left v
-  table-off e = rw (is-exclusive, e)
-
--- the side that was raked matters at difference alone
-pub side-free : (o : ℕ) (v : Bool) {r : ℕ} → (o ≡ 2 → ⊥) → r ≡ table (opAt o) left v → r ≡ table (opAt o) right v
-side-free zero true n e = e
-side-free zero false n e = e
-side-free (suc zero) true n e = e
-side-free (suc zero) false n e = e
-side-free (suc (suc zero)) v n e = absurd (n refl)
-side-free (suc (suc (suc o))) true n e = e
-side-free (suc (suc (suc o))) false n e = e
+-- a pair over a pair
+pub composes : (x y : ℕ) {a b c d : Bool} {r : ℕ} → a ≡ pick y true → b ≡ pick x a → c ≡ pick y false → d ≡ pick x c → r ≡ pair b d
+    → r ≡ pair (pick x (pick y true)) (pick x (pick y false))
+composes x y p q u v e = e ∙ rw (v, u, q, p)
 
 -- a label by kind: what the calls of each arm come to
 module _ (k : ℕ) (s : Bool) (x y : ℕ) {r : ℕ} where
-  pub arm-leaf : k ≡ 0 → r ≡ bit s → r ≡ rule k s x y
-  arm-leaf h e = rw h e
+  pub arm-leaf : k ≡ 0 → r ≡ bit s → r ≡ rule (kindAt k) s x y
+  arm-leaf h e = rw (kindAt-leaf k h) e
 
-  pub arm-pick : {u v : Bool} → k ≡ 13 → u ≡ on y → v ≡ pick x u → r ≡ bit v → r ≡ rule k s x y
-  arm-pick h p q e = e ∙ rw (q, p, h)
+  pub arm-E : {a b m : Bool} → (k ≡ 0 → ⊥) → k < 5 → a ≡ on x → b ≡ on y → m ≡ meaning (opAt (k - 1)) a b → r ≡ bit m → r ≡ rule (kindAt k) s x y
+  arm-E n h p q u e = rw (kindAt-E k n h) (e ∙ rw (u, p, q))
 
-  pub arm-both : {a b c d : Bool} → k ≡ 14 → a ≡ pick y true → b ≡ pick x a → c ≡ pick y false → d ≡ pick x c → r ≡ pair b d → r ≡ rule k s x y
-  arm-both h p q u v e = e ∙ rw (v, u, q, p, h)
+  pub arm-left : {v : Bool} → 5 ≤ k → k < 9 → v ≡ on x → r ≡ raked left (opAt (k - 5)) v → r ≡ rule (kindAt k) s x y
+  arm-left l h p e = rw (kindAt-left k l h) (e ∙ rw p)
 
-  pub arm-E : {a b m : Bool} → (k ≡ 0 → ⊥) → k < 5 → a ≡ on x → b ≡ on y → m ≡ meaning (opAt (k - 1)) a b → r ≡ bit m → r ≡ rule k s x y
-  arm-E n h p q u e = e ∙ rw (u, p, q, le-ltb k 1 (omega arith), lt-ltb k 5 h)
+  pub arm-right : {v : Bool} → 9 ≤ k → k < 13 → v ≡ on x → r ≡ raked right (opAt (k - 9)) v → r ≡ rule (kindAt k) s x y
+  arm-right l h p e = rw (kindAt-right k l h) (e ∙ rw p)
 
-  pub arm-left : {v : Bool} → 5 ≤ k → k < 9 → v ≡ on x → r ≡ table (opAt (k - 5)) left v → r ≡ rule k s x y
-  arm-left l h p e = e ∙ rw (p, le-ltb k 1 (omega arith), le-ltb k 5 l, lt-ltb k 9 h)
+  pub arm-S : {u v : Bool} → k ≡ 13 → u ≡ on y → v ≡ pick x u → r ≡ bit v → r ≡ rule (kindAt k) s x y
+  arm-S h p q e = rw (kindAt-S k h) (e ∙ rw (q, p))
 
-  pub arm-right : {v : Bool} → 9 ≤ k → k < 13 → v ≡ on x → r ≡ table (opAt (k - 9)) right v → r ≡ rule k s x y
-  arm-right l h p e = e ∙ rw (p, le-ltb k 1 (omega arith), le-ltb k 5 (omega arith), le-ltb k 9 l, lt-ltb k 13 h)
+  pub arm-C : k ≡ 14 → r ≡ pair (pick x (pick y true)) (pick x (pick y false)) → r ≡ rule (kindAt k) s x y
+  arm-C h e = rw (kindAt-C k (omega arith) (λ z. omega arith)) e
 
-pub arm-none : (k : ℕ) (s : Bool) (x y : ℕ) → 13 ≤ k → (k ≡ 13 → ⊥) → (k ≡ 14 → ⊥) → 0 ≡ rule k s x y
-arm-none k s x y l n m =
-    rw (
-      le-ltb k 1 (omega arith),
-      le-ltb k 5 (omega arith),
-      le-ltb k 9 (omega arith),
-      le-ltb k 13 l,
-      ne-eqb k 13 n,
-      ne-eqb k 14 m,
-    )
+  pub arm-rest : 13 ≤ k → (k ≡ 13 → ⊥) → r ≡ pair (pick x (pick y true)) (pick x (pick y false)) → r ≡ rule (kindAt k) s x y
+  arm-rest l n e = rw (kindAt-C k l n) e
 
-pub label-worked : (ks fs ss ls : List ℕ) (i : ℕ) {x y r : ℕ} → x ≡ getD ls (getD fs i 0) 0 → y ≡ getD ls (getD ss i 0) 0 → r ≡ rule (getD ks i 0) false x y
+pub label-worked : (ks fs ss ls : List ℕ) (i : ℕ) {x y r : ℕ} → x ≡ getD ls (getD fs i 0) 0 → y ≡ getD ls (getD ss i 0) 0 → r ≡ rule (kindAt (getD ks i 0)) false x y
     → r ≡ label outside ls (recAt ks fs ss i)
 label-worked ks fs ss ls i p q e = e ∙ rw (p, q)
 
@@ -102,18 +87,18 @@ module _ (l : List ℕ) {i j : ℕ} (v : ℕ) (e : j ≡ i) where
   set-past h = sym (set-out l i v (omega arith))
 
 -- the children by kind, entered in a list of parents
-pub adopt-none : (k a b j : ℕ) (ps : List ℕ) → k ≡ 0 → ps ≡ adopted j (children (record { kind = k; first = a; second = b })) ps
-adopt-none k a b j ps e = rw e
+pub adopt-none : (k a b j : ℕ) (ps : List ℕ) → k ≡ 0 → ps ≡ adopted j (children (recOf (entry k a b))) ps
+adopt-none k a b j ps e = rw (below-none k a b e)
 
 module _ (k a b j : ℕ) (ps : List ℕ) {qs : List ℕ} where
-  pub adopt-E : (k ≡ 0 → ⊥) → k < 5 → qs ≡ adopted j (a ∷ b ∷ []) ps → qs ≡ adopted j (children (record { kind = k; first = a; second = b })) ps
-  adopt-E n h e = e ∙ rw (le-ltb k 1 (omega arith), lt-ltb k 5 h)
+  pub adopt-E : (k ≡ 0 → ⊥) → k < 5 → qs ≡ adopted j (a ∷ b ∷ []) ps → qs ≡ adopted j (children (recOf (entry k a b))) ps
+  adopt-E n h e = e ∙ rw (below-E k a b n h)
 
-  pub adopt-R : 5 ≤ k → k < 13 → qs ≡ set ps a j → qs ≡ adopted j (children (record { kind = k; first = a; second = b })) ps
-  adopt-R l h e = e ∙ rw (le-ltb k 1 (omega arith), le-ltb k 5 l, lt-ltb k 13 h)
+  pub adopt-R : 5 ≤ k → k < 13 → qs ≡ set ps a j → qs ≡ adopted j (children (recOf (entry k a b))) ps
+  adopt-R l h e = e ∙ rw (below-R k a b l h)
 
-  pub adopt-rest : 13 ≤ k → qs ≡ adopted j (a ∷ b ∷ []) ps → qs ≡ adopted j (children (record { kind = k; first = a; second = b })) ps
-  adopt-rest l e = e ∙ rw (le-ltb k 1 (omega arith), le-ltb k 5 (omega arith), le-ltb k 13 l)
+  pub adopt-rest : 13 ≤ k → qs ≡ adopted j (a ∷ b ∷ []) ps → qs ≡ adopted j (children (recOf (entry k a b))) ps
+  adopt-rest l e = e ∙ rw (below-rest k a b l)
 
   pub adopt-two : {os : List ℕ} → os ≡ set ps a j → qs ≡ set os b j → qs ≡ adopted j (a ∷ b ∷ []) ps
   adopt-two p e = e ∙ rw p

@@ -14,7 +14,6 @@ use Rattle.contraction.specs.Height.{last}
 use Rattle.contraction.proofs.Worked.{last-is}
 use Rattle.contraction.proofs.Rounds.{allMade, remains, dwarf-all, length-leafRecs, root}
 use Rattle.labels.specs.Labels.{bit, on, pick, labels}
-use Rattle.labels.proofs.Rules.{rule-E}
 use Rattle.labels.proofs.Afresh.{labels-good, length-labels}
 use Rattle.labels.proofs.Value.{val, Lab, lab-left, lab-right, made-value, planted-value}
 
@@ -39,7 +38,7 @@ module _ (state : State) (ls : List ℕ) where
 
   two-bits : (o : Op) (a b : Option ℕ) (l′ r′ : Work) (n : ℕ) → Lab state ls n (rakeTwo o a b) → Bits l′ → Bits r′ → Bits (leftTwo o a b l′ r′ n)
   two-bits o (some a) (some b) l′ r′ n g p q =
-      is-bit (getD ls n 0) (meaning o (on (getD ls a 0)) (on (getD ls b 0))) (g .0 ∙ rule-E (state a) (getD ls a 0) (getD ls b 0) o)
+      is-bit (getD ls n 0) (meaning o (on (getD ls a 0)) (on (getD ls b 0))) (g .0)
   two-bits o (some a) none l′ r′ n g p q = q
   two-bits o none (some b) l′ r′ n g p q = p
   two-bits o none none l′ r′ n g p q = (p, q)

@@ -6,13 +6,13 @@ use mathlib.Core.List.{List, _++_}
 use lib.ListN.{length, getD}
 use Rattle.formula.specs.Formula.{Op, meaning, Formula, leaf, node, inside}
 use Rattle.formula.specs.States.{State}
-use Rattle.contraction.specs.Records.{Rec, absent}
+use Rattle.contraction.specs.Records.{left, right, Rec, absent}
 use Rattle.contraction.specs.Rounds.{Work, tip, one, two, tipOf, rakeOne, rakeTwo, rakes, leftOne, leftTwo, raked}
 use Rattle.contraction.specs.Rounds.{compresses, compressed, roundMakes, roundLeaves, planted, leafRecs}
 use Rattle.contraction.proofs.Worked.{Good, good-left, good-right}
 use Rattle.contraction.proofs.Rounds.{allMade, remains, length-leafRecs}
 use Rattle.labels.specs.Labels.{on, pick, label}
-use Rattle.labels.proofs.Rules.{on-bit, E-means, left-means, right-means, S-means, C-means}
+use Rattle.labels.proofs.Rules.{on-bit, E-means, R-means, S-means, C-means}
 
 -- what the working tree is worth under the labels ls
 abbrev pub val : List ℕ → Work → Bool
@@ -39,10 +39,10 @@ module _ (state : State) (ls : List ℕ) where
   two-val : (o : Op) (l r l′ r′ : Work) (n : ℕ) → val ls l′ ≡ val ls l → val ls r′ ≡ val ls r → Lab n (rakeTwo o (tipOf l) (tipOf r))
       → val ls (leftTwo o (tipOf l) (tipOf r) l′ r′ n) ≡ meaning o (val ls l) (val ls r)
   two-val o (tip a) (tip b) l′ r′ n p q g = ap on (g .0) ∙ E-means (state a) (getD ls a 0) (getD ls b 0) o
-  two-val o (tip a) (one d c) l′ r′ n p q g = ap₂ pick (g .0) q ∙ left-means (state a) (getD ls a 0) (getD ls absent 0) o (val ls (one d c))
-  two-val o (tip a) (two e c d) l′ r′ n p q g = ap₂ pick (g .0) q ∙ left-means (state a) (getD ls a 0) (getD ls absent 0) o (val ls (two e c d))
-  two-val o (one d c) (tip b) l′ r′ n p q g = ap₂ pick (g .0) p ∙ right-means (state b) (getD ls b 0) (getD ls absent 0) o (val ls (one d c))
-  two-val o (two e c d) (tip b) l′ r′ n p q g = ap₂ pick (g .0) p ∙ right-means (state b) (getD ls b 0) (getD ls absent 0) o (val ls (two e c d))
+  two-val o (tip a) (one d c) l′ r′ n p q g = ap₂ pick (g .0) q ∙ R-means (state a) (getD ls a 0) (getD ls absent 0) left o (val ls (one d c))
+  two-val o (tip a) (two e c d) l′ r′ n p q g = ap₂ pick (g .0) q ∙ R-means (state a) (getD ls a 0) (getD ls absent 0) left o (val ls (two e c d))
+  two-val o (one d c) (tip b) l′ r′ n p q g = ap₂ pick (g .0) p ∙ R-means (state b) (getD ls b 0) (getD ls absent 0) right o (val ls (one d c))
+  two-val o (two e c d) (tip b) l′ r′ n p q g = ap₂ pick (g .0) p ∙ R-means (state b) (getD ls b 0) (getD ls absent 0) right o (val ls (two e c d))
   two-val o (one d c) (one d′ c′) l′ r′ n p q g = ap₂ (meaning o) p q
   two-val o (one d c) (two e c′ d′) l′ r′ n p q g = ap₂ (meaning o) p q
   two-val o (two e c d) (one d′ c′) l′ r′ n p q g = ap₂ (meaning o) p q

@@ -1,9 +1,10 @@
 -- A dwarf tree in three arrays: what it is that they hold one.
 use Prim.Native.Nat.{ℕ, _≤_}
 use mathlib.Core.Path.{_≡_}
-use mathlib.Core.List.{List, map}
+use mathlib.Core.List.{List}
 use lib.ListN.{length, take}
 use Rattle.formula.specs.Formula.{Formula, Over, leaves as leavesOf}
+use Rattle.contraction.specs.Records.{kindsOf, firstsOf, secondsOf}
 use Rattle.contraction.specs.Rounds.{dwarf}
 
 -- The first entries are the kinds, firsts and seconds of the dwarf tree of f, a formula within a sheet's limits: 1024 leaves, 256 names.
@@ -12,9 +13,9 @@ pub record Holds (kinds firsts seconds : List ℕ) (leaves nodes : ℕ) (f : For
   pub nodes-are : nodes ≡ length (dwarf f)
   pub few : leavesOf f ≤ 1024
   pub named : Over 256 f
-  pub kinds-are : take nodes kinds ≡ map (λ r. r .kind) (dwarf f)
-  pub firsts-are : take nodes firsts ≡ map (λ r. r .first) (dwarf f)
-  pub seconds-are : take nodes seconds ≡ map (λ r. r .second) (dwarf f)
+  pub kinds-are : take nodes kinds ≡ kindsOf (dwarf f)
+  pub firsts-are : take nodes firsts ≡ firstsOf (dwarf f)
+  pub seconds-are : take nodes seconds ≡ secondsOf (dwarf f)
 
 -- They hold the dwarf tree of some formula.
 pub record Tree (kinds firsts seconds : List ℕ) (leaves nodes : ℕ) : Type 0 where

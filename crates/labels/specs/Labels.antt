@@ -1,12 +1,12 @@
 -- The labels of the dwarf nodes: the rule of each kind, and all labels worked out afresh.
-use Prim.Native.Nat.{ℕ, zero, suc, _+_, _*_, _-_, _/_, _%_}
-use mathlib.Core.Bool.{Bool, true, false, cond, _&&_}
+use Prim.Native.Nat.{ℕ, zero, suc, _+_, _*_, _/_, _%_}
+use mathlib.Core.Bool.{Bool, true, false, _&&_}
 use mathlib.Core.List.{List, []}
 use lib.ListN.{getD}
-use lib.Dec.{ltb, eqb}
-use Rattle.formula.specs.Formula.{Op, union, intersection, difference, exclusive, meaning, opAt}
+use lib.Dec.{eqb}
+use Rattle.formula.specs.Formula.{Op, meaning}
 use Rattle.formula.specs.States.{State}
-use Rattle.contraction.specs.Records.{Rec}
+use Rattle.contraction.specs.Records.{Side, left, right, Kind, leaf, E, R, S, C, Rec, isLeaf}
 use Rattle.contraction.specs.Height.{worked}
 
 -- Leaf, E and S carry a bit.
@@ -27,36 +27,23 @@ abbrev pub pick : ℕ → Bool → Bool
 pick p true = on (p / 2)
 pick p false = on (p % 2)
 
--- Which operand was raked.
-pub data Side : Type 0 where
-  left right : Side
+-- The operation with v on the raked side and u on the open side.
+abbrev pub applied : Side → Op → Bool → Bool → Bool
+applied left o v u = meaning o v u
+applied right o v u = meaning o u v
 
--- R from the raked value v:
---   v   union   intersection   difference, left raked   difference, right raked   exclusive
---   0   (1,0)   (0,0)          (0,0)                    (1,0)                     (1,0)
---   1   (1,1)   (1,0)          (0,1)                    (0,0)                     (0,1)
-abbrev pub table : Op → Side → Bool → ℕ
-table union side false = pair true false
-table union side true = pair true true
-table intersection side false = pair false false
-table intersection side true = pair true false
-table difference left false = pair false false
-table difference left true = pair false true
-table difference right false = pair true false
-table difference right true = pair false false
-table exclusive side false = pair true false
-table exclusive side true = pair false true
+-- R from the raked value v: the operation itself, applied with 1 and with 0 on the open side.
+abbrev pub raked : Side → Op → Bool → ℕ
+raked side o v = pair (applied side o v true) (applied side o v false)
 
 -- A label by kind, from the state of the shape and from the labels x of first and y of second.
 -- S picks a or b by its value child. C of (a1,b1) over (a2,b2) is the first pair applied to a2, then to b2.
-abbrev pub rule : ℕ → Bool → ℕ → ℕ → ℕ
-rule kind inside x y =
-    cond (ltb kind 1) (bit inside)
-    (cond (ltb kind 5) (bit (meaning (opAt (kind - 1)) (on x) (on y)))
-    (cond (ltb kind 9) (table (opAt (kind - 5)) left (on x))
-    (cond (ltb kind 13) (table (opAt (kind - 9)) right (on x))
-    (cond (eqb kind 13) (bit (pick x (on y)))
-    (cond (eqb kind 14) (pair (pick x (pick y true)) (pick x (pick y false))) 0)))))
+abbrev pub rule : Kind → Bool → ℕ → ℕ → ℕ
+rule leaf inside x y = bit inside
+rule (E o) inside x y = bit (meaning o (on x) (on y))
+rule (R side o) inside x y = raked side o (on x)
+rule S inside x y = bit (pick x (on y))
+rule C inside x y = pair (pick x (pick y true)) (pick x (pick y false))
 
 abbrev pub label : State → List ℕ → Rec → ℕ
 label state ls r = rule (r .kind) (state (r .first)) (getD ls (r .first) 0) (getD ls (r .second) 0)
@@ -67,4 +54,4 @@ labels state rs = worked (label state) [] rs
 
 -- The node is a leaf of shape s.
 abbrev pub isOf : ℕ → Rec → Bool
-isOf s r = eqb (r .kind) 0 && eqb (r .first) s
+isOf s r = isLeaf (r .kind) && eqb (r .first) s

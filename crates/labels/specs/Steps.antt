@@ -4,8 +4,8 @@ use mathlib.Core.Path.{_≡_}
 use mathlib.Core.Bool.{Bool, true, false}
 use mathlib.Core.List.{List, [], _∷_}
 use lib.ListN.{getD, set}
-use Rattle.contraction.specs.Records.{Rec, absent, over}
-use Rattle.contraction.specs.Steps.{recAt, recs}
+use Rattle.contraction.specs.Records.{Rec, absent, isLeaf, over}
+use Rattle.contraction.specs.Steps.{kindAt, recAt, recs}
 use Rattle.labels.specs.Labels.{isOf}
 
 -- The number of the first record that passes, of records numbered from j on; 65535 where there is none.
@@ -19,8 +19,8 @@ pub record Shaped (ks fs ss : List ℕ) (leaves nodes : ℕ) : Type 0 where
   pub within : leaves ≤ nodes
   pub some : 0 < nodes
   pub room : nodes ≤ 3072
-  pub leaf : (i : ℕ) → i < leaves → getD ks i 0 ≡ 0
-  pub inner : (i : ℕ) → leaves ≤ i → i < nodes → getD ks i 0 ≡ 0 → ⊥
+  pub leaf : (i : ℕ) → i < leaves → isLeaf (kindAt (getD ks i 0)) ≡ true
+  pub inner : (i : ℕ) → leaves ≤ i → i < nodes → isLeaf (kindAt (getD ks i 0)) ≡ false
   pub named : (i : ℕ) → i < leaves → getD fs i 0 < 256
   pub below : (i c : ℕ) → i < nodes → over c (recAt ks fs ss i) ≡ true → c < i
 

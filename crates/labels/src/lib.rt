@@ -6,9 +6,9 @@ ghost use Prim.Native.Nat.{_<_, _≤_};
 ghost use lib.ListN.{getD, set, take};
 ghost use Rattle.formula.specs.Formula.{meaning as meaningOf, opAt};
 ghost use Rattle.formula.specs.States.{outside};
-ghost use Rattle.contraction.specs.Records.{children};
-ghost use Rattle.labels.specs.Labels.{bit as bitOf, on as isOn, pick as pickOf, table, left, right, rule, label as labelOf, labels as afresh};
-ghost use Rattle.contraction.specs.Steps.{recAt, recs};
+ghost use Rattle.contraction.specs.Records.{left, right, children};
+ghost use Rattle.labels.specs.Labels.{bit as bitOf, on as isOn, pair as pairOf, pick as pickOf, raked, rule, label as labelOf, labels as afresh};
+ghost use Rattle.contraction.specs.Steps.{entry, kindAt, recOf, recAt, recs};
 ghost use Rattle.labels.specs.Steps.{Shaped, adopted, Parents, Chains};
 
 fn bit(b: bool) -> u8
@@ -35,28 +35,6 @@ fn meaning(o: u16, a: bool, b: bool) -> bool
     }
 }
 
-// The rake table, the left operand raked.
-fn raked_left(o: u16, v: bool) -> u8
-    ensures { λ r. ⌜ r ≡ table (opAt o) left v ⌝ }
-{
-    match o {
-        0 => if v { 3 } else { 2 },
-        1 => if v { 2 } else { 0 },
-        2 => if v { 1 } else { 0 },
-        _ => if v { 1 } else { 2 },
-    }
-}
-
-// The rake table, the right operand raked: another pair at difference alone.
-fn raked_right(o: u16, v: bool) -> u8
-    ensures { λ r. ⌜ r ≡ table (opAt o) right v ⌝ }
-{
-    match o {
-        2 => if v { 0 } else { 2 },
-        _ => raked_left(o, v),
-    }
-}
-
 // What a pair gives for the value from below.
 fn pick(p: u8, v: bool) -> bool
     ensures { λ r. ⌜ r ≡ pickOf p v ⌝ }
@@ -65,14 +43,35 @@ fn pick(p: u8, v: bool) -> bool
 }
 
 fn pair(a: bool, b: bool) -> u8
-    ensures { λ r. ⌜ r ≡ Rattle.labels.specs.Labels.pair a b ⌝ }
+    ensures { λ r. ⌜ r ≡ pairOf a b ⌝ }
 {
     2 * bit(a) + bit(b)
 }
 
+// R with the left operand raked: the operation with 1 and with 0 on the right.
+fn raked_left(o: u16, v: bool) -> u8
+    ensures { λ r. ⌜ r ≡ raked left (opAt o) v ⌝ }
+{
+    pair(meaning(o, v, true), meaning(o, v, false))
+}
+
+// R with the right operand raked: the operation with 1 and with 0 on the left.
+fn raked_right(o: u16, v: bool) -> u8
+    ensures { λ r. ⌜ r ≡ raked right (opAt o) v ⌝ }
+{
+    pair(meaning(o, true, v), meaning(o, false, v))
+}
+
+// The first pair applied to the second.
+fn compose(x: u8, y: u8) -> u8
+    ensures { λ r. ⌜ r ≡ pairOf (pickOf x (pickOf y true)) (pickOf x (pickOf y false)) ⌝ }
+{
+    pair(pick(x, pick(y, true)), pick(x, pick(y, false)))
+}
+
 // A label by kind, from the state of the shape and from the labels of first and second.
 pub fn label(kind: u16, inside: bool, x: u8, y: u8) -> u8
-    ensures { λ r. ⌜ r ≡ rule kind inside x y ⌝ }
+    ensures { λ r. ⌜ r ≡ rule (kindAt kind) inside x y ⌝ }
 {
     match kind {
         0 => bit(inside),
@@ -80,8 +79,8 @@ pub fn label(kind: u16, inside: bool, x: u8, y: u8) -> u8
         5..=8 => raked_left(kind - 5, on(x)),
         9..=12 => raked_right(kind - 9, on(x)),
         13 => bit(pick(x, on(y))),
-        14 => pair(pick(x, pick(y, true)), pick(x, pick(y, false))),
-        _ => 0,
+        14 => compose(x, y),
+        _ => compose(x, y),
     }
 }
 
@@ -158,7 +157,7 @@ fn adopt_both(parents: &mut [u16; 3072], first: u16, second: u16, j: u16)
 
 // Node j entered as the parent of the children of its record.
 fn adopt(parents: &mut [u16; 3072], kind: u16, first: u16, second: u16, j: u16)
-    ensures { λ _. ⌜ now (parents .exit) ≡ adopted j (children (record { kind = kind; first = first; second = second })) (now (parents .entry)) ⌝ }
+    ensures { λ _. ⌜ now (parents .exit) ≡ adopted j (children (recOf (entry kind first second))) (now (parents .entry)) ⌝ }
 {
     match kind {
         0 => {}

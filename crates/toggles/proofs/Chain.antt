@@ -3,16 +3,17 @@ use Prim.Native.Nat.{ℕ, zero, suc, _+_, _-_, _*_, _<_, _≤_}
 use native.Mathlib.Nat.{add-zero, zero-add}
 use native.Mathlib.Omega.{arith}
 use mathlib.Core.Path.{_≡_, refl, sym, ap, _∙_}
-use mathlib.Core.Bool.{true}
+use mathlib.Core.Bool.{true, false≢true}
 use mathlib.Core.List.{List, [], _∷_}
 use mathlib.Core.Logic.{⊎-elim}
 use lib.Dec.{eqb}
 use borrow.Author.Tests.{eqb-true}
 use lib.ListN.{length, getD, set, take}
 use lib.Seq.{getD-take, take-set-lt}
-use Rattle.contraction.specs.Records.{Rec, over}
+use Rattle.contraction.specs.Records.{Rec, isLeaf, over}
 use Rattle.labels.specs.Labels.{isOf}
-use Rattle.contraction.specs.Steps.{recAt, recs}
+use Rattle.contraction.specs.Steps.{kindAt, recAt, recs}
+use Rattle.contraction.proofs.Steps.{length-recs}
 use Rattle.labels.specs.Steps.{seek, Shaped}
 use Rattle.toggles.specs.Toggles.{steps, flip, reworked, walk, toggle}
 use Rattle.toggles.proofs.Walks.{walk-skip, walk-stop, walk-on}
@@ -36,11 +37,6 @@ walk-few (r ∷ rs) j c ls = go (walk-few rs (suc j))
         (λ q. omega (arith, ap (λ st. st .count) (walk-stop r rs j c ls e q)))
         (λ q. omega (arith, ap (λ st. st .count) (walk-on r rs j c ls e q), ih j (set ls j (reworked ls r)))))
         (λ e. omega (arith, ap (λ st. st .count) (walk-skip r rs j c ls e), ih c ls))
-
-length-recs : (ks fs ss : List ℕ) (n i : ℕ) → length (recs ks fs ss i n) ≡ n
-unfolding recs
-length-recs ks fs ss zero i = refl
-length-recs ks fs ss (suc n) i = ap suc (length-recs ks fs ss n (suc i))
 
 module _ (ks fs ss : List ℕ) (leaves nodes : ℕ) where
   -- the leaves below `from` are done, and a is the next of the shape; n labels were worked out
@@ -71,8 +67,8 @@ module _ (ks fs ss : List ℕ) (leaves nodes : ℕ) (sh : Shaped ks fs ss leaves
   past-leaves : leaves ≤ a → nodes ≤ a
   past-leaves h =
       ⊎-elim (λ e. omega (arith, e, g .here, sh .room))
-      (λ w. absurd (sh .inner a h (omega (arith, w .2, g .here, all))
-      (ap (λ k. getD ks k 0) (g .here) ∙ eqb-true _ 0 (is-and _ _ (w .0) .0))))
+      (λ w. absurd (false≢true (sym (sh .inner a h (omega (arith, w .2, g .here, all)))
+      ∙ ap (λ k. isLeaf (kindAt (getD ks k 0))) (g .here) ∙ is-and _ _ (w .0) .0)))
       (found ks fs ss (isOf s) (nodes - g .from) (g .from))
 
   pub toggling-end : leaves ≤ a → steps (take nodes ls) n ≡ toggle (recs ks fs ss 0 nodes) 0 s (take nodes l₀)
@@ -112,7 +108,7 @@ module _ (ks fs ss : List ℕ) (leaves nodes : ℕ) (sh : Shaped ks fs ss leaves
 
     module _ (b : ℕ) (q : b ≡ seek (isOf (getD fs a 0)) (suc a) (later ks fs ss nodes a)) where
       next-is : b ≡ seek (isOf s) (suc a) (later ks fs ss nodes a)
-      next-is = q ∙ ap (λ t. seek (isOf t) (suc a) (later ks fs ss nodes a)) (eqb-true (getD fs a 0) s (is-and (eqb (getD ks a 0) 0) (eqb (getD fs a 0) s) (is-here h .0) .1))
+      next-is = q ∙ ap (λ t. seek (isOf t) (suc a) (later ks fs ss nodes a)) (eqb-true (getD fs a 0) s (is-and (isLeaf (kindAt (getD ks a 0))) (eqb (getD fs a 0) s) (is-here h .0) .1))
 
       pub toggling-on : Toggling ks fs ss leaves nodes s l₀ b ms (n + m)
       toggling-on = record { from = suc a; inside = h; here = next-is; few = toggling-few; same = at-leaf }

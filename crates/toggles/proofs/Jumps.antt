@@ -12,7 +12,7 @@ use lib.Seq.{getD-take, take-set-lt}
 use Rattle.formula.specs.States.{outside}
 use Rattle.contraction.specs.Records.{Rec, over}
 use Rattle.labels.specs.Labels.{label, isOf}
-use Rattle.contraction.specs.Steps.{recAt, recs}
+use Rattle.contraction.specs.Steps.{entries, recAt, recs}
 use Rattle.labels.specs.Steps.{seek, Shaped, Parents, Chains}
 use Rattle.labels.proofs.Rules.{label-local}
 use Rattle.contraction.proofs.Steps.{recs-more}
@@ -65,7 +65,7 @@ module _ {A : Type 0} (p : Rec → Bool) (go : List Rec → ℕ → A) (end : A)
       rw (recs-more ks fs ss j d, seek-past p j r rs q, past r rs j q, ← e) (jump d (suc j) (omega arith) (omega (arith, k))))
 
   pub done : (d j : ℕ) → j + d ≤ seek p j (recs ks fs ss j d) → go (recs ks fs ss j d) j ≡ end
-  unfolding recs
+  unfolding entries
   done zero j h = at-end j
   done (suc d) j h =
       let r = recAt ks fs ss j in

@@ -9,7 +9,7 @@ use lib.ListN.{length, getD, set, length-set}
 use lib.Seq.{getD-set-same, getD-set-other}
 use Rattle.formula.specs.Formula.{Formula}
 use Rattle.formula.specs.States.{State, flipped}
-use Rattle.contraction.specs.Records.{Rec}
+use Rattle.contraction.specs.Records.{Rec, isLeaf}
 use Rattle.contraction.specs.Rounds.{dwarf}
 use Rattle.contraction.proofs.Worked.{Each, Good}
 use Rattle.contraction.proofs.Order.{ChildrenBelow, children-smaller}
@@ -36,7 +36,7 @@ turned s t x = cond (eqb t s) (flip x) x
 
 abbrev Flips : ℕ → List ℕ → List ℕ → ℕ → List Rec → Type 0
 Flips s xs ys n [] = Unit {0}
-Flips s xs ys n (r ∷ rs) = (eqb (r .kind) 0 ≡ true → getD ys n 0 ≡ turned s (r .first) (getD xs n 0)) × Flips s xs ys (suc n) rs
+Flips s xs ys n (r ∷ rs) = (isLeaf (r .kind) ≡ true → getD ys n 0 ≡ turned s (r .first) (getD xs n 0)) × Flips s xs ys (suc n) rs
 
 flips-from : (rs : List Rec) (s : ℕ) (xs ys zs : List ℕ) (n : ℕ) → SameLeaves xs ys n rs → Flips s ys zs n rs → Flips s xs zs n rs
 flips-from [] s xs ys zs n p q = tt
@@ -71,7 +71,7 @@ module _ (r : Rec) (rs : List Rec) (i s : ℕ) (below : Each ChildrenBelow i (r 
           w .inner,
         );
         before = λ k p. w .before k (omega arith);
-        flips = ((λ p. rw (not-and (eqb (r .kind) 0) (eqb (r .first) s) e p) (w .before i (omega arith))), w .flips);
+        flips = ((λ p. rw (not-and (isLeaf (r .kind)) (eqb (r .first) s) e p) (w .before i (omega arith))), w .flips);
         long = w .long;
       }
 
@@ -83,7 +83,7 @@ module _ (r : Rec) (rs : List Rec) (i s : ℕ) (below : Each ChildrenBelow i (r 
       let w = walk-good rs (suc i) (below .1) once i (set ls i v) (omega (arith, length-set ls i v)) (omega arith)
       (moved-but rs ls i v (suc i) (omega arith) (g .1)) in
       let t = ih m (omega (arith, length-set ls i v, w .long)) (w .inner) in
-      let k = is-and (eqb (r .kind) 0) (eqb (r .first) s) e in
+      let k = is-and (isLeaf (r .kind)) (eqb (r .first) s) e in
       record {
         inner = ((λ p. absurd (true≢false (sym (k .0) ∙ p))), t .inner);
         before = λ a p. t .before a (omega arith) ∙ w .before a (omega arith) ∙ getD-set-other ls i a v 0 (λ q. omega arith);
@@ -122,9 +122,9 @@ turned-bit s t state = go (eqb t s)
 flips-good : (state : State) (s : ℕ) (rs : List Rec) (ls ms : List ℕ) (n : ℕ) → Good (label state) ls n rs → Inner ms n rs → Flips s ls ms n rs
     → Good (label (flipped s state)) ms n rs
 flips-good state s [] ls ms n g i f = tt
-flips-good state s (r ∷ rs) ls ms n g i f = (go (eqb (r .kind) 0) refl, flips-good state s rs ls ms (suc n) (g .1) (i .1) (f .1))
+flips-good state s (r ∷ rs) ls ms n g i f = (go (isLeaf (r .kind)) refl, flips-good state s rs ls ms (suc n) (g .1) (i .1) (f .1))
   where
-    go : (b : Bool) → eqb (r .kind) 0 ≡ b → getD ms n 0 ≡ label (flipped s state) ms r
+    go : (b : Bool) → isLeaf (r .kind) ≡ b → getD ms n 0 ≡ label (flipped s state) ms r
     go true e =
         f .0 e ∙ ap (turned s (r .first)) (g .0 ∙ label-leaf state ls r e) ∙ turned-bit s (r .first) state ∙ sym (label-leaf (flipped s state) ms r e)
     go false e = i .0 e ∙ sym (label-inner (flipped s state) ms r e)

@@ -5,11 +5,11 @@ use mathlib.Core.Path.{_≡_, refl, sym, ap, _∙_}
 use mathlib.Core.Bool.{Bool, true, false, true≢false, false≢true}
 use mathlib.Core.List.{List, [], _∷_}
 use lib.Dec.{eqb}
-use borrow.Author.Tests.{eqb-true, ne-eqb}
+use borrow.Author.Tests.{eqb-true}
 use lib.ListN.{length, getD, set, length-set}
 use lib.Seq.{getD-set-same, getD-set-other}
 use Rattle.formula.specs.States.{outside}
-use Rattle.contraction.specs.Records.{Rec, over}
+use Rattle.contraction.specs.Records.{Kind, leaf, E, R, S, C, Rec, isLeaf, below, listed, over}
 use Rattle.contraction.proofs.Worked.{Each}
 use Rattle.contraction.proofs.Order.{ChildrenBelow}
 use Rattle.contraction.proofs.Once.{uses}
@@ -33,17 +33,17 @@ walk-on r rs j c ls e h = rw (e, walk, h)
 -- the labels xs, from number n on, are right at every node that is no leaf
 abbrev pub Inner : List ℕ → ℕ → List Rec → Type 0
 Inner xs n [] = Unit {0}
-Inner xs n (r ∷ rs) = (eqb (r .kind) 0 ≡ false → getD xs n 0 ≡ reworked xs r) × Inner xs (suc n) rs
+Inner xs n (r ∷ rs) = (isLeaf (r .kind) ≡ false → getD xs n 0 ≡ reworked xs r) × Inner xs (suc n) rs
 
 -- and so but for those that stand over c
 abbrev pub But : ℕ → List ℕ → ℕ → List Rec → Type 0
 But c xs n [] = Unit {0}
-But c xs n (r ∷ rs) = (eqb (r .kind) 0 ≡ false → over c r ≡ false → getD xs n 0 ≡ reworked xs r) × But c xs (suc n) rs
+But c xs n (r ∷ rs) = (isLeaf (r .kind) ≡ false → over c r ≡ false → getD xs n 0 ≡ reworked xs r) × But c xs (suc n) rs
 
 -- two lists have the same labels at the leaves
 abbrev pub SameLeaves : List ℕ → List ℕ → ℕ → List Rec → Type 0
 SameLeaves xs ys n [] = Unit {0}
-SameLeaves xs ys n (r ∷ rs) = (eqb (r .kind) 0 ≡ true → getD ys n 0 ≡ getD xs n 0) × SameLeaves xs ys (suc n) rs
+SameLeaves xs ys n (r ∷ rs) = (isLeaf (r .kind) ≡ true → getD ys n 0 ≡ getD xs n 0) × SameLeaves xs ys (suc n) rs
 
 same-refl : (rs : List Rec) (xs : List ℕ) (n : ℕ) → SameLeaves xs xs n rs
 same-refl [] xs n = tt
@@ -55,8 +55,15 @@ same-set (r ∷ rs) xs ys c v n h p =
     ((λ e. p .0 e ∙ getD-set-other xs c n v 0 (λ q. omega arith)), same-set rs xs ys c v (suc n) (omega arith) (p .1))
 
 -- a record that stands over a node is no leaf
-inner-over : (r : Rec) (c : ℕ) → over c r ≡ true → eqb (r .kind) 0 ≡ false
-inner-over r c e = ne-eqb (r .kind) 0 (λ q. false≢true (rw q at e))
+inner-over : (r : Rec) (c : ℕ) → over c r ≡ true → isLeaf (r .kind) ≡ false
+inner-over r c e = by-kind (r .kind) e
+  where
+    by-kind : (k : Kind) → listed c (below k (r .first) (r .second)) ≡ true → isLeaf k ≡ false
+    by-kind leaf q = absurd (false≢true q)
+    by-kind (E o) q = refl
+    by-kind (R side o) q = refl
+    by-kind S q = refl
+    by-kind C q = refl
 
 -- a change at c is no matter to a record that does not stand over c
 unmoved : (ls : List ℕ) (c v : ℕ) (r : Rec) → over c r ≡ false → reworked (set ls c v) r ≡ reworked ls r
@@ -73,7 +80,7 @@ but-none : (rs : List Rec) (c : ℕ) (ls : List ℕ) (n : ℕ) → uses c rs ≡
 but-none [] c ls n h g = tt
 but-none (r ∷ rs) c ls n h g = ((λ p. go (over c r) refl p), but-none rs c ls (suc n) (omega arith) (g .1))
   where
-    go : (b : Bool) → over c r ≡ b → eqb (r .kind) 0 ≡ false → getD ls n 0 ≡ reworked ls r
+    go : (b : Bool) → over c r ≡ b → isLeaf (r .kind) ≡ false → getD ls n 0 ≡ reworked ls r
     go true e p = absurd (omega (arith, over-refs r c e))
     go false e p = g .0 p e
 
@@ -114,7 +121,7 @@ module _ (r : Rec) (rs : List Rec) (j : ℕ) (below : ChildrenBelow j r) (once :
       }
 
   -- it does, and its label comes out new
-  go-on : (c : ℕ) (ls : List ℕ) → uses c rs ≡ 0 → j + length (r ∷ rs) ≤ length ls → But c ls j (r ∷ rs) → eqb (r .kind) 0 ≡ false
+  go-on : (c : ℕ) (ls : List ℕ) → uses c rs ≡ 0 → j + length (r ∷ rs) ≤ length ls → But c ls j (r ∷ rs) → isLeaf (r .kind) ≡ false
       → Walked (r ∷ rs) j ls (walk rs (suc j) j (set ls j (reworked ls r)) .labels)
   go-on c ls u b g k =
       let v = reworked ls r in

@@ -7,7 +7,7 @@ use mathlib.Core.List.{List, [], _∷_, _++_}
 use borrow.Author.Tests.{eq-eqb, ne-eqb}
 use lib.ListN.{length, getD}
 use lib.Seq.{slice-empty, slice-cons}
-use Rattle.contraction.specs.Steps.{recs}
+use Rattle.contraction.specs.Steps.{entry, entries}
 use Rattle.tree_tokens.specs.Tokens.{Token, bare, single, double, decode, toks}
 use Rattle.tree_tokens.proofs.TokensLaws.{decode-bare, decode-single, decode-double, decode-new, present-none, present-some}
 use Rattle.tree_compress.specs.Steps.{chainLength, Pairing, puts, pairs, pairToken, pairTokens, rest, pairingIn}
@@ -39,7 +39,7 @@ pub view-put : (out out′ : List ℕ) (m : PairingMarks) (t : ℕ) → toks out
 view-put out out′ m t e ks fs ss = rw e
 
 pub view-pair : (out out′ ks fs ss ks′ fs′ ss′ : List ℕ) (m : PairingMarks) (upper lower : ℕ) → toks out′ (m .at + 1) ≡ toks out (m .at) ++ (decode (4096 + m .next) ∷ [])
-    → recs ks′ fs′ ss′ 0 (m .next + 1) ≡ recs ks fs ss 0 (m .next) ++ (record { kind = 14; first = upper; second = lower } ∷ []) → m .next < 3072
+    → entries ks′ fs′ ss′ 0 (m .next + 1) ≡ entries ks fs ss 0 (m .next) ++ (entry 14 upper lower ∷ []) → m .next < 3072
     → pairingIn out′ ks′ fs′ ss′ (record { held = 65535; at = m .at + 1; next = m .next + 1 }) ≡ pairs upper lower (pairingIn out ks fs ss m)
 view-pair out out′ ks fs ss ks′ fs′ ss′ m upper lower e q b = rw (e, q, decode-new (m .next) b)
 

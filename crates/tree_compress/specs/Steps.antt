@@ -7,8 +7,8 @@ use mathlib.Core.List.{List, [], _∷_, _++_, map}
 use mathlib.Core.Option.{Option, none, some}
 use lib.Dec.{eqb}
 use lib.Seq.{slice}
-use Rattle.contraction.specs.Records.{Rec, C-rec}
-use Rattle.contraction.specs.Steps.{recs}
+use Rattle.contraction.specs.Records.{C-rec}
+use Rattle.contraction.specs.Steps.{Entry, entries, entryOf}
 use Rattle.tree_tokens.specs.Tokens.{Token, bare, single, double, decode, present, toks}
 use Rattle.tree_compress.specs.declared.PairingMarks.{PairingMarks}
 
@@ -23,7 +23,7 @@ chainLength (double o ∷ ts) = 0
 pub record Pairing : Type 0 where
   pub held : Option ℕ
   pub out : List Token
-  pub made : List Rec
+  pub made : List Entry
   pub next : ℕ
 
 abbrev pub puts : Token → Pairing → Pairing
@@ -34,7 +34,7 @@ holds d σ = record { held = some d; out = σ .out; made = σ .made; next = σ .
 
 abbrev pub pairs : ℕ → ℕ → Pairing → Pairing
 pairs upper lower σ =
-    record { held = none; out = σ .out ++ (single (σ .next) ∷ []); made = σ .made ++ (C-rec upper lower ∷ []); next = σ .next + 1 }
+    record { held = none; out = σ .out ++ (single (σ .next) ∷ []); made = σ .made ++ (entryOf (C-rec upper lower) ∷ []); next = σ .next + 1 }
 
 -- A one-child node at the front of a run of k: the upper one of a pair, or the lower one if k is even, else it waits as it is.
 abbrev pub onChained : ℕ → ℕ → Option ℕ → Pairing → Pairing
@@ -59,11 +59,11 @@ rest l i n = map decode (slice i n l)
 -- What is held: 65535 where there is none.
 abbrev pub pairingIn : List ℕ → List ℕ → List ℕ → List ℕ → PairingMarks → Pairing
 pairingIn out ks fs ss m =
-    record { held = present (m .held); out = toks out (m .at); made = recs ks fs ss 0 (m .next); next = m .next }
+    record { held = present (m .held); out = toks out (m .at); made = entries ks fs ss 0 (m .next); next = m .next }
 
 -- Where a pass begins: nothing is held and nothing is out.
 abbrev pub pairingStart : List ℕ → List ℕ → List ℕ → ℕ → Pairing
-pairingStart ks fs ss next = record { held = none; out = []; made = recs ks fs ss 0 next; next = next }
+pairingStart ks fs ss next = record { held = none; out = []; made = entries ks fs ss 0 next; next = next }
 
 -- There is room for one token more.
 pub record PairingRoom (m : PairingMarks) : Type 0 where

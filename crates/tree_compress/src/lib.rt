@@ -5,7 +5,7 @@ ghost use mathlib.Core.List.{List};
 ghost use Prim.Native.Nat.{ℕ, _+_, _-_, _≤_, _<_};
 ghost use lib.ListN.{length};
 ghost use Rattle.contraction.specs.Rounds.{Work, compresses, compressed};
-ghost use Rattle.contraction.specs.Steps.{recs};
+ghost use Rattle.contraction.specs.Steps.{entries};
 ghost use Rattle.tree_tokens.specs.Tokens.{decode, flat, toks, Sized, Leaves};
 ghost use Rattle.tree_compress.specs.Steps.{chainLength, puts, pairs, pairToken, rest, pairingIn, PairingRoom, PairingStep};
 
@@ -147,7 +147,7 @@ pub fn compress(
     ensures { λ _. ⌜ Sized (now (out .exit)) (now (kinds .exit)) (now (firsts .exit)) (now (seconds .exit)) ⌝ }
     ensures { λ r. ⌜ r .at ≤ n ⌝ }
     ensures { λ r. ⌜ ((w : Work) → toks (now (tokens .entry)) n ≡ flat w
-        → Leaves (compressed w next) (recs (now (kinds .entry)) (now (firsts .entry)) (now (seconds .entry)) 0 next) (compresses w)
+        → Leaves (compressed w next) (entries (now (kinds .entry)) (now (firsts .entry)) (now (seconds .entry)) 0 next) (compresses w)
         (now (out .exit)) (now (kinds .exit)) (now (firsts .exit)) (now (seconds .exit)) r) ⌝ }
 {
     let mut m = PairingMarks {

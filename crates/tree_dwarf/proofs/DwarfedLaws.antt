@@ -2,19 +2,19 @@
 use Prim.Native.Nat.{ℕ, zero, suc, _*_, _≤_}
 use native.Mathlib.Numerals.{add-one}
 use native.Mathlib.Omega.{arith}
-use mathlib.Core.Path.{_≡_, refl, sym, ap, _∙_}
+use mathlib.Core.Path.{_≡_, refl, sym, ap, ap₂, _∙_}
 use mathlib.Core.List.{List, [], _∷_, _++_, map, map-append}
-use lib.ListN.{length, getD, take, length-append}
+use lib.ListN.{length, getD, take, length-append, length-map}
 use lib.Seq.{take-suc, take-at, length-take-le}
 use Rattle.formula.specs.Formula.{Formula, leaf, node, leaves, postfix, Over}
 use Rattle.formula.proofs.Laws.{length-postfix}
-use Rattle.contraction.specs.Records.{Rec, kindsOf, firstsOf, secondsOf}
+use Rattle.contraction.specs.Records.{number, Rec}
 use Rattle.contraction.specs.Rounds.{nodes, made, rounds, planted, leafRecs, enough, dwarf}
 use Rattle.contraction.specs.Height.{height}
 use Rattle.contraction.proofs.Rounds.{length-leafRecs}
-use Rattle.contraction.specs.Steps.{recAt, recs}
+use Rattle.contraction.specs.Steps.{Entry, entryAt, entries, entryOf, recOf, recs}
 use Rattle.tree_tokens.specs.Tokens.{Shelves, Leaves}
-use Rattle.contraction.proofs.Steps.{recs-next, length-recs}
+use Rattle.contraction.proofs.Steps.{records-entries, entries-append, entries-next, length-entries}
 use Rattle.tree_dwarf.specs.Dwarfed.{Plans, Dwarfed}
 use Rattle.tree_dwarf.specs.Steps.{Contracted, Bounded}
 use Rattle.tree_dwarf.specs.declared.Figures.{Figures}
@@ -32,38 +32,49 @@ plans-postfix f names over h rest = record { over = over-more f names 256 h over
 pub plans-leaves : (f : Formula) (codes : List ℕ) (n : ℕ) → Plans f codes n → n ≤ length codes → suc n ≡ 2 * leaves f
 plans-leaves f codes n p h = omega (arith, length-take-le n codes h, ap length (p .codes-are), length-postfix f)
 
--- a part of each record is what one array holds
-map-recs : (part : Rec → ℕ) (l ks fs ss : List ℕ) → ((i : ℕ) → part (recAt ks fs ss i) ≡ getD l i 0) → (n : ℕ) → n ≤ length l
-    → take n l ≡ map part (recs ks fs ss 0 n)
-unfolding recs
-map-recs part l ks fs ss at zero h = refl
-map-recs part l ks fs ss at (suc n) h =
-    take-suc l n 0 (omega arith) ∙ ap (λ z. z ++ (getD l n 0 ∷ [])) (map-recs part l ks fs ss at n (omega arith))
-    ∙ ap (λ z. map part (recs ks fs ss 0 n) ++ (z ∷ [])) (sym (at n))
-    ∙ sym (map-append part (recs ks fs ss 0 n) (recAt ks fs ss n ∷ [])) ∙ ap (map part) (sym (recs-next ks fs ss n))
-    ∙ ap (λ k. map part (recs ks fs ss 0 k)) (add-one n)
+-- a part of each entry is what one array holds
+map-entries : (part : Entry → ℕ) (l ks fs ss : List ℕ) → ((i : ℕ) → part (entryAt ks fs ss i) ≡ getD l i 0) → (n : ℕ) → n ≤ length l
+    → take n l ≡ map part (entries ks fs ss 0 n)
+unfolding entries
+map-entries part l ks fs ss at zero h = refl
+map-entries part l ks fs ss at (suc n) h =
+    take-suc l n 0 (omega arith) ∙ ap (λ z. z ++ (getD l n 0 ∷ [])) (map-entries part l ks fs ss at n (omega arith))
+    ∙ ap (λ z. map part (entries ks fs ss 0 n) ++ (z ∷ [])) (sym (at n))
+    ∙ sym (map-append part (entries ks fs ss 0 n) (entryAt ks fs ss n ∷ [])) ∙ ap (map part) (sym (entries-next ks fs ss n))
+    ∙ ap (λ k. map part (entries ks fs ss 0 k)) (add-one n)
+
+-- and a part of each record is the same part of its entry
+part-entries : (part : Entry → ℕ) (of : Rec → ℕ) → ((r : Rec) → part (entryOf r) ≡ of r) → (rs : List Rec) → map part (map entryOf rs) ≡ map of rs
+part-entries part of same [] = refl
+part-entries part of same (r ∷ rs) = ap₂ _∷_ (same r) (part-entries part of same rs)
 
 -- leaves numbered, all rounds done, and the height worked out
 module _ (f : Formula) (n : ℕ) {a ks fs ss : List ℕ} (count : ℕ) (started : Leaves (planted f 0) [] (leafRecs f) a ks fs ss (record { at = n; next = count })) where
   pub count-leaves : count ≡ leaves f
   count-leaves = omega (arith, leaves-next started, length-leafRecs f)
 
-  module _ (ks′ fs′ ss′ : List ℕ) (total many tall : ℕ) (end : Contracted (planted f 0) count (recs ks fs ss 0 count) (recs ks′ fs′ ss′ 0 total) many)
+  module _ (ks′ fs′ ss′ : List ℕ) (total many tall : ℕ) (end : Contracted (planted f 0) count (entries ks fs ss 0 count) (entries ks′ fs′ ss′ 0 total) many)
       (sized : Shelves ks′ fs′ ss′) (few : total ≤ 3072) (high : tall ≡ height (recs ks′ fs′ ss′ 0 total)) where
-    records-dwarf : recs ks′ fs′ ss′ 0 total ≡ dwarf f
-    records-dwarf =
-        end .records ∙ ap (λ z. z ++ made (nodes (planted f 0)) (planted f 0) count) (started .records)
-        ∙ ap (λ z. leafRecs f ++ made (nodes (planted f 0)) (planted f 0) z) count-leaves
+    entries-dwarf : entries ks′ fs′ ss′ 0 total ≡ map entryOf (dwarf f)
+    entries-dwarf =
+        end .records ∙ ap (λ z. z ++ map entryOf (made (nodes (planted f 0)) (planted f 0) count)) (started .records)
+        ∙ entries-append [] (leafRecs f) (made (nodes (planted f 0)) (planted f 0) count)
+        ∙ ap (λ z. map entryOf (leafRecs f ++ made (nodes (planted f 0)) (planted f 0) z)) count-leaves
+
+    list-is : (part : Entry → ℕ) (of : Rec → ℕ) → ((r : Rec) → part (entryOf r) ≡ of r) → (l : List ℕ) → length l ≡ 3072
+        → ((i : ℕ) → part (entryAt ks′ fs′ ss′ i) ≡ getD l i 0) → take total l ≡ map of (dwarf f)
+    list-is part of same l long at =
+        map-entries part l ks′ fs′ ss′ at total (omega arith) ∙ ap (map part) entries-dwarf ∙ part-entries part of same (dwarf f)
 
     pub dwarfed : Dwarfed f ks′ fs′ ss′ (record { leaves = count; nodes = total; rounds = many; height = tall })
     dwarfed = record {
       leaves-are = count-leaves;
-      nodes-are = sym (length-recs ks′ fs′ ss′ total 0) ∙ ap length records-dwarf;
+      nodes-are = sym (length-entries ks′ fs′ ss′ total 0) ∙ ap length entries-dwarf ∙ length-map (dwarf f) entryOf;
       rounds-are = end .rounds-are ∙ ap (λ z. rounds (nodes (planted f 0)) (planted f 0) z) count-leaves;
-      height-is = high ∙ ap height records-dwarf;
-      kinds-are = map-recs (λ r. r .kind) ks′ ks′ fs′ ss′ (λ i. refl) total (omega arith) ∙ ap kindsOf records-dwarf;
-      firsts-are = map-recs (λ r. r .first) fs′ ks′ fs′ ss′ (λ i. refl) total (omega arith) ∙ ap firstsOf records-dwarf;
-      seconds-are = map-recs (λ r. r .second) ss′ ks′ fs′ ss′ (λ i. refl) total (omega arith) ∙ ap secondsOf records-dwarf;
+      height-is = high ∙ ap (λ es. height (map recOf es)) entries-dwarf ∙ ap height (records-entries (dwarf f));
+      kinds-are = list-is (λ (e : Entry). e .kind) (λ (r : Rec). number (r .kind)) (λ r. refl) ks′ (sized .kinds-length) (λ i. refl);
+      firsts-are = list-is (λ (e : Entry). e .first) (λ (r : Rec). r .first) (λ r. refl) fs′ (sized .firsts-length) (λ i. refl);
+      seconds-are = list-is (λ (e : Entry). e .second) (λ (r : Rec). r .second) (λ r. refl) ss′ (sized .seconds-length) (λ i. refl);
     }
 
 -- so the numbers stay within the arrays

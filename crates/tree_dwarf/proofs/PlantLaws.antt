@@ -3,21 +3,21 @@ use Prim.Native.Nat.{ℕ, _+_, _-_, _≤_, _<_}
 use native.Mathlib.Numerals.{add-one}
 use native.Mathlib.Omega.{arith}
 use mathlib.Core.Path.{_≡_, refl, sym, ap, _∙_}
-use mathlib.Core.List.{List, [], _∷_, _++_, foldl, foldl-append, append-assoc}
+use mathlib.Core.List.{List, [], _∷_, _++_, map, foldl, foldl-append, append-assoc}
 use borrow.Author.Tests.{lt-ltb, le-ltb}
 use lib.ListN.{length, getD, take}
 use lib.Seq.{take-suc}
 use Rattle.formula.specs.Formula.{Op, union, intersection, difference, exclusive, index, code, Formula, leaf, node, leaves, postfix, Over}
-use Rattle.contraction.specs.Records.{Rec}
 use Rattle.contraction.specs.Rounds.{planted, leafRecs}
-use Rattle.contraction.specs.Steps.{recs}
+use Rattle.contraction.specs.Steps.{Entry, entry, entries, entryOf}
+use Rattle.contraction.proofs.Steps.{entries-append}
 use Rattle.tree_tokens.specs.Tokens.{Token, double, flat, decode, toks}
 use Rattle.tree_tokens.proofs.TokensLaws.{decode-bare, decode-double}
 use Rattle.tree_dwarf.specs.Steps.{Planting, copied, plantCode, plantingIn}
 
 -- ---- one code
 pub plant-leaf : (ts ts′ ks fs ss ks′ fs′ ss′ : List ℕ) (i c next : ℕ) → toks ts′ (i + 1) ≡ toks ts i ++ (decode next ∷ [])
-    → recs ks′ fs′ ss′ 0 (next + 1) ≡ recs ks fs ss 0 next ++ (record { kind = 0; first = c; second = 65535 } ∷ []) → c < 0xFFF0 → next < 3072
+    → entries ks′ fs′ ss′ 0 (next + 1) ≡ entries ks fs ss 0 next ++ (entry 0 c 65535 ∷ []) → c < 0xFFF0 → next < 3072
     → plantingIn ts′ (i + 1) ks′ fs′ ss′ (next + 1) ≡ plantCode (plantingIn ts i ks fs ss next) c
 plant-leaf ts ts′ ks fs ss ks′ fs′ ss′ i c next e q h b = rw (e, q, lt-ltb c 0xFFF0 h, decode-bare next (omega arith))
 
@@ -30,7 +30,7 @@ pub plant-next : (σ₀ : Planting) (l : List ℕ) (i : ℕ) {σ r : Planting} �
 plant-next σ₀ l i q e h = q ∙ ap (λ (s : Planting). plantCode s (getD l i 0)) e ∙ rw (add-one i, take-suc l i 0 h) (sym (foldl-append plantCode σ₀ (take i l) (getD l i 0 ∷ [])))
 
 -- ---- a formula
-same : {a b : List Token} {c d : List Rec} {n m : ℕ} → a ≡ b → c ≡ d → n ≡ m
+same : {a b : List Token} {c d : List Entry} {n m : ℕ} → a ≡ b → c ≡ d → n ≡ m
     → _≡_ {A = Planting} (record { out = a; made = c; next = n }) (record { out = b; made = d; next = m })
 same p q e = rw (p, q, e)
 
@@ -41,14 +41,14 @@ plant-code difference σ = refl
 plant-code exclusive σ = refl
 
 abbrev done : Formula → Planting → Planting
-done f σ = record { out = σ .out ++ flat (planted f (σ .next)); made = σ .made ++ leafRecs f; next = σ .next + leaves f }
+done f σ = record { out = σ .out ++ flat (planted f (σ .next)); made = σ .made ++ map entryOf (leafRecs f); next = σ .next + leaves f }
 
 plant-node : (o : Op) (l r : Formula) (σ : Planting) → plantCode (done r (done l σ)) (code o) ≡ done (node o l r) σ
 plant-node o l r σ =
     let fl = flat (planted l (σ .next)) in
     let fr = flat (planted r (σ .next + leaves l)) in
     plant-code o (done r (done l σ))
-    ∙ same (append-assoc (σ .out ++ fl) fr (double (index o) ∷ []) ∙ append-assoc (σ .out) fl _) (append-assoc (σ .made) (leafRecs l) (leafRecs r)) (omega arith)
+    ∙ same (append-assoc (σ .out ++ fl) fr (double (index o) ∷ []) ∙ append-assoc (σ .out) fl _) (entries-append (σ .made) (leafRecs l) (leafRecs r)) (omega arith)
 
 plant-formula : (f : Formula) → Over 256 f → (σ : Planting) → foldl plantCode σ (postfix f) ≡ done f σ
 plant-formula (leaf s) h σ = rw (lt-ltb s 0xFFF0 (omega arith))
@@ -61,5 +61,5 @@ module _ (f : Formula) (over : Over 256 f) {cs : List ℕ} {σ : Planting} (e : 
   pub planted-tree : σ .out ≡ flat (planted f 0)
   planted-tree = ap (λ (s : Planting). s .out) ran-done
 
-  pub planted-records : σ .made ≡ leafRecs f
+  pub planted-records : σ .made ≡ map entryOf (leafRecs f)
   planted-records = ap (λ (s : Planting). s .made) ran-done

@@ -3,19 +3,19 @@ use Prim.Native.Nat.{ℕ, zero, suc, _+_, _-_, _≤_, _<_}
 use native.Mathlib.Omega.{arith}
 use mathlib.Core.Path.{_≡_, refl, sym, ap, _∙_}
 use mathlib.Core.Bool.{false}
-use mathlib.Core.List.{List, [], _++_, append-assoc, append-nil}
+use mathlib.Core.List.{List, [], _++_, map, append-nil}
 use mathlib.Core.Option.{Option, none, some}
-use lib.ListN.{length, length-append}
+use lib.ListN.{length, length-append, length-map}
 use Rattle.formula.specs.Formula.{Op}
 use Rattle.contraction.specs.Records.{Rec}
 use Rattle.contraction.specs.Rounds.{Work, tip, one, two, nodes, tipOf, oneRemains, rakeOne, rakeTwo, rakes, leftOne, leftTwo, raked}
 use Rattle.contraction.specs.Rounds.{compresses, compressed, roundMakes, roundLeaves, made, rounds}
 use Rattle.contraction.proofs.Counts.{compressed-nodes, nodes-pos}
 use Rattle.contraction.proofs.Rounds.{fewer}
-use Rattle.contraction.specs.Steps.{recs}
+use Rattle.contraction.specs.Steps.{Entry, entries, entryOf}
 use Rattle.tree_tokens.specs.Tokens.{flat, toks, Leaves}
 use Rattle.tree_tokens.specs.declared.Extent.{Extent}
-use Rattle.contraction.proofs.Steps.{length-recs}
+use Rattle.contraction.proofs.Steps.{entries-append, length-entries}
 use Rattle.tree_tokens.proofs.TokensLaws.{toks-nodes}
 use Rattle.tree_dwarf.specs.Steps.{Contracted}
 
@@ -74,9 +74,9 @@ end-rounds (suc k) (one d c) n h = absurd (omega (arith, nodes-pos c))
 end-rounds (suc k) (two o l r) n h = absurd (omega (arith, nodes-pos l, nodes-pos r))
 
 -- ---- what a step leaves
-module _ {w : Work} {found ms : List Rec} {out ks fs ss : List ℕ} {r : Extent} (left : Leaves w found ms out ks fs ss r) where
+module _ {w : Work} {found : List Entry} {ms : List Rec} {out ks fs ss : List ℕ} {r : Extent} (left : Leaves w found ms out ks fs ss r) where
   pub leaves-next : r .next ≡ length found + length ms
-  leaves-next = sym (length-recs ks fs ss (r .next) 0) ∙ ap length (left .records) ∙ length-append found ms
+  leaves-next = sym (length-entries ks fs ss (r .next) 0) ∙ ap length (left .records) ∙ length-append found (map entryOf ms) ∙ ap (λ k. length found + k) (length-map ms entryOf)
 
   pub leaves-nodes : r .at ≤ length out → nodes w ≡ r .at
   leaves-nodes h = toks-nodes w out (r .at) (left .tree) h
@@ -85,17 +85,17 @@ module _ {w : Work} {found ms : List Rec} {out ks fs ss : List ℕ} {r : Extent}
 pub round-fewer : (w : Work) (n : ℕ) → 1 < nodes w → nodes (roundLeaves w n) < nodes w
 round-fewer w n h = omega (arith, fewer w n (nodes w - 2) (omega arith))
 
-module _ (w : Work) (n : ℕ) {found : List Rec} (known : length found ≡ n) {b ks fs ss : List ℕ} {m : Extent}
+module _ (w : Work) (n : ℕ) {found : List Entry} (known : length found ≡ n) {b ks fs ss : List ℕ} {m : Extent}
     (after-rake : Leaves (raked w n) found (rakes w) b ks fs ss m) where
   pub rake-room : m .at ≤ length b → m .next + m .at ≤ n + nodes w
   rake-room h = omega (arith, leaves-next after-rake, leaves-nodes after-rake h, raked-room w n)
 
   module _ {a′ ks′ fs′ ss′ : List ℕ} {r : Extent}
-      (after : Leaves (compressed (raked w n) (m .next)) (recs ks fs ss 0 (m .next)) (compresses (raked w n)) a′ ks′ fs′ ss′ r) where
+      (after : Leaves (compressed (raked w n) (m .next)) (entries ks fs ss 0 (m .next)) (compresses (raked w n)) a′ ks′ fs′ ss′ r) where
     pub after-round : Leaves (roundLeaves w n) found (roundMakes w n) a′ ks′ fs′ ss′ r
     after-round = record {
       tree = after .tree ∙ ap (λ z. flat (compressed (raked w n) z)) (omega (arith, leaves-next after-rake));
-      records = after .records ∙ ap (λ z. z ++ compresses (raked w n)) (after-rake .records) ∙ append-assoc found (rakes w) _;
+      records = after .records ∙ ap (λ z. z ++ map entryOf (compresses (raked w n))) (after-rake .records) ∙ entries-append found (rakes w) _;
     }
 
     pub after-room : r .at ≤ length a′ → r .next + r .at ≤ n + nodes w
@@ -105,17 +105,17 @@ module _ (w : Work) (n : ℕ) {found : List Rec} (known : length found ≡ n) {b
     after-fewer h many = omega (arith, leaves-nodes after-round h, round-fewer w n many)
 
 -- ---- where the rounds have come to, of a tree w₀: what is left to do comes to the whole
-pub record Along (w₀ : Work) (n₀ : ℕ) (found : List Rec) (a : List ℕ) (left : ℕ) (sofar : List Rec) (count many : ℕ) : Type 0 where
+pub record Along (w₀ : Work) (n₀ : ℕ) (found : List Entry) (a : List ℕ) (left : ℕ) (sofar : List Entry) (count many : ℕ) : Type 0 where
   pub tree : Work
   pub most : ℕ
   pub enough : left ≤ most
   pub tokens : toks a left ≡ flat tree
-  pub all-made : sofar ++ made most tree count ≡ found ++ made (nodes w₀) w₀ n₀
+  pub all-made : sofar ++ map entryOf (made most tree count) ≡ found ++ map entryOf (made (nodes w₀) w₀ n₀)
   pub all-rounds : many + rounds most tree count ≡ rounds (nodes w₀) w₀ n₀
 
-module _ {w₀ : Work} {n₀ : ℕ} {found : List Rec} (a : List ℕ) (left : ℕ) (sofar : List Rec) (count many : ℕ) (t : Along w₀ n₀ found a left sofar count many) (h : left ≤ length a) where
+module _ {w₀ : Work} {n₀ : ℕ} {found : List Entry} (a : List ℕ) (left : ℕ) (sofar : List Entry) (count many : ℕ) (t : Along w₀ n₀ found a left sofar count many) (h : left ≤ length a) where
   pub along-round : (a′ ks fs ss : List ℕ) (r : Extent) → Leaves (roundLeaves (t .tree) count) sofar (roundMakes (t .tree) count) a′ ks fs ss r → length sofar ≡ count
-      → 1 < left → r .at < left → Along w₀ n₀ found a′ (r .at) (recs ks fs ss 0 (r .next)) (r .next) (many + 1)
+      → 1 < left → r .at < left → Along w₀ n₀ found a′ (r .at) (entries ks fs ss 0 (r .next)) (r .next) (many + 1)
   along-round a′ ks fs ss r l c big less = go (t .most) refl
     where
       remain : oneRemains (t .tree) ≡ false
@@ -124,7 +124,7 @@ module _ {w₀ : Work} {n₀ : ℕ} {found : List Rec} (a : List ℕ) (left : �
       next-is : r .next ≡ count + length (roundMakes (t .tree) count)
       next-is = omega (arith, leaves-next l)
 
-      go : (k : ℕ) → t .most ≡ k → Along w₀ n₀ found a′ (r .at) (recs ks fs ss 0 (r .next)) (r .next) (many + 1)
+      go : (k : ℕ) → t .most ≡ k → Along w₀ n₀ found a′ (r .at) (entries ks fs ss 0 (r .next)) (r .next) (many + 1)
       go zero q = absurd (omega (arith, t .enough))
       go (suc k) q = record {
         tree = roundLeaves (t .tree) count;
@@ -132,11 +132,11 @@ module _ {w₀ : Work} {n₀ : ℕ} {found : List Rec} (a : List ℕ) (left : �
         enough = omega (arith, t .enough);
         tokens = l .tree;
         all-made =
-            ap (λ z. z ++ made k (roundLeaves (t .tree) count) (r .next)) (l .records)
-            ∙ append-assoc sofar (roundMakes (t .tree) count) _
-            ∙ ap (λ z. sofar ++ (roundMakes (t .tree) count ++ made k (roundLeaves (t .tree) count) z)) next-is
-            ∙ ap (λ z. sofar ++ z) (sym (made-round k (t .tree) count remain))
-            ∙ ap (λ z. sofar ++ made z (t .tree) count) (sym q)
+            ap (λ z. z ++ map entryOf (made k (roundLeaves (t .tree) count) (r .next))) (l .records)
+            ∙ entries-append sofar (roundMakes (t .tree) count) _
+            ∙ ap (λ z. sofar ++ map entryOf (roundMakes (t .tree) count ++ made k (roundLeaves (t .tree) count) z)) next-is
+            ∙ ap (λ z. sofar ++ map entryOf z) (sym (made-round k (t .tree) count remain))
+            ∙ ap (λ z. sofar ++ map entryOf (made z (t .tree) count)) (sym q)
             ∙ t .all-made;
         all-rounds =
             ap (λ z. many + 1 + rounds k (roundLeaves (t .tree) count) z) next-is
@@ -147,6 +147,6 @@ module _ {w₀ : Work} {n₀ : ℕ} {found : List Rec} (a : List ℕ) (left : �
   along-end small =
       let few : nodes (t .tree) ≤ 1 = omega (arith, toks-nodes (t .tree) a left (t .tokens) h) in
       record {
-        records = sym (append-nil sofar) ∙ ap (λ z. sofar ++ z) (sym (end-made (t .most) (t .tree) count few)) ∙ t .all-made;
+        records = sym (append-nil sofar) ∙ ap (λ z. sofar ++ map entryOf z) (sym (end-made (t .most) (t .tree) count few)) ∙ t .all-made;
         rounds-are = omega (arith, end-rounds (t .most) (t .tree) count few, t .all-rounds);
       }

@@ -2,12 +2,12 @@
 use Prim.Native.Nat.{ℕ, _+_, _-_, _≤_}
 use mathlib.Core.Path.{_≡_}
 use mathlib.Core.Bool.{cond}
-use mathlib.Core.List.{List, [], _∷_, _++_}
+use mathlib.Core.List.{List, [], _∷_, _++_, map}
 use lib.Dec.{ltb}
 use Rattle.formula.specs.Formula.{firstOperation}
-use Rattle.contraction.specs.Records.{Rec, leafRec}
+use Rattle.contraction.specs.Records.{leafRec}
 use Rattle.contraction.specs.Rounds.{Work, nodes, made, rounds}
-use Rattle.contraction.specs.Steps.{recs}
+use Rattle.contraction.specs.Steps.{Entry, entries, entryOf}
 use Rattle.tree_tokens.specs.Tokens.{Token, bare, double, flat, toks}
 use Rattle.tree_dwarf.specs.declared.Figures.{Figures}
 
@@ -16,11 +16,11 @@ use Rattle.tree_dwarf.specs.declared.Figures.{Figures}
 -- The tokens out, the records made, and the next number.
 pub record Planting : Type 0 where
   pub out : List Token
-  pub made : List Rec
+  pub made : List Entry
   pub next : ℕ
 
 abbrev pub numbered : ℕ → Planting → Planting
-numbered s σ = record { out = σ .out ++ (bare (σ .next) ∷ []); made = σ .made ++ (leafRec s ∷ []); next = σ .next + 1 }
+numbered s σ = record { out = σ .out ++ (bare (σ .next) ∷ []); made = σ .made ++ (entryOf (leafRec s) ∷ []); next = σ .next + 1 }
 
 abbrev pub copied : ℕ → Planting → Planting
 copied o σ = record { out = σ .out ++ (double o ∷ []); made = σ .made; next = σ .next }
@@ -29,7 +29,7 @@ abbrev pub plantCode : Planting → ℕ → Planting
 plantCode σ c = cond (ltb c firstOperation) (numbered c σ) (copied (c - firstOperation) σ)
 
 abbrev pub plantingIn : List ℕ → ℕ → List ℕ → List ℕ → List ℕ → ℕ → Planting
-plantingIn ts i ks fs ss next = record { out = toks ts i; made = recs ks fs ss 0 next; next = next }
+plantingIn ts i ks fs ss next = record { out = toks ts i; made = entries ks fs ss 0 next; next = next }
 
 abbrev pub plantingStart : Planting
 plantingStart = record { out = []; made = []; next = 0 }
@@ -42,8 +42,8 @@ pub record IsTree (ts : List Token) : Type 0 where
   pub is : ts ≡ flat tree
 
 -- All rounds are done, from the tree w and the next number n on.
-pub record Contracted (w : Work) (n : ℕ) (found all : List Rec) (many : ℕ) : Type 0 where
-  pub records : all ≡ found ++ made (nodes w) w n
+pub record Contracted (w : Work) (n : ℕ) (found all : List Entry) (many : ℕ) : Type 0 where
+  pub records : all ≡ found ++ map entryOf (made (nodes w) w n)
   pub rounds-are : many ≡ rounds (nodes w) w n
 
 -- The numbers built stay within the arrays.

@@ -6,7 +6,7 @@ ghost use Prim.Native.Nat.{_+_, _≤_, _<_};
 ghost use lib.ListN.{length};
 ghost use Rattle.formula.specs.Formula.{Formula};
 ghost use Rattle.contraction.specs.Rounds.{Work, roundMakes, roundLeaves, planted, leafRecs};
-ghost use Rattle.contraction.specs.Steps.{recs};
+ghost use Rattle.contraction.specs.Steps.{entries};
 ghost use Rattle.tree_tokens.specs.Tokens.{flat, toks, Shelves, Sized, Leaves};
 ghost use Rattle.tree_rake.specs.Steps.{Lengths};
 ghost use Rattle.tree_dwarf.specs.Dwarfed.{Plans, Planned, Dwarfed};
@@ -93,7 +93,7 @@ fn round(
     ensures { λ _. ⌜ (length (now (a .exit)) ≡ 2048) × Lengths (now (b .exit)) (now (st .exit)) (now (kinds .exit)) (now (firsts .exit)) (now (seconds .exit)) ⌝ }
     ensures { λ r. ⌜ (r .at < n) × (r .next + r .at ≤ next + n) ⌝ }
     ensures { λ r. ⌜ ((w : Work) → toks (now (a .entry)) n ≡ flat w
-        → Leaves (roundLeaves w next) (recs (now (kinds .entry)) (now (firsts .entry)) (now (seconds .entry)) 0 next) (roundMakes w next)
+        → Leaves (roundLeaves w next) (entries (now (kinds .entry)) (now (firsts .entry)) (now (seconds .entry)) 0 next) (roundMakes w next)
         (now (a .exit)) (now (kinds .exit)) (now (firsts .exit)) (now (seconds .exit)) r) ⌝ }
 {
     let m = tree_rake::rake(a, n, b, st, kinds, firsts, seconds, next);
@@ -115,8 +115,8 @@ fn contract(
     requires { ⌜ (n ≤ 2048) × (next + n ≤ 3072) × IsTree (toks (now a) n) ⌝ }
     ensures { λ r. ⌜ Shelves (now (kinds .exit)) (now (firsts .exit)) (now (seconds .exit)) × (r .nodes ≤ 3072) ⌝ }
     ensures { λ r. ⌜ ((w : Work) → toks (now (a .entry)) n ≡ flat w
-        → Contracted w next (recs (now (kinds .entry)) (now (firsts .entry)) (now (seconds .entry)) 0 next)
-        (recs (now (kinds .exit)) (now (firsts .exit)) (now (seconds .exit)) 0 (r .nodes)) (r .rounds)) ⌝ }
+        → Contracted w next (entries (now (kinds .entry)) (now (firsts .entry)) (now (seconds .entry)) 0 next)
+        (entries (now (kinds .exit)) (now (firsts .exit)) (now (seconds .exit)) 0 (r .nodes)) (r .rounds)) ⌝ }
 {
     let mut b = [0u16; 2048];
     let mut st = [0u16; 2048];

@@ -6,15 +6,15 @@ use native.Mathlib.Omega.{arith}
 use mathlib.Core.Path.{_≡_, refl, sym, ap, _∙_}
 use mathlib.Core.Bool.{Bool, true, false}
 use mathlib.Core.List.{List, [], _∷_, _++_}
-use borrow.Author.Tests.{lt-ltb, le-ltb, eqb-true, eqb-false}
+use borrow.Author.Tests.{eqb-true, eqb-false}
 use lib.Dec.{eqb}
 use lib.ListN.{length, getD, set, take}
 use lib.Seq.{getD-take, take-suc-set, getD-set-same, getD-set-other}
 use Rattle.contraction.specs.Records.{Rec}
 use Rattle.contraction.specs.Height.{worked, last, path, height}
 use Rattle.contraction.proofs.Worked.{worked-snoc}
-use Rattle.contraction.proofs.Steps.{recs-next}
-use Rattle.contraction.specs.Steps.{recs, recAt}
+use Rattle.contraction.proofs.Steps.{below-none, below-E, below-R, below-rest, recs-next}
+use Rattle.contraction.specs.Steps.{entry, recOf, recAt, recs}
 use Rattle.tree_height.specs.Steps.{Low}
 
 -- ---- a step to a node
@@ -33,19 +33,19 @@ through-past l i c h = rw (take-past i l c h)
 -- ---- by kind
 module _ (xs : List ℕ) (k f s : ℕ) where
   abbrev r : Rec
-  r = record { kind = k; first = f; second = s }
+  r = recOf (entry k f s)
 
   pub path-leaf : k ≡ 0 → path xs r ≡ 0
-  path-leaf h = rw (lt-ltb k 1 (omega arith))
+  path-leaf h = rw (below-none k f s h)
 
-  pub path-E : 1 ≤ k → k ≤ 4 → path xs r ≡ max (getD xs f 0 + 1) (getD xs s 0 + 1)
-  path-E a b = rw (le-ltb k 1 a, lt-ltb k 5 (omega arith), add-one (getD xs f 0), add-one, max-zero)
+  pub path-E : (k ≡ 0 → ⊥) → k < 5 → path xs r ≡ max (getD xs f 0 + 1) (getD xs s 0 + 1)
+  path-E z h = rw (below-E k f s z h, add-one (getD xs f 0), add-one, max-zero)
 
-  pub path-R : 5 ≤ k → k ≤ 12 → path xs r ≡ getD xs f 0 + 1
-  path-R a b = rw (le-ltb k 1 (omega arith), le-ltb k 5 a, lt-ltb k 13 (omega arith), add-one, max-zero)
+  pub path-R : 5 ≤ k → k < 13 → path xs r ≡ getD xs f 0 + 1
+  path-R l h = rw (below-R k f s l h, add-one, max-zero)
 
   pub path-pair : 13 ≤ k → path xs r ≡ max (getD xs f 0 + 1) (getD xs s 0 + 1)
-  path-pair a = rw (le-ltb k 1 (omega arith), le-ltb k 5 (omega arith), le-ltb k 13 a, add-one (getD xs f 0), add-one, max-zero)
+  path-pair l = rw (below-rest k f s l, add-one (getD xs f 0), add-one, max-zero)
 
 -- ---- one record more
 last-snoc : (xs : List ℕ) (x : ℕ) → last (xs ++ (x ∷ [])) ≡ x

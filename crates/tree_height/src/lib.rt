@@ -3,7 +3,7 @@ ghost use mathlib.Core.Path.{_≡_};
 ghost use Prim.Native.Nat.{_+_, _≤_, _<_, max};
 ghost use lib.ListN.{length, getD, take};
 ghost use Rattle.contraction.specs.Height.{height as heightOf, path as pathOf};
-ghost use Rattle.contraction.specs.Steps.{recs};
+ghost use Rattle.contraction.specs.Steps.{entry, recOf, recs};
 ghost use Rattle.tree_tokens.specs.Tokens.{Shelves};
 ghost use Rattle.tree_height.specs.Steps.{Low};
 
@@ -35,7 +35,7 @@ fn through_both(paths: &[u16; 3072], i: usize, first: u16, second: u16) -> u16
 // The longest path down from the node i with this record.
 fn path(paths: &[u16; 3072], i: usize, kind: u16, first: u16, second: u16) -> u16
     requires { ⌜ (length (now paths) ≡ 3072) × (i < 3072) × Low i (now paths) ⌝ }
-    ensures { λ r. ⌜ (r ≡ pathOf (take i (now (paths .entry))) (record { kind = kind; first = first; second = second })) × (r ≤ i + 1) ⌝ }
+    ensures { λ r. ⌜ (r ≡ pathOf (take i (now (paths .entry))) (recOf (entry kind first second))) × (r ≤ i + 1) ⌝ }
 {
     match kind {
         0 => 0,

@@ -6,8 +6,7 @@ use mathlib.Core.Path.{_≡_, refl, sym, ap, _∙_}
 use mathlib.Core.List.{List, [], _∷_, _++_, foldl, foldl-append}
 use lib.ListN.{length, getD, set}
 use lib.Seq.{getD-set-same, getD-set-other}
-use Rattle.contraction.specs.Records.{Rec}
-use Rattle.contraction.specs.Steps.{recs}
+use Rattle.contraction.specs.Steps.{Entry, entry, entries}
 use Rattle.tree_tokens.specs.Tokens.{decode, present, toks}
 use Rattle.tree_tokens.proofs.TokensLaws.{toks-next, decode-bare, decode-single, decode-double, decode-new, present-none, present-some}
 use Rattle.tree_rake.specs.Steps.{Raking, kept, makes, rakeToken, operands, rakingIn}
@@ -32,7 +31,7 @@ pub view-keep : (out out′ st : List ℕ) (m : RakingMarks) (t : ℕ) → toks 
     → (ks fs ss : List ℕ) → rakingIn out′ (set st (m .top) 65535) ks fs ss (record { top = m .top + 1; at = m .at + 1; next = m .next }) ≡ kept (decode t) (rakingIn out st ks fs ss m)
 view-keep out out′ st m t e h ks fs ss = rw (e, operands-push st (m .top) 65535 h)
 
-pub view-make : {σ : Raking} (out st ks fs ss ks′ fs′ ss′ : List ℕ) (m : RakingMarks) (t : ℕ) (r : Rec) → recs ks′ fs′ ss′ 0 (m .next + 1) ≡ recs ks fs ss 0 (m .next) ++ (r ∷ [])
+pub view-make : {σ : Raking} (out st ks fs ss ks′ fs′ ss′ : List ℕ) (m : RakingMarks) (t : ℕ) (r : Entry) → entries ks′ fs′ ss′ 0 (m .next + 1) ≡ entries ks fs ss 0 (m .next) ++ (r ∷ [])
     → σ ≡ kept (decode t) (rakingIn out st ks′ fs′ ss′ (record { top = m .top; at = m .at; next = m .next + 1 })) → σ ≡ makes r (decode t) (rakingIn out st ks fs ss m)
 view-make out st ks fs ss ks′ fs′ ss′ m t r e q = q ∙ rw e
 
@@ -58,7 +57,7 @@ module _ (out st ks fs ss : List ℕ) (m : RakingMarks) (t : ℕ) where
     one-kept v e = e ∙ rw (decode-single t h l, operands-pop st (m .top) z, present-none _ v)
 
     pub one-raked : (getD st (m .top - 1) 0 ≡ 65535 → ⊥) → m .next < 3072
-        → r ≡ makes (record { kind = 13; first = t - 4096; second = getD st (m .top - 1) 0 }) (decode (m .next)) (less 1) → r ≡ rakeToken σ (decode t)
+        → r ≡ makes (entry 13 (t - 4096) (getD st (m .top - 1) 0)) (decode (m .next)) (less 1) → r ≡ rakeToken σ (decode t)
     one-raked v b e = e ∙ rw (decode-single t h l, operands-pop st (m .top) z, present-some _ v, decode-bare (m .next) (omega arith))
 
   pub two-none : m .top < 2 → 0xFFF0 ≤ t → σ ≡ rakeToken σ (decode t)
@@ -69,15 +68,15 @@ module _ (out st ks fs ss : List ℕ) (m : RakingMarks) (t : ℕ) where
     two-kept y x e = e ∙ rw (decode-double t h, operands-pop2 st (m .top) z, present-none _ y, present-none _ x)
 
     pub two-right : (getD st (m .top - 1) 0 ≡ 65535 → ⊥) → getD st (m .top - 2) 0 ≡ 65535 → m .next < 3072
-        → r ≡ makes (record { kind = 9 + (t - 0xFFF0); first = getD st (m .top - 1) 0; second = 65535 }) (decode (4096 + m .next)) (less 2) → r ≡ rakeToken σ (decode t)
+        → r ≡ makes (entry (9 + (t - 0xFFF0)) (getD st (m .top - 1) 0) 65535) (decode (4096 + m .next)) (less 2) → r ≡ rakeToken σ (decode t)
     two-right y x b e = e ∙ rw (decode-double t h, operands-pop2 st (m .top) z, present-some _ y, present-none _ x, decode-new (m .next) b)
 
     pub two-left : getD st (m .top - 1) 0 ≡ 65535 → (getD st (m .top - 2) 0 ≡ 65535 → ⊥) → m .next < 3072
-        → r ≡ makes (record { kind = 5 + (t - 0xFFF0); first = getD st (m .top - 2) 0; second = 65535 }) (decode (4096 + m .next)) (less 2) → r ≡ rakeToken σ (decode t)
+        → r ≡ makes (entry (5 + (t - 0xFFF0)) (getD st (m .top - 2) 0) 65535) (decode (4096 + m .next)) (less 2) → r ≡ rakeToken σ (decode t)
     two-left y x b e = e ∙ rw (decode-double t h, operands-pop2 st (m .top) z, present-none _ y, present-some _ x, decode-new (m .next) b)
 
     pub two-both : (getD st (m .top - 1) 0 ≡ 65535 → ⊥) → (getD st (m .top - 2) 0 ≡ 65535 → ⊥) → m .next < 3072
-        → r ≡ makes (record { kind = 1 + (t - 0xFFF0); first = getD st (m .top - 2) 0; second = getD st (m .top - 1) 0 }) (decode (m .next)) (less 2) → r ≡ rakeToken σ (decode t)
+        → r ≡ makes (entry (1 + (t - 0xFFF0)) (getD st (m .top - 2) 0) (getD st (m .top - 1) 0)) (decode (m .next)) (less 2) → r ≡ rakeToken σ (decode t)
     two-both y x b e = e ∙ rw (decode-double t h, operands-pop2 st (m .top) z, present-some _ y, present-some _ x, decode-bare (m .next) (omega arith))
 
   pub bare-step : m .top < length st → t < 4096 → rakingIn out (set st (m .top) t) ks fs ss (record { top = m .top + 1; at = m .at; next = m .next }) ≡ rakeToken σ (decode t)

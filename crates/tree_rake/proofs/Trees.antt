@@ -4,11 +4,13 @@ use native.Mathlib.Nat.{add-zero}
 use native.Mathlib.Omega.{arith}
 use mathlib.Core.Path.{_≡_, refl, sym, ap, _∙_}
 use mathlib.Core.Bool.{false}
-use mathlib.Core.List.{List, [], _∷_, _++_, foldl, foldl-append, append-nil, append-assoc}
+use mathlib.Core.List.{List, [], _∷_, _++_, map, foldl, foldl-append, append-nil, append-assoc}
 use mathlib.Core.Option.{Option, none, some}
 use lib.ListN.{length, length-append}
 use Rattle.formula.specs.Formula.{Op, index}
 use Rattle.contraction.specs.Records.{Rec}
+use Rattle.contraction.specs.Steps.{Entry, entryOf}
+use Rattle.contraction.proofs.Steps.{entries-append}
 use Rattle.contraction.specs.Rounds.{Work, tip, one, two, tipOf, oneRemains, rakeOne, rakeTwo, rakes, leftOne, leftTwo, raked}
 use Rattle.tree_tokens.specs.Tokens.{Token, bare, single, double, flat}
 use Rattle.tree_rake.specs.Steps.{Raking, onSingle, onDouble, rakeToken}
@@ -49,7 +51,7 @@ two-written o (two e c d) (two h f g) n k m = refl
 
 -- a step at a node puts a token out and makes the node's records
 abbrev settled : Token → List Rec → List (Option ℕ) → Raking → Raking
-settled t rs st σ = record { stack = none ∷ st; out = σ .out ++ (t ∷ []); made = σ .made ++ rs; next = σ .next + length rs }
+settled t rs st σ = record { stack = none ∷ st; out = σ .out ++ (t ∷ []); made = σ .made ++ map entryOf rs; next = σ .next + length rs }
 
 onSingle-settled : (d : ℕ) (a : Option ℕ) (st : List (Option ℕ)) (σ : Raking) → onSingle d σ (a ∷ st) ≡ settled (leftSingle d a (σ .next)) (rakeOne d a) st σ
 onSingle-settled d (some v) st σ = refl
@@ -64,9 +66,9 @@ onDouble-settled o none none st σ = rw (append-nil (σ .made), add-zero (σ .ne
 
 -- a tree is done
 abbrev done : Work → Raking → Raking
-done w σ = record { stack = tipOf w ∷ σ .stack; out = σ .out ++ written w (σ .next); made = σ .made ++ rakes w; next = σ .next + length (rakes w) }
+done w σ = record { stack = tipOf w ∷ σ .stack; out = σ .out ++ written w (σ .next); made = σ .made ++ map entryOf (rakes w); next = σ .next + length (rakes w) }
 
-same : (s : List (Option ℕ)) {a b : List Token} {c d : List Rec} {n m : ℕ} → a ≡ b → c ≡ d → n ≡ m
+same : (s : List (Option ℕ)) {a b : List Token} {c d : List Entry} {n m : ℕ} → a ≡ b → c ≡ d → n ≡ m
     → _≡_ {A = Raking} (record { stack = s; out = a; made = c; next = n }) (record { stack = s; out = b; made = d; next = m })
 same s p q e = rw (p, q, e)
 
@@ -74,7 +76,7 @@ one-done : (d : ℕ) (c : Work) (σ : Raking) → onSingle d (done c σ) (tipOf 
 one-done d c σ =
     let n = σ .next in
     onSingle-settled d (tipOf c) (σ .stack) (done c σ)
-    ∙ same _ (append-assoc (σ .out) (written c n) _ ∙ ap (λ z. σ .out ++ z) (sym (one-written d c n _))) (append-assoc (σ .made) (rakes c) _)
+    ∙ same _ (append-assoc (σ .out) (written c n) _ ∙ ap (λ z. σ .out ++ z) (sym (one-written d c n _))) (entries-append (σ .made) (rakes c) (rakeOne d (tipOf c)))
     (omega (arith, length-append (rakes c) (rakeOne d (tipOf c))))
 
 two-done : (o : Op) (l r : Work) (σ : Raking) → onDouble (index o) (done r (done l σ)) (tipOf r ∷ tipOf l ∷ σ .stack) ≡ done (two o l r) σ
@@ -85,7 +87,7 @@ two-done o l r σ =
     onDouble-settled o (tipOf l) (tipOf r) (σ .stack) (done r (done l σ))
     ∙ same _
     (append-assoc (σ .out ++ written l n) (written r k) _ ∙ append-assoc (σ .out) (written l n) _ ∙ ap (λ z. σ .out ++ z) (sym (two-written o l r n k _)))
-    (append-assoc (σ .made ++ rakes l) (rakes r) t ∙ append-assoc (σ .made) (rakes l) (rakes r ++ t))
+    (entries-append (σ .made ++ map entryOf (rakes l)) (rakes r) t ∙ entries-append (σ .made) (rakes l) (rakes r ++ t))
     (omega (arith, length-append (rakes l) (rakes r ++ t), length-append (rakes r) t))
 
 run-tree : (w : Work) (σ : Raking) → foldl rakeToken σ (flat w) ≡ done w σ
@@ -99,7 +101,7 @@ whole (tip d) n e = let z : _≡_ {A = ℕ} 0 1 = cc in absurd (omega arith)
 whole (one d c) n e = refl
 whole (two o l r) n e = refl
 
-module _ (w : Work) (rs : List Rec) (n : ℕ) (many : oneRemains w ≡ false) {ts : List Token} {σ : Raking} (e : ts ≡ flat w)
+module _ (w : Work) (rs : List Entry) (n : ℕ) (many : oneRemains w ≡ false) {ts : List Token} {σ : Raking} (e : ts ≡ flat w)
     (ran : σ ≡ foldl rakeToken (record { stack = []; out = []; made = rs; next = n }) ts) where
   ran-done : σ ≡ done w (record { stack = []; out = []; made = rs; next = n })
   ran-done = (rw e at ran) ∙ run-tree w _
@@ -107,5 +109,5 @@ module _ (w : Work) (rs : List Rec) (n : ℕ) (many : oneRemains w ≡ false) {t
   pub raked-tree : σ .out ≡ flat (raked w n)
   raked-tree = ap (λ (s : Raking). s .out) ran-done ∙ whole w n many
 
-  pub raked-records : σ .made ≡ rs ++ rakes w
+  pub raked-records : σ .made ≡ rs ++ map entryOf (rakes w)
   raked-records = ap (λ (s : Raking). s .made) ran-done

@@ -4,8 +4,8 @@ use mathlib.Core.Path.{_≡_}
 use mathlib.Core.List.{List, [], _∷_, _++_}
 use mathlib.Core.Option.{Option, none, some}
 use lib.ListN.{length, getD}
-use Rattle.contraction.specs.Records.{Rec, absent, S-rec}
-use Rattle.contraction.specs.Steps.{recs}
+use Rattle.contraction.specs.Records.{absent, S-rec}
+use Rattle.contraction.specs.Steps.{Entry, entry, entries, entryOf}
 use Rattle.tree_tokens.specs.Tokens.{Token, bare, single, double, present, toks, Sized}
 use Rattle.tree_rake.specs.declared.RakingMarks.{RakingMarks}
 
@@ -14,7 +14,7 @@ use Rattle.tree_rake.specs.declared.RakingMarks.{RakingMarks}
 pub record Raking : Type 0 where
   pub stack : List (Option ℕ)
   pub out : List Token
-  pub made : List Rec
+  pub made : List Entry
   pub next : ℕ
 
 abbrev pub withStack : List (Option ℕ) → Raking → Raking
@@ -25,20 +25,20 @@ abbrev pub kept : Token → Raking → Raking
 kept t σ = record { stack = none ∷ σ .stack; out = σ .out ++ (t ∷ []); made = σ .made; next = σ .next }
 
 -- A record is made besides.
-abbrev pub makes : Rec → Token → Raking → Raking
+abbrev pub makes : Entry → Token → Raking → Raking
 makes r t σ = record { stack = none ∷ σ .stack; out = σ .out ++ (t ∷ []); made = σ .made ++ (r ∷ []); next = σ .next + 1 }
 
 abbrev pub onSingle : ℕ → Raking → List (Option ℕ) → Raking
 onSingle d σ [] = σ
-onSingle d σ (some v ∷ st) = makes (S-rec d v) (bare (σ .next)) (withStack st σ)
+onSingle d σ (some v ∷ st) = makes (entryOf (S-rec d v)) (bare (σ .next)) (withStack st σ)
 onSingle d σ (none ∷ st) = kept (single d) (withStack st σ)
 
 abbrev pub onDouble : ℕ → Raking → List (Option ℕ) → Raking
 onDouble o σ [] = σ
 onDouble o σ (b ∷ []) = σ
-onDouble o σ (some b ∷ some a ∷ st) = makes (record { kind = 1 + o; first = a; second = b }) (bare (σ .next)) (withStack st σ)
-onDouble o σ (none ∷ some a ∷ st) = makes (record { kind = 5 + o; first = a; second = absent }) (single (σ .next)) (withStack st σ)
-onDouble o σ (some b ∷ none ∷ st) = makes (record { kind = 9 + o; first = b; second = absent }) (single (σ .next)) (withStack st σ)
+onDouble o σ (some b ∷ some a ∷ st) = makes (entry (1 + o) a b) (bare (σ .next)) (withStack st σ)
+onDouble o σ (none ∷ some a ∷ st) = makes (entry (5 + o) a absent) (single (σ .next)) (withStack st σ)
+onDouble o σ (some b ∷ none ∷ st) = makes (entry (9 + o) b absent) (single (σ .next)) (withStack st σ)
 onDouble o σ (none ∷ none ∷ st) = kept (double o) (withStack st σ)
 
 abbrev pub rakeToken : Raking → Token → Raking
@@ -55,11 +55,11 @@ operands l (suc n) = present (getD l n 0) ∷ operands l n
 
 abbrev pub rakingIn : List ℕ → List ℕ → List ℕ → List ℕ → List ℕ → RakingMarks → Raking
 rakingIn out st ks fs ss m =
-    record { stack = operands st (m .top); out = toks out (m .at); made = recs ks fs ss 0 (m .next); next = m .next }
+    record { stack = operands st (m .top); out = toks out (m .at); made = entries ks fs ss 0 (m .next); next = m .next }
 
 -- Where a pass begins: nothing waits and nothing is out.
 abbrev pub rakingStart : List ℕ → List ℕ → List ℕ → ℕ → Raking
-rakingStart ks fs ss next = record { stack = []; out = []; made = recs ks fs ss 0 next; next = next }
+rakingStart ks fs ss next = record { stack = []; out = []; made = entries ks fs ss 0 next; next = next }
 
 -- All arrays have their full length.
 pub record Lengths (out st ks fs ss : List ℕ) : Type 0 where

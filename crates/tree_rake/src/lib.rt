@@ -6,7 +6,7 @@ ghost use mathlib.Core.List.{List};
 ghost use Prim.Native.Nat.{ℕ, _+_, _≤_, _<_};
 ghost use lib.ListN.{length};
 ghost use Rattle.contraction.specs.Rounds.{Work, oneRemains, rakes, raked};
-ghost use Rattle.contraction.specs.Steps.{recs};
+ghost use Rattle.contraction.specs.Steps.{entry, entries};
 ghost use Rattle.tree_tokens.specs.Tokens.{decode, flat, toks, Leaves};
 ghost use Rattle.tree_rake.specs.Steps.{kept, makes, rakeToken, rakingIn, Lengths, RakingRoom, RakingStep};
 
@@ -52,7 +52,7 @@ fn make(
     requires { ⌜ RakingRoom m ⌝ }
     ensures { λ _. ⌜ Lengths (now (out .exit)) (now (st .exit)) (now (kinds .exit)) (now (firsts .exit)) (now (seconds .exit)) ⌝ }
     ensures { λ r. ⌜ rakingIn (now (out .exit)) (now (st .exit)) (now (kinds .exit)) (now (firsts .exit)) (now (seconds .exit)) r
-        ≡ makes (record { kind = kind; first = first; second = second }) (decode t) (rakingIn (now (out .entry)) (now (st .entry)) (now (kinds .entry)) (now (firsts .entry)) (now (seconds .entry)) m) ⌝ }
+        ≡ makes (entry kind first second) (decode t) (rakingIn (now (out .entry)) (now (st .entry)) (now (kinds .entry)) (now (firsts .entry)) (now (seconds .entry)) m) ⌝ }
     ensures { λ r. ⌜ (r .top ≡ m .top + 1) × (r .at ≡ m .at + 1) × (r .next ≡ m .next + 1) ⌝ }
 {
     let next = m.next;
@@ -195,7 +195,7 @@ pub fn rake(
     ensures { λ _. ⌜ Lengths (now (out .exit)) (now (st .exit)) (now (kinds .exit)) (now (firsts .exit)) (now (seconds .exit)) ⌝ }
     ensures { λ r. ⌜ r .at ≤ n ⌝ }
     ensures { λ r. ⌜ ((w : Work) → toks (now (tokens .entry)) n ≡ flat w → oneRemains w ≡ false
-        → Leaves (raked w next) (recs (now (kinds .entry)) (now (firsts .entry)) (now (seconds .entry)) 0 next) (rakes w)
+        → Leaves (raked w next) (entries (now (kinds .entry)) (now (firsts .entry)) (now (seconds .entry)) 0 next) (rakes w)
         (now (out .exit)) (now (kinds .exit)) (now (firsts .exit)) (now (seconds .exit)) r) ⌝ }
 {
     let mut m = RakingMarks {

@@ -11,8 +11,8 @@ use lib.ListN.{length, getD, set, take, length-append, length-map}
 use lib.Seq.{take-suc, take-suc-set, length-take-le, getD-set-same, getD-set-other}
 use Rattle.formula.specs.Formula.{index}
 use Rattle.contraction.specs.Rounds.{Work, tip, one, two, nodes}
-use Rattle.contraction.specs.Steps.{recs}
-use Rattle.contraction.proofs.Steps.{recs-none, recs-last, recs-next}
+use Rattle.contraction.specs.Steps.{entry, entries}
+use Rattle.contraction.proofs.Steps.{entries-none, entries-last, entries-next}
 use Rattle.tree_tokens.specs.Tokens.{bare, single, double, flat, decode, present, toks}
 
 -- as many tokens as nodes
@@ -55,21 +55,21 @@ pub toks-next : (l : List ℕ) (n : ℕ) → n < length l → toks l (n + 1) ≡
 toks-next l n h = rw (add-one, take-suc l n 0) (map-append decode (take n l) (getD l n 0 ∷ []))
 
 -- the first n records, and one more
-recs-keep : (ks fs ss : List ℕ) (i k f s n : ℕ) → n ≤ i → recs (set ks i k) (set fs i f) (set ss i s) 0 n ≡ recs ks fs ss 0 n
-recs-keep ks fs ss i k f s zero h = recs-none (set ks i k) (set fs i f) (set ss i s) 0 ∙ sym (recs-none ks fs ss 0)
-recs-keep ks fs ss i k f s (suc n) h =
+entries-keep : (ks fs ss : List ℕ) (i k f s n : ℕ) → n ≤ i → entries (set ks i k) (set fs i f) (set ss i s) 0 n ≡ entries ks fs ss 0 n
+entries-keep ks fs ss i k f s zero h = entries-none (set ks i k) (set fs i f) (set ss i s) 0 ∙ sym (entries-none ks fs ss 0)
+entries-keep ks fs ss i k f s (suc n) h =
     rw (
-      recs-last (set ks i k) (set fs i f) (set ss i s) n 0,
-      recs-last ks fs ss n 0,
+      entries-last (set ks i k) (set fs i f) (set ss i s) n 0,
+      entries-last ks fs ss n 0,
       zero-add n,
-      recs-keep ks fs ss i k f s n (omega arith),
+      entries-keep ks fs ss i k f s n (omega arith),
       getD-set-other ks i n k 0 (omega arith),
       getD-set-other fs i n f 0 (omega arith),
       getD-set-other ss i n s 0 (omega arith),
     )
 
-pub recs-put : (ks fs ss : List ℕ) (k f s n : ℕ) → n < length ks → n < length fs → n < length ss
-    → recs (set ks n k) (set fs n f) (set ss n s) 0 (n + 1) ≡ recs ks fs ss 0 n ++ (record { kind = k; first = f; second = s } ∷ [])
-recs-put ks fs ss k f s n hk hf hs =
-    recs-next (set ks n k) (set fs n f) (set ss n s) n
-    ∙ rw (recs-keep ks fs ss n k f s n (omega arith), getD-set-same ks n k 0 hk, getD-set-same fs n f 0 hf, getD-set-same ss n s 0 hs)
+pub entries-put : (ks fs ss : List ℕ) (k f s n : ℕ) → n < length ks → n < length fs → n < length ss
+    → entries (set ks n k) (set fs n f) (set ss n s) 0 (n + 1) ≡ entries ks fs ss 0 n ++ (entry k f s ∷ [])
+entries-put ks fs ss k f s n hk hf hs =
+    entries-next (set ks n k) (set fs n f) (set ss n s) n
+    ∙ rw (entries-keep ks fs ss n k f s n (omega arith), getD-set-same ks n k 0 hk, getD-set-same fs n f 0 hf, getD-set-same ss n s 0 hs)

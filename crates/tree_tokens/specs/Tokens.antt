@@ -9,7 +9,7 @@ use lib.ListN.{length, take}
 use Rattle.formula.specs.Formula.{index, firstOperation}
 use Rattle.contraction.specs.Records.{Rec, absent}
 use Rattle.contraction.specs.Rounds.{Work, tip, one, two}
-use Rattle.contraction.specs.Steps.{recs}
+use Rattle.contraction.specs.Steps.{Entry, entries, entryOf}
 use Rattle.tree_tokens.specs.declared.Extent.{Extent}
 
 -- A leaf or a one-child node with its dwarf root; a two-child node with its operation's index.
@@ -51,7 +51,7 @@ pub record Sized (out ks fs ss : List ℕ) : Type 0 where
   pub out-length : length out ≡ 2048
   pub shelves : Shelves ks fs ss
 
--- What a step leaves: the tokens of the tree w, and behind the records it found those that it made.
-pub record Leaves (w : Work) (found made : List Rec) (out ks fs ss : List ℕ) (r : Extent) : Type 0 where
+-- What a step leaves: the tokens of the tree w, and behind the entries it found those of the records that it made.
+pub record Leaves (w : Work) (found : List Entry) (made : List Rec) (out ks fs ss : List ℕ) (r : Extent) : Type 0 where
   pub tree : toks out (r .at) ≡ flat w
-  pub records : recs ks fs ss 0 (r .next) ≡ found ++ made
+  pub records : entries ks fs ss 0 (r .next) ≡ found ++ map entryOf made

@@ -3,7 +3,7 @@ ghost use mathlib.Core.Path.{_≡_};
 ghost use mathlib.Core.List.{[], _∷_, _++_};
 ghost use Prim.Native.Nat.{_+_, _<_};
 ghost use lib.ListN.{length};
-ghost use Rattle.contraction.specs.Steps.{recs};
+ghost use Rattle.contraction.specs.Steps.{entry, entries};
 ghost use Rattle.tree_tokens.specs.Tokens.{decode, toks, Shelves};
 
 // How far the tokens and the records are filled.
@@ -34,8 +34,8 @@ pub fn put_record(
     requires { ⌜ Shelves (now kinds) (now firsts) (now seconds) ⌝ }
     requires { ⌜ next < 3072 ⌝ }
     ensures { λ _. ⌜ Shelves (now (kinds .exit)) (now (firsts .exit)) (now (seconds .exit)) ⌝ }
-    ensures { λ _. ⌜ recs (now (kinds .exit)) (now (firsts .exit)) (now (seconds .exit)) 0 (next + 1)
-        ≡ recs (now (kinds .entry)) (now (firsts .entry)) (now (seconds .entry)) 0 next ++ (record { kind = kind; first = first; second = second } ∷ []) ⌝ }
+    ensures { λ _. ⌜ entries (now (kinds .exit)) (now (firsts .exit)) (now (seconds .exit)) 0 (next + 1)
+        ≡ entries (now (kinds .entry)) (now (firsts .entry)) (now (seconds .entry)) 0 next ++ (entry kind first second ∷ []) ⌝ }
 {
     let i = next as usize;
     kinds[i] = kind;

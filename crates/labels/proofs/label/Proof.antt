@@ -1,6 +1,6 @@
 -- `labels::label` meets its contract: each range of kinds is one case of the rule.
-use Rattle.labels.proofs.Ranges.{arm-leaf, arm-pick, arm-both, arm-E, arm-left, arm-right, arm-none}
 use borrow.Author.Needs.{needs}
+use Rattle.labels.proofs.Ranges.{arm-leaf, arm-E, arm-left, arm-right, arm-S, arm-C, arm-rest}
 use Rattle.labels.proofs.label.Statement.{statement}
 use Rattle.labels.proofs.label.Tie as tie
 
@@ -16,20 +16,8 @@ pick-requires c κs = search needs
 bit-requires-2 : tie.Need-bit-requires-2
 bit-requires-2 c κs = search needs
 
-pick-requires-2 : tie.Need-pick-requires-2
-pick-requires-2 c κs = search needs
-
-pick-requires-3 : tie.Need-pick-requires-3
-pick-requires-3 c κs = search needs
-
-pick-requires-4 : tie.Need-pick-requires-4
-pick-requires-4 c κs = search needs
-
-pick-requires-5 : tie.Need-pick-requires-5
-pick-requires-5 c κs = search needs
-
-pair-requires : tie.Need-pair-requires
-pair-requires c κs = search needs
+compose-requires : tie.Need-compose-requires
+compose-requires c κs = search needs
 
 sub-meaning : tie.Need-sub-meaning
 sub-meaning c = search needs
@@ -58,14 +46,17 @@ on-requires-5 c κs = search needs
 raked-right-requires : tie.Need-raked-right-requires
 raked-right-requires c κs = search needs
 
+compose-requires-2 : tie.Need-compose-requires-2
+compose-requires-2 c κs = search needs
+
 returns : tie.Need-returns
 returns c = search arm-leaf
 
 returns-2 : tie.Need-returns-2
-returns-2 c = search arm-pick
+returns-2 c = search arm-S
 
 returns-3 : tie.Need-returns-3
-returns-3 c = search arm-both
+returns-3 c = search arm-C
 
 returns-4 : tie.Need-returns-4
 returns-4 c = search arm-E
@@ -77,7 +68,7 @@ returns-6 : tie.Need-returns-6
 returns-6 c = search arm-right
 
 returns-7 : tie.Need-returns-7
-returns-7 c = search arm-none
+returns-7 c = search arm-rest
 
 pub label-spec : {M : Type 1} → statement M
 label-spec =
@@ -87,11 +78,7 @@ label-spec =
     on-requires
     pick-requires
     bit-requires-2
-    pick-requires-2
-    pick-requires-3
-    pick-requires-4
-    pick-requires-5
-    pair-requires
+    compose-requires
     sub-meaning
     on-requires-2
     on-requires-3
@@ -101,6 +88,7 @@ label-spec =
     raked-left-requires
     on-requires-5
     raked-right-requires
+    compose-requires-2
     returns
     returns-2
     returns-3

@@ -3,7 +3,7 @@ use borrow.Author.Needs.{needs}
 use Prim.Native.Nat.{_+_, _-_, _≤_}
 use native.Mathlib.Omega.{arith}
 use mathlib.Core.Path.{_≡_, refl}
-use Rattle.contraction.specs.Steps.{recs}
+use Rattle.contraction.specs.Steps.{entries}
 use Rattle.tree_tokens.specs.Tokens.{Sized}
 use Rattle.tree_compress.specs.Steps.{chainLength, pairTokens, rest, pairingIn, pairingStart}
 use Rattle.tree_compress.proofs.StepsLaws.{tokens-on, tokens-end, chain-less}
@@ -39,7 +39,7 @@ returns : tie.Need-returns Inv-loop μ-loop
 returns c =
     let h = c .before in
     let a = h .before .args in
-    let rs = recs (a .kinds .now) (a .firsts .now) (a .seconds .now) 0 (a .next) in
+    let rs = entries (a .kinds .now) (a .firsts .now) (a .seconds .now) 0 (a .next) in
     let ran = tokens-end (a .tokens .now) (h .loop .i) (a .n) (h .loop .inv .5) (omega arith) (omega arith) in (
       search needs,
       (search needs, λ w e. record { tree = compressed-tree w rs (a .next) e ran; records = compressed-records w rs (a .next) e ran }),

@@ -5,9 +5,9 @@ use native.Mathlib.Omega.{arith}
 use mathlib.Core.Path.{_≡_, refl}
 use lib.ListN.{length}
 use Rattle.contraction.specs.Rounds.{Work, nodes}
-use Rattle.contraction.specs.Steps.{recs}
+use Rattle.contraction.specs.Steps.{entries}
 use Rattle.tree_tokens.specs.Tokens.{flat, toks}
-use Rattle.contraction.proofs.Steps.{length-recs}
+use Rattle.contraction.proofs.Steps.{length-entries}
 use Rattle.tree_tokens.proofs.TokensLaws.{toks-nodes}
 use Rattle.tree_rake.specs.Steps.{Lengths}
 use Rattle.tree_dwarf.proofs.RoundLaws.{Along, along-round, along-end}
@@ -17,7 +17,7 @@ use Rattle.tree_dwarf.proofs.contract.Tie as tie
 abbrev Inv-loop : tie.InvT-loop
 Inv-loop a₀ n kinds₀ firsts₀ seconds₀ next b₀ st₀ left₀ count₀ rounds₀ a kinds firsts seconds b st left count rounds =
     (left ≤ 2048) × (count + left ≤ 3072) × (rounds + left ≤ 2048) × (length a ≡ 2048) × Lengths b st kinds firsts seconds
-    × ((w : Work) → toks a₀ n ≡ flat w → Along w next (recs kinds₀ firsts₀ seconds₀ 0 next) a left (recs kinds firsts seconds 0 count) count rounds)
+    × ((w : Work) → toks a₀ n ≡ flat w → Along w next (entries kinds₀ firsts₀ seconds₀ 0 next) a left (entries kinds firsts seconds 0 count) count rounds)
 
 abbrev μ-loop : tie.MeasureT-loop
 μ-loop a₀ n kinds₀ firsts₀ seconds₀ next b₀ st₀ left₀ count₀ rounds₀ a kinds firsts seconds b st left count rounds = left
@@ -58,7 +58,7 @@ loop-again c =
       λ w e.
           let t = h .loop .inv .5 w e in
           along-round (h .loop .a) (h .loop .left) _ (h .loop .count) (h .loop .rounds) t (omega arith) _ _ _ _ (c .round .result)
-          (c .round .ensures .1 .1 (t .tree) (t .tokens)) (length-recs (h .loop .kinds) (h .loop .firsts) (h .loop .seconds) (h .loop .count) 0) (omega arith) (omega arith),
+          (c .round .ensures .1 .1 (t .tree) (t .tokens)) (length-entries (h .loop .kinds) (h .loop .firsts) (h .loop .seconds) (h .loop .count) 0) (omega arith) (omega arith),
     )
 
 returns : tie.Need-returns Inv-loop μ-loop

@@ -5,7 +5,7 @@ use native.Mathlib.Omega.{arith}
 use mathlib.Core.Path.{_≡_, refl}
 use mathlib.Core.List.{foldl}
 use lib.ListN.{take}
-use Rattle.contraction.specs.Steps.{recs}
+use Rattle.contraction.specs.Steps.{entries}
 use Rattle.tree_tokens.specs.Tokens.{Sized}
 use Rattle.tree_dwarf.specs.Steps.{plantCode, plantingIn, plantingStart}
 use Rattle.tree_dwarf.proofs.PlantLaws.{plant-next, planted-tree, planted-records}
@@ -20,7 +20,7 @@ abbrev μ-loop : tie.MeasureT-loop
 μ-loop codes n a₀ kinds₀ firsts₀ seconds₀ next₀ i₀ a kinds firsts seconds next i = n - i
 
 loop-holds : tie.Need-loop-holds Inv-loop μ-loop
-unfolding recs
+unfolding entries
 loop-holds c = (search needs, search needs, search needs, refl)
 
 loop-again : tie.Need-loop-again Inv-loop μ-loop

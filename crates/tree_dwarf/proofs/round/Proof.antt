@@ -4,9 +4,9 @@ use native.Mathlib.Omega.{arith}
 use mathlib.Core.Path.{_≡_}
 use lib.ListN.{length}
 use Rattle.contraction.specs.Rounds.{Work, nodes, raked}
-use Rattle.contraction.specs.Steps.{recs}
+use Rattle.contraction.specs.Steps.{entries}
 use Rattle.tree_tokens.specs.Tokens.{flat, toks}
-use Rattle.contraction.proofs.Steps.{length-recs}
+use Rattle.contraction.proofs.Steps.{length-entries}
 use Rattle.tree_tokens.proofs.TokensLaws.{toks-nodes}
 use Rattle.tree_dwarf.proofs.RoundLaws.{more-remain, rake-room, after-round, after-room, after-fewer}
 use Rattle.tree_dwarf.proofs.round.Statement.{statement}
@@ -18,8 +18,8 @@ entry u = u .before .before .before .before .before .before .before
 nodes-are : (s : tie.Start) (w : Work) → toks (s .args .a .now) (s .args .n) ≡ flat w → nodes w ≡ s .args .n
 nodes-are s w e = toks-nodes w (s .args .a .now) (s .args .n) e (search needs)
 
-known : (s : tie.Start) → length (recs (s .args .kinds .now) (s .args .firsts .now) (s .args .seconds .now) 0 (s .args .next)) ≡ s .args .next
-known s = length-recs (s .args .kinds .now) (s .args .firsts .now) (s .args .seconds .now) (s .args .next) 0
+known : (s : tie.Start) → length (entries (s .args .kinds .now) (s .args .firsts .now) (s .args .seconds .now) 0 (s .args .next)) ≡ s .args .next
+known s = length-entries (s .args .kinds .now) (s .args .firsts .now) (s .args .seconds .now) (s .args .next) 0
 
 compress-requires : tie.Need-compress-requires
 compress-requires c κs =

@@ -6,7 +6,7 @@ use mathlib.Core.Path.{_≡_, refl}
 use mathlib.Core.List.{[]}
 use lib.ListN.{length, take}
 use Rattle.contraction.specs.Height.{worked, path, height}
-use Rattle.contraction.specs.Steps.{recs}
+use Rattle.contraction.specs.Steps.{entries, recs}
 use Rattle.tree_height.specs.Steps.{Low}
 use Rattle.tree_height.proofs.PathLaws.{paths-more, last-more, low-more}
 use Rattle.tree_height.proofs.height.Statement.{statement}
@@ -21,7 +21,7 @@ abbrev μ-loop : tie.MeasureT-loop
 μ-loop kinds firsts seconds n paths₀ last₀ i₀ paths last i = n - i
 
 loop-holds : tie.Need-loop-holds Inv-loop μ-loop
-unfolding recs
+unfolding entries
 loop-holds c = (search needs, refl, λ j h. absurd (omega arith), refl, refl)
 
 path-requires : tie.Need-path-requires Inv-loop μ-loop

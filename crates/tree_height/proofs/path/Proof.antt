@@ -13,7 +13,7 @@ returns c = let a = c .before .args in
 
 returns-2 : tie.Need-returns-2
 returns-2 c = let a = c .before .before .before .args in
-    (c .through-both .ensures .0 ∙ sym (path-E (take (a .i) (a .paths .now)) (a .kind) (a .first) (a .second) (omega arith) (omega arith)), search needs)
+    (c .through-both .ensures .0 ∙ sym (path-E (take (a .i) (a .paths .now)) (a .kind) (a .first) (a .second) (λ z. omega arith) (omega arith)), search needs)
 
 returns-3 : tie.Need-returns-3
 returns-3 c = let a = c .before .before .before .before .args in

@@ -4,7 +4,7 @@ use Prim.Native.Nat.{_+_, _-_, _≤_}
 use native.Mathlib.Omega.{arith}
 use mathlib.Core.Path.{_≡_, refl}
 use mathlib.Core.List.{foldl}
-use Rattle.contraction.specs.Steps.{recs}
+use Rattle.contraction.specs.Steps.{entries}
 use Rattle.tree_tokens.specs.Tokens.{toks}
 use Rattle.tree_rake.specs.Steps.{rakeToken, rakingIn, rakingStart, Lengths}
 use Rattle.tree_rake.proofs.StepsLaws.{run-next}
@@ -39,7 +39,7 @@ returns c =
     let h = c .before in
     let a = h .before .args in
     let end : h .loop .i ≡ a .n = omega arith in
-    let rs = recs (a .kinds .now) (a .firsts .now) (a .seconds .now) 0 (a .next) in (
+    let rs = entries (a .kinds .now) (a .firsts .now) (a .seconds .now) 0 (a .next) in (
       search needs,
       (
         search needs,
