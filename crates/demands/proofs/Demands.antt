@@ -19,14 +19,14 @@ use Rattle.accepting.specs.Accepting.{accepted}
 use Rattle.accepting.proofs.Accepted.{accepted-read}
 use Rattle.labels.specs.Labels.{bit, labels as labelsOf}
 use Rattle.labels.proofs.Afresh.{length-labels}
-use Rattle.toggles.specs.Toggles.{toggleRun}
+use Rattle.toggles.specs.Toggles.{Answers, toggleRun}
 use Rattle.toggles.specs.Demand.{rootsAfter, roots as rootsOf, leavesOf}
 use Rattle.toggles.proofs.Runs.{run-roots, length-roots, length-counts}
 use Rattle.toggles.proofs.Count.{count-bound}
 use Rattle.lines.specs.Lines.{crossings, Wall}
 use Rattle.lines.specs.Right.{Right}
 use Rattle.lines.proofs.Theorems.{right-only, classified-right}
-use Rattle.job_run.specs.Running.{running}
+use Rattle.job_run.specs.Running.{answersOf, running}
 use Rattle.job_classify.specs.Classifying.{classifying}
 use Rattle.job_run.specs.Ran.{Ran}
 use Rattle.job_classify.specs.Classified.{Classified}
@@ -46,16 +46,16 @@ roots-at f done (t ∷ ts) (suc i) h =
 
 -- The sheet s, accepted as x, and the toggles ts; the lists after the call.
 module _ (s : List ℕ) (x : Sheet) (is : accepted s ≡ given x) (ts rs cs ls : List ℕ) (nodes : ℕ) (rs′ cs′ ls′ : List ℕ)
-    (ran : Ran (running s ts (length rs) (length cs) (length ls)) ts rs cs ls (run.Ran nodes) rs′ cs′ ls′) where
-  abbrev job : Outcome Formula
+    (ran : Ran (running s ts (length rs) (length cs) (length ls)) rs cs ls (run.Ran nodes) rs′ cs′ ls′) where
+  abbrev job : Outcome Answers
   job = running s ts (length rs) (length cs) (length ls)
 
-  answered : (job ≡ given (x .formula)) × (length (dwarf (x .formula)) ≡ nodes)
+  answered : (job ≡ given (answersOf (x .formula) ts)) × (length (dwarf (x .formula)) ≡ nodes)
   answered =
-      let a = part-given (λ f. length (dwarf f)) job nodes (ran .answer) in
+      let a = part-given (λ v. length (v .final)) job nodes (ran .answer) in
       let y = ran-accepted s ts _ _ _ (a .0) (a .1) in
-      let same : x .formula ≡ a .0 = ap (λ (z : Sheet). z .formula) (given-same x (y .0) (sym is ∙ y .1)) ∙ y .2 in
-      rw same (a .1, a .2)
+      let same : answersOf (x .formula) ts ≡ a .0 = ap (λ (z : Sheet). answersOf (z .formula) ts) (given-same x (y .0) (sym is ∙ y .1)) ∙ y .2 in
+      (a .1 ∙ ap given (sym same), sym (length-labels (toggledBy ts) (dwarf (x .formula))) ∙ ap (λ (v : Answers). length (v .final)) same ∙ a .2)
 
   -- Demand 2: after each toggle the answer is the formula's value, where a shape is inside after an odd number of toggles.
   pub root-after-toggle : (i : ℕ) → i < length ts → getD rs′ i 0 ≡ bit (inside (x .formula) (toggledBy (take (i + 1) ts)))
@@ -85,8 +85,8 @@ module _ (s : List ℕ) (x : Sheet) (is : accepted s ≡ given x) (ts rs cs ls :
 
 -- Two toggle lists in which each shape is toggled an odd number of times in both or an even number in both leave the same label at every node.
 pub same-oddness-same-labels : (s : List ℕ) (x : Sheet) → accepted s ≡ given x
-    → (ts rs cs ls : List ℕ) (nodes : ℕ) (rs′ cs′ ls′ : List ℕ) → Ran (running s ts (length rs) (length cs) (length ls)) ts rs cs ls (run.Ran nodes) rs′ cs′ ls′
-    → (us ps ds ms : List ℕ) (nodes₂ : ℕ) (ps′ ds′ ms′ : List ℕ) → Ran (running s us (length ps) (length ds) (length ms)) us ps ds ms (run.Ran nodes₂) ps′ ds′ ms′
+    → (ts rs cs ls : List ℕ) (nodes : ℕ) (rs′ cs′ ls′ : List ℕ) → Ran (running s ts (length rs) (length cs) (length ls)) rs cs ls (run.Ran nodes) rs′ cs′ ls′
+    → (us ps ds ms : List ℕ) (nodes₂ : ℕ) (ps′ ds′ ms′ : List ℕ) → Ran (running s us (length ps) (length ds) (length ms)) ps ds ms (run.Ran nodes₂) ps′ ds′ ms′
     → ((shape : ℕ) → toggledBy ts shape ≡ toggledBy us shape)
     → (nodes ≡ nodes₂) × ((d : ℕ) → d < nodes → getD ls′ d 0 ≡ getD ms′ d 0)
 same-oddness-same-labels s x is ts rs cs ls nodes rs′ cs′ ls′ a us ps ds ms nodes₂ ps′ ds′ ms′ b same =

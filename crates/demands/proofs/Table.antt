@@ -6,14 +6,12 @@ use lib.IntN.{ℤ, pos}
 use lib.ListN.{length}
 use Rattle.outcome.specs.Outcome.{given, part}
 use Rattle.formula.specs.Formula.{union, intersection, difference, exclusive, Formula, leaf, node, postfix}
-use Rattle.formula.specs.States.{times, toggledBy}
+use Rattle.formula.specs.States.{times}
 use Rattle.contraction.specs.Records.{number}
 use Rattle.contraction.specs.Rounds.{dwarf}
 use Rattle.sheet.specs.Sheet.{lengthAt, pastAt, bytesAt, allGood, same, taken, codesOf, allCodes, formulaOf, header, nameAt, formulaAt, fieldAt, fields, reading}
 use Rattle.accepting.specs.Accepting.{accepted}
-use Rattle.labels.specs.Labels.{labels as labelsOf}
-use Rattle.toggles.specs.Toggles.{Answers, answers, toggleRun}
-use Rattle.toggles.specs.Demand.{roots as rootsOf}
+use Rattle.toggles.specs.Toggles.{Answers, answers}
 use Rattle.lines.specs.Lines as lines
 use Rattle.lines.specs.Lines.{crossed, ordered, anyInside, firstLine, anyOn, lastOn, wallsFrom, classified}
 use Rattle.job_build.specs.Building.{giving, building, Summary, summary, summaryOf}
@@ -62,10 +60,6 @@ worked = sheet 3 (node difference A (node union B C))
 abbrev pub room : ℕ
 room = 12
 
--- What a run is promised to leave: roots, counts, labels.
-abbrev pub ranOn : List ℕ → Formula → Answers
-ranOn ts f = answers (rootsOf f ts) (toggleRun f ts .counts) (labelsOf (toggledBy ts) (dwarf f))
-
 pub data Case : Type 0 where
   -- a sheet is these bytes
   bytes : List ℕ → List ℕ → Case
@@ -82,7 +76,7 @@ abbrev pub Holds : Case → Type 0
 Holds (bytes s b) = s ≡ b
 Holds (builds s n) = part summaryOf (building s room room room) ≡ given n
 Holds (lists s rs) = part (λ f. map (λ r. (number (r .kind), r .first, r .second)) (dwarf f)) (building s room room room) ≡ given rs
-Holds (runs s ts a) = part (ranOn ts) (running s ts room room room) ≡ given a
+Holds (runs s ts a) = running s ts room room room ≡ given a
 Holds (walls s xs ws) =
     classifying s (map (λ x. 0) xs) (map (λ x. x .0) xs) (map (λ x. x .1) xs) room room room
     ≡ given (map (λ w. record { line = 0; start = w .0; end = w .1 }) ws)
@@ -106,8 +100,8 @@ table =
     -- One leaf: one node, no rounds, height 0; a toggle counts 0.
     ∷ builds (sheet 1 A) (summary 1 1 0 0)
     ∷ runs (sheet 1 A) (0 ∷ []) (answers (1 ∷ []) (0 ∷ []) (1 ∷ []))
-    -- A exclusive A, one toggle: root 0, count 2.
-    ∷ runs (sheet 1 (node exclusive A A)) (0 ∷ []) (answers (0 ∷ []) (2 ∷ []) (1 ∷ 1 ∷ 0 ∷ []))
+    -- A exclusive A, one toggle: root 0, and by document 02 count 1.
+    ∷ runs (sheet 1 (node exclusive A A)) (0 ∷ []) (answers (0 ∷ []) (1 ∷ []) (1 ∷ 1 ∷ 0 ∷ []))
     -- A B union C difference D intersection E exclusive: 12 nodes, 3 rounds, height 3.
     ∷ builds (sheet 5 (node exclusive (node intersection (node difference (node union A B) C) D) E)) (summary 5 12 3 3)
     -- A B union C D union intersection: 7 nodes, 2 rounds, height 2.

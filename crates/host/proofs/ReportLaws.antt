@@ -11,6 +11,7 @@ use Rattle.sheet_reading.specs.declared.ReadAnswer.the-variants as read
 use Rattle.lines.specs.Lines.{Wall}
 use Rattle.job_build.specs.Building.{Summary, summary}
 use Rattle.job_build.specs.Built.{builtOf, Built}
+use Rattle.toggles.specs.Toggles.{Answers}
 use Rattle.job_run.specs.Ran.{ranOf, Ran}
 use Rattle.job_classify.specs.Classified.{classifiedOf, Classified}
 use Rattle.job_build.specs.declared.BuildAnswer.{BuildAnswer}
@@ -42,18 +43,18 @@ module _ {o : Outcome Formula} {ks fs ss : List ℕ} {a : BuildAnswer} {ks′ fs
   pub build-refused : {k p : ℕ} → a ≡ build.Refused k p → BuildReported o ks fs ss (buildReport (refused k p)) ks′ fs′ ss′
   build-refused {k} {p} is = build-as (refused k p) (ap builtOf is)
 
-module _ {o : Outcome Formula} {ts rs cs ls : List ℕ} {a : RunAnswer} {rs′ cs′ ls′ : List ℕ} (ran : Ran o ts rs cs ls a rs′ cs′ ls′) where
-  run-as : (v : Outcome ℕ) → ranOf a ≡ v → RunReported o ts rs cs ls (runReport v) rs′ cs′ ls′
+module _ {o : Outcome Answers} {rs cs ls : List ℕ} {a : RunAnswer} {rs′ cs′ ls′ : List ℕ} (ran : Ran o rs cs ls a rs′ cs′ ls′) where
+  run-as : (v : Outcome ℕ) → ranOf a ≡ v → RunReported o rs cs ls (runReport v) rs′ cs′ ls′
   run-as v is =
       record {
         report = ap runReport (sym is ∙ ran .answer);
         lists = ran .lists;
       }
 
-  pub run-reported : {n : ℕ} → a ≡ run.Ran n → RunReported o ts rs cs ls (runReport (given n)) rs′ cs′ ls′
+  pub run-reported : {n : ℕ} → a ≡ run.Ran n → RunReported o rs cs ls (runReport (given n)) rs′ cs′ ls′
   run-reported {n} is = run-as (given n) (ap ranOf is)
 
-  pub run-refused : {k p : ℕ} → a ≡ run.Refused k p → RunReported o ts rs cs ls (runReport (refused k p)) rs′ cs′ ls′
+  pub run-refused : {k p : ℕ} → a ≡ run.Refused k p → RunReported o rs cs ls (runReport (refused k p)) rs′ cs′ ls′
   run-refused {k} {p} is = run-as (refused k p) (ap ranOf is)
 
 module _ {o : Outcome (List Wall)} {wl : List ℕ} {ws we : List ℤ} {a : ClassifyAnswer} {wl′ : List ℕ} {ws′ we′ : List ℤ} (done : Classified o wl ws we a wl′ ws′ we′) where

@@ -9,13 +9,13 @@ use Rattle.outcome.specs.Outcome.{Outcome, given, refused, part}
 use Rattle.outcome.specs.Numbered.{Numbered}
 use Rattle.outcome.proofs.NumberedLaws.{part-numbered}
 use Rattle.formula.specs.Formula.{Formula}
-use Rattle.contraction.specs.Rounds.{dwarf}
 use Rattle.sheet.specs.Sheet.{reading}
 use Rattle.sheet_reading.specs.Reading.{Numbers, numbersOf, told}
 use Rattle.sheet.proofs.Numbered.{reading-numbered}
 use Rattle.lines.specs.Lines.{Wall}
 use Rattle.job_build.specs.Building.{Summary, summaryOf, building}
 use Rattle.job_build.proofs.Settled.{build-numbered}
+use Rattle.toggles.specs.Toggles.{Answers}
 use Rattle.job_run.specs.Running.{running}
 use Rattle.job_run.proofs.Settled.{run-numbered}
 use Rattle.job_classify.specs.Classifying.{classifying}
@@ -31,24 +31,23 @@ use Rattle.host.specs.declared.ClassifyReport.{ClassifyReport}
 pub read-report-unique : (s : List ℕ) (r q : ReadReport) → r ≡ readReport (told s) → q ≡ readReport (told s) → r ≡ q
 read-report-unique s r q a b = a ∙ sym b
 
-module _ (o : Outcome Formula) where
-  pub build-report-unique : (ks fs ss : List ℕ) (r q : BuildReport) (ks₁ fs₁ ss₁ ks₂ fs₂ ss₂ : List ℕ)
-      → BuildReported o ks fs ss r ks₁ fs₁ ss₁ → BuildReported o ks fs ss q ks₂ fs₂ ss₂ → (r ≡ q) × (ks₁ ≡ ks₂) × (fs₁ ≡ fs₂) × (ss₁ ≡ ss₂)
-  build-report-unique ks fs ss r q ks₁ fs₁ ss₁ ks₂ fs₂ ss₂ a b = (
-    a .report ∙ sym (b .report),
-    a .lists .kinds-list ∙ sym (b .lists .kinds-list),
-    a .lists .firsts-list ∙ sym (b .lists .firsts-list),
-    a .lists .seconds-list ∙ sym (b .lists .seconds-list),
-  )
+pub build-report-unique : (o : Outcome Formula) (ks fs ss : List ℕ) (r q : BuildReport) (ks₁ fs₁ ss₁ ks₂ fs₂ ss₂ : List ℕ)
+    → BuildReported o ks fs ss r ks₁ fs₁ ss₁ → BuildReported o ks fs ss q ks₂ fs₂ ss₂ → (r ≡ q) × (ks₁ ≡ ks₂) × (fs₁ ≡ fs₂) × (ss₁ ≡ ss₂)
+build-report-unique o ks fs ss r q ks₁ fs₁ ss₁ ks₂ fs₂ ss₂ a b = (
+  a .report ∙ sym (b .report),
+  a .lists .kinds-list ∙ sym (b .lists .kinds-list),
+  a .lists .firsts-list ∙ sym (b .lists .firsts-list),
+  a .lists .seconds-list ∙ sym (b .lists .seconds-list),
+)
 
-  pub run-report-unique : (ts rs cs ls : List ℕ) (r q : RunReport) (rs₁ cs₁ ls₁ rs₂ cs₂ ls₂ : List ℕ)
-      → RunReported o ts rs cs ls r rs₁ cs₁ ls₁ → RunReported o ts rs cs ls q rs₂ cs₂ ls₂ → (r ≡ q) × (rs₁ ≡ rs₂) × (cs₁ ≡ cs₂) × (ls₁ ≡ ls₂)
-  run-report-unique ts rs cs ls r q rs₁ cs₁ ls₁ rs₂ cs₂ ls₂ a b = (
-    a .report ∙ sym (b .report),
-    a .lists .roots-list ∙ sym (b .lists .roots-list),
-    a .lists .counts-list ∙ sym (b .lists .counts-list),
-    a .lists .labels-list ∙ sym (b .lists .labels-list),
-  )
+pub run-report-unique : (o : Outcome Answers) (rs cs ls : List ℕ) (r q : RunReport) (rs₁ cs₁ ls₁ rs₂ cs₂ ls₂ : List ℕ)
+    → RunReported o rs cs ls r rs₁ cs₁ ls₁ → RunReported o rs cs ls q rs₂ cs₂ ls₂ → (r ≡ q) × (rs₁ ≡ rs₂) × (cs₁ ≡ cs₂) × (ls₁ ≡ ls₂)
+run-report-unique o rs cs ls r q rs₁ cs₁ ls₁ rs₂ cs₂ ls₂ a b = (
+  a .report ∙ sym (b .report),
+  a .lists .roots-list ∙ sym (b .lists .roots-list),
+  a .lists .counts-list ∙ sym (b .lists .counts-list),
+  a .lists .labels-list ∙ sym (b .lists .labels-list),
+)
 
 pub classify-report-unique : (o : Outcome (List Wall)) (ls : List ℕ) (ss es : List ℤ) (r q : ClassifyReport) (ls₁ : List ℕ) (ss₁ es₁ : List ℤ) (ls₂ : List ℕ) (ss₂ es₂ : List ℤ)
     → ClassifyReported o ls ss es r ls₁ ss₁ es₁ → ClassifyReported o ls ss es q ls₂ ss₂ es₂ → (r ≡ q) × (ls₁ ≡ ls₂) × (ss₁ ≡ ss₂) × (es₁ ≡ es₂)
@@ -75,10 +74,10 @@ pub build-given : (s : List ℕ) (a b c : ℕ) → buildReport (part summaryOf (
 build-given s a b c =
     told-given (λ o. buildReport o .number) (λ k p. refl) (part summaryOf (building s a b c)) (part-numbered summaryOf (building s a b c) (build-numbered s a b c))
 
-pub run-given : (s ts : List ℕ) (a b c : ℕ) → runReport (part (λ f. length (dwarf f)) (running s ts a b c)) .number ≡ 0 → (v : ℕ) × (part (λ f. length (dwarf f)) (running s ts a b c) ≡ given v)
+pub run-given : (s ts : List ℕ) (a b c : ℕ) → runReport (part (λ v. length (v .final)) (running s ts a b c)) .number ≡ 0 → (v : ℕ) × (part (λ v. length (v .final)) (running s ts a b c) ≡ given v)
 run-given s ts a b c =
     let job = running s ts a b c in
-    told-given (λ o. runReport o .number) (λ k p. refl) (part (λ f. length (dwarf f)) job) (part-numbered (λ f. length (dwarf f)) job (run-numbered s ts a b c))
+    told-given (λ o. runReport o .number) (λ k p. refl) (part (λ v. length (v .final)) job) (part-numbered (λ v. length (v .final)) job (run-numbered s ts a b c))
 
 pub classify-given : (s ls : List ℕ) (ps : List ℤ) (ss : List ℕ) (a b c : ℕ) → classifyReport (part length (classifying s ls ps ss a b c)) .number ≡ 0
     → (v : ℕ) × (part length (classifying s ls ps ss a b c) ≡ given v)

@@ -7,11 +7,11 @@ use lib.IntN.{ℤ}
 use lib.ListN.{length}
 use Rattle.outcome.specs.Outcome.{Outcome, given, refused, part}
 use Rattle.formula.specs.Formula.{Formula}
-use Rattle.contraction.specs.Rounds.{dwarf}
 use Rattle.sheet_reading.specs.Reading.{Numbers, numbers}
 use Rattle.lines.specs.Lines.{Wall}
 use Rattle.job_build.specs.Building.{Summary, summary, summaryOf}
 use Rattle.job_build.specs.Built.{BuiltLists}
+use Rattle.toggles.specs.Toggles.{Answers}
 use Rattle.job_run.specs.Ran.{RanLists}
 use Rattle.job_classify.specs.Classified.{WallLists}
 use Rattle.host.specs.declared.ReadReport.{ReadReport}
@@ -44,9 +44,9 @@ pub record BuildReported (o : Outcome Formula) (kinds firsts seconds : List ℕ)
   pub report : r ≡ buildReport (part summaryOf o)
   pub lists : BuiltLists o kinds firsts seconds kinds′ firsts′ seconds′
 
-pub record RunReported (o : Outcome Formula) (toggles roots counts labels : List ℕ) (r : RunReport) (roots′ counts′ labels′ : List ℕ) : Type 0 where
-  pub report : r ≡ runReport (part (λ f. length (dwarf f)) o)
-  pub lists : RanLists o toggles roots counts labels roots′ counts′ labels′
+pub record RunReported (o : Outcome Answers) (roots counts labels : List ℕ) (r : RunReport) (roots′ counts′ labels′ : List ℕ) : Type 0 where
+  pub report : r ≡ runReport (part (λ a. length (a .final)) o)
+  pub lists : RanLists o roots counts labels roots′ counts′ labels′
 
 pub record ClassifyReported (o : Outcome (List Wall)) (lines : List ℕ) (starts ends : List ℤ) (r : ClassifyReport) (lines′ : List ℕ) (starts′ ends′ : List ℤ) : Type 0 where
   pub report : r ≡ classifyReport (part length o)

@@ -122,7 +122,7 @@ pub extern "C" fn kressedach_run(
     labels: &mut [u8],
 ) -> RunReport
     ensures { λ r. ⌜ RunReported (running (now (sheet .entry)) (now (toggles .entry)) (length (now (roots .entry))) (length (now (counts .entry))) (length (now (labels .entry))))
-        (now (toggles .entry)) (now (roots .entry)) (now (counts .entry)) (now (labels .entry)) r (now (roots .exit)) (now (counts .exit)) (now (labels .exit)) ⌝ }
+        (now (roots .entry)) (now (counts .entry)) (now (labels .entry)) r (now (roots .exit)) (now (counts .exit)) (now (labels .exit)) ⌝ }
 {
     match job_run::run(sheet, toggles, roots, counts, labels) {
         RunAnswer::Ran { nodes } => RunReport {

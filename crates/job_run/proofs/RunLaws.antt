@@ -5,14 +5,19 @@ use mathlib.Core.Path.{_≡_, refl, sym, ap, _∙_}
 use mathlib.Core.Bool.{Bool, true, false}
 use mathlib.Core.List.{List, [], _∷_}
 use lib.Dec.{ltb, eqb}
-use borrow.Author.Tests.{eq-eqb, ne-eqb, le-leb, lt-leb}
-use lib.ListN.{length}
+use borrow.Author.Tests.{eq-eqb, ne-eqb, le-leb, lt-leb, ltb-true, ltb-false}
+use lib.ListN.{length, getD, List·getD-eq-default}
 use Rattle.outcome.specs.Outcome.{Outcome, given, refused, _>>_}
 use Rattle.formula.specs.Formula.{Formula}
+use Rattle.formula.specs.States.{toggledBy}
 use Rattle.formula.proofs.Laws.{over-more}
+use Rattle.contraction.specs.Rounds.{dwarf}
 use Rattle.sheet.specs.Sheet.{Sheet}
 use Rattle.tree_dwarf.specs.declared.Figures.{Figures}
 use Rattle.labels.specs.Arrays.{Holds, Tree}
+use Rattle.labels.proofs.Links.{cases}
+use Rattle.labels.proofs.Afresh.{length-labels}
+use Rattle.toggles.specs.Toggles.{Answers}
 use Rattle.toggles.specs.Named.{firstWrong}
 use Rattle.toggles.specs.Ran.{RunRoom, TreeRun}
 use Rattle.toggles.proofs.RanLaws.{none-wrong}
@@ -20,13 +25,13 @@ use Rattle.accepting.specs.Accepting.{accepted}
 use Rattle.accepting.specs.Prepared.{Stands, Says}
 use Rattle.accepting.specs.declared.Prepared.{Prepared}
 use Rattle.accepting.specs.declared.Prepared.the-variants as prepared
-use Rattle.job_run.specs.Running.{toggling, running}
+use Rattle.job_run.specs.Running.{answersOf, toggling, running}
 use Rattle.job_run.specs.Ran.{Ran}
 use Rattle.job_run.specs.declared.RunAnswer.{RunAnswer}
 use Rattle.job_run.specs.declared.RunAnswer.the-variants as run
 
-run-refused : (o : Outcome Formula) (ts rs cs ls : List ℕ) (number place : ℕ) → o ≡ refused number place → Ran o ts rs cs ls (run.Refused number place) rs cs ls
-run-refused o ts rs cs ls number place is =
+run-refused : (o : Outcome Answers) (rs cs ls : List ℕ) (number place : ℕ) → o ≡ refused number place → Ran o rs cs ls (run.Refused number place) rs cs ls
+run-refused o rs cs ls number place is =
     record { answer = rw is; lists = record { roots-list = rw is; counts-list = rw is; labels-list = rw is } }
 
 firstWrong-most : (names : ℕ) (ts : List ℕ) → firstWrong names ts ≤ length ts
@@ -39,10 +44,10 @@ firstWrong-most names (t ∷ ts) = go (ltb t names) refl (firstWrong-most names 
 
 -- a toggle is no shape of the sheet
 pub toggle-wrong : (g : Formula) (names : ℕ) (ts rs cs ls : List ℕ) (w : ℕ) → w ≡ firstWrong names ts → w < length ts
-    → Ran (toggling g names ts (length rs) (length cs) (length ls)) ts rs cs ls (run.Refused 10 w) rs cs ls
+    → Ran (toggling g names ts (length rs) (length cs) (length ls)) rs cs ls (run.Refused 10 w) rs cs ls
 unfolding toggling
 toggle-wrong g names ts rs cs ls w is h =
-    run-refused (toggling g names ts (length rs) (length cs) (length ls)) ts rs cs ls 10 w
+    run-refused (toggling g names ts (length rs) (length cs) (length ls)) rs cs ls 10 w
     (rw (ne-eqb (firstWrong names ts) (length ts) (λ e. omega arith), is))
 
 all-known : (names : ℕ) (ts : List ℕ) (w : ℕ) → w ≡ firstWrong names ts → length ts ≤ w → firstWrong names ts ≡ length ts
@@ -56,42 +61,48 @@ run-room ts rs cs ls {names} {w} tree few first past for-roots for-counts for-la
       tree = tree;
       answers =
           record {
-            named = λ i h. let below = none-wrong names ts (all-known names ts w first past) i h in omega arith;
+            named = shape-known;
             for-roots = for-roots;
             for-counts = for-counts;
           };
       for-labels = for-labels;
     }
+  where
+    shape-known : (i : ℕ) → getD ts i 0 < 256
+    shape-known i =
+        cases (ltb i (length ts))
+        (λ q. let below = none-wrong names ts (all-known names ts w first past) i (ltb-true i (length ts) q) in omega arith)
+        (λ q. let none : getD ts i 0 ≡ 0 = List·getD-eq-default ts 0 (ltb-false i (length ts) q) in omega arith)
 
 -- every toggle is a shape of the sheet; the answer lists are judged, and the run is given
 module _ (names nodes : ℕ) (ts rs cs ls : List ℕ) (w : ℕ) (first : w ≡ firstWrong names ts) (past : length ts ≤ w) (k f e : List ℕ) (leaves : ℕ) where
-  abbrev asked : Formula → Outcome Formula
+  abbrev asked : Formula → Outcome Answers
   asked g = toggling g names ts (length rs) (length cs) (length ls)
 
   known : eqb (firstWrong names ts) (length ts) ≡ true
   known = eq-eqb (firstWrong names ts) (length ts) (all-known names ts w first past)
 
-  pub roots-short : length rs < length ts → (g : Formula) → Holds k f e leaves nodes g → Ran (asked g) ts rs cs ls (run.Refused 9 (length ts)) rs cs ls
+  pub roots-short : length rs < length ts → (g : Formula) → Holds k f e leaves nodes g → Ran (asked g) rs cs ls (run.Refused 9 (length ts)) rs cs ls
   unfolding toggling
-  roots-short h g so = run-refused (asked g) ts rs cs ls 9 (length ts) (rw (known, lt-leb _ _ h))
+  roots-short h g so = run-refused (asked g) rs cs ls 9 (length ts) (rw (known, lt-leb _ _ h))
 
-  pub counts-short : length ts ≤ length rs → length cs < length ts → (g : Formula) → Holds k f e leaves nodes g → Ran (asked g) ts rs cs ls (run.Refused 9 (length ts)) rs cs ls
+  pub counts-short : length ts ≤ length rs → length cs < length ts → (g : Formula) → Holds k f e leaves nodes g → Ran (asked g) rs cs ls (run.Refused 9 (length ts)) rs cs ls
   unfolding toggling
-  counts-short h i g so = run-refused (asked g) ts rs cs ls 9 (length ts) (rw (known, le-leb _ _ h, lt-leb _ _ i))
+  counts-short h i g so = run-refused (asked g) rs cs ls 9 (length ts) (rw (known, le-leb _ _ h, lt-leb _ _ i))
 
-  pub labels-short : length ts ≤ length rs → length ts ≤ length cs → length ls < nodes → (g : Formula) → Holds k f e leaves nodes g → Ran (asked g) ts rs cs ls (run.Refused 9 nodes) rs cs ls
+  pub labels-short : length ts ≤ length rs → length ts ≤ length cs → length ls < nodes → (g : Formula) → Holds k f e leaves nodes g → Ran (asked g) rs cs ls (run.Refused 9 nodes) rs cs ls
   unfolding toggling
-  labels-short h i j g so = run-refused (asked g) ts rs cs ls 9 nodes (rw (known, ← (so .nodes-are), le-leb _ _ h, le-leb _ _ i, lt-leb _ _ j))
+  labels-short h i j g so = run-refused (asked g) rs cs ls 9 nodes (rw (known, ← (so .nodes-are), le-leb _ _ h, le-leb _ _ i, lt-leb _ _ j))
 
   pub run-given : length ts ≤ length rs → length ts ≤ length cs → nodes ≤ length ls
       → (rs′ cs′ ls′ : List ℕ) → ((g : Formula) → Holds k f e leaves nodes g → TreeRun g ts rs cs ls rs′ cs′ ls′)
-      → (g : Formula) → Holds k f e leaves nodes g → Ran (asked g) ts rs cs ls (run.Ran nodes) rs′ cs′ ls′
+      → (g : Formula) → Holds k f e leaves nodes g → Ran (asked g) rs cs ls (run.Ran nodes) rs′ cs′ ls′
   unfolding toggling
   run-given h i j rs′ cs′ ls′ ran g so =
-      let is : asked g ≡ given g = rw (known, ← (so .nodes-are), le-leb _ _ h, le-leb _ _ i, le-leb _ _ j) in
+      let is : asked g ≡ given (answersOf g ts) = rw (known, ← (so .nodes-are), le-leb _ _ h, le-leb _ _ i, le-leb _ _ j) in
       let r = ran g so in
       record {
-        answer = rw is (ap given (so .nodes-are));
+        answer = rw is (ap given (so .nodes-are ∙ sym (length-labels (toggledBy ts) (dwarf g))));
         lists =
             record {
               roots-list = rw is (r .roots-are);
@@ -108,11 +119,11 @@ running-accepted ts roots counts labels s x is = rw is
 -- the sheet is refused, or stands in the arrays
 module _ (s codes k f e ts rs cs ls : List ℕ) (r : Prepared) (says : Says s codes k f e r) where
   pub sheet-refused : (number place : ℕ) → r ≡ prepared.Refused number place
-      → Ran (running s ts (length rs) (length cs) (length ls)) ts rs cs ls (run.Refused number place) rs cs ls
+      → Ran (running s ts (length rs) (length cs) (length ls)) rs cs ls (run.Refused number place) rs cs ls
   unfolding running
   sheet-refused number place is =
       let a : accepted s ≡ refused number place = rw is at says in
-      run-refused (running s ts (length rs) (length cs) (length ls)) ts rs cs ls number place (rw a)
+      run-refused (running s ts (length rs) (length cs) (length ls)) rs cs ls number place (rw a)
 
   module _ (names n : ℕ) (b : Figures) (is : r ≡ prepared.Ready names n b) where
     stands : (x : Sheet) × Stands s x names n b codes k f e
@@ -138,8 +149,8 @@ module _ (s codes k f e ts rs cs ls : List ℕ) (r : Prepared) (says : Says s co
     tree = record { formula = stands .0 .formula; holds = holds }
 
     pub sheet-ran : (a : RunAnswer) (rs′ cs′ ls′ : List ℕ)
-        → ((g : Formula) → Holds k f e (b .leaves) (b .nodes) g → Ran (toggling g names ts (length rs) (length cs) (length ls)) ts rs cs ls a rs′ cs′ ls′)
-        → Ran (running s ts (length rs) (length cs) (length ls)) ts rs cs ls a rs′ cs′ ls′
+        → ((g : Formula) → Holds k f e (b .leaves) (b .nodes) g → Ran (toggling g names ts (length rs) (length cs) (length ls)) rs cs ls a rs′ cs′ ls′)
+        → Ran (running s ts (length rs) (length cs) (length ls)) rs cs ls a rs′ cs′ ls′
     sheet-ran a rs′ cs′ ls′ gives =
         let st = stands .1 in
         let g = stands .0 .formula in

@@ -9,13 +9,13 @@ use Rattle.outcome.specs.Numbered.{Numbered}
 use Rattle.outcome.proofs.Questions.{need-given, part-refused, then-given, bind-given, given-same}
 use Rattle.outcome.proofs.NumberedLaws.{given-numbered, asks, room-asks, bind-numbered}
 use Rattle.outcome.proofs.Known.{known-by}
-use Rattle.formula.specs.Formula.{Formula}
 use Rattle.contraction.specs.Rounds.{dwarf}
 use Rattle.sheet.specs.Sheet.{Sheet}
 use Rattle.accepting.specs.Accepting.{accepted}
 use Rattle.accepting.proofs.Accepted.{accepted-numbered}
+use Rattle.toggles.specs.Toggles.{Answers}
 use Rattle.toggles.specs.Named.{firstWrong}
-use Rattle.job_run.specs.Running.{toggling, running}
+use Rattle.job_run.specs.Running.{answersOf, toggling, running}
 use Rattle.job_run.specs.Ran.{ranOf, Ran}
 use Rattle.job_run.specs.declared.RunAnswer.{RunAnswer}
 use Rattle.job_run.specs.declared.RunAnswer.the-variants as answer
@@ -31,8 +31,8 @@ ranOf-same = known-by ranOf back same
     same (answer.Ran nodes) = refl
     same (answer.Refused number place) = refl
 
-module _ (o : Outcome Formula) (ts rs cs ls : List ℕ) where
-  pub run-unique : (r q : RunAnswer) (rs₁ cs₁ ls₁ rs₂ cs₂ ls₂ : List ℕ) → Ran o ts rs cs ls r rs₁ cs₁ ls₁ → Ran o ts rs cs ls q rs₂ cs₂ ls₂
+module _ (o : Outcome Answers) (rs cs ls : List ℕ) where
+  pub run-unique : (r q : RunAnswer) (rs₁ cs₁ ls₁ rs₂ cs₂ ls₂ : List ℕ) → Ran o rs cs ls r rs₁ cs₁ ls₁ → Ran o rs cs ls q rs₂ cs₂ ls₂
       → (r ≡ q) × (rs₁ ≡ rs₂) × (cs₁ ≡ cs₂) × (ls₁ ≡ ls₂)
   run-unique r q rs₁ cs₁ ls₁ rs₂ cs₂ ls₂ a b = (
     ranOf-same r q (a .answer ∙ sym (b .answer)),
@@ -41,28 +41,28 @@ module _ (o : Outcome Formula) (ts rs cs ls : List ℕ) where
     a .lists .labels-list ∙ sym (b .lists .labels-list),
   )
 
-  module _ (number place : ℕ) (r : RunAnswer) (rs′ cs′ ls′ : List ℕ) (a : Ran o ts rs cs ls r rs′ cs′ ls′) where
+  module _ (number place : ℕ) (r : RunAnswer) (rs′ cs′ ls′ : List ℕ) (a : Ran o rs cs ls r rs′ cs′ ls′) where
     pub run-refusal : r ≡ answer.Refused number place → (o ≡ refused number place) × (rs′ ≡ rs) × (cs′ ≡ cs) × (ls′ ≡ ls)
     run-refusal is-refused =
-        let is = part-refused (λ f. length (dwarf f)) o number place (sym (ap ranOf is-refused) ∙ a .answer) in
+        let is = part-refused (λ a. length (a .final)) o number place (sym (ap ranOf is-refused) ∙ a .answer) in
         (is, rw is at (a .lists .roots-list), rw is at (a .lists .counts-list), rw is at (a .lists .labels-list))
 
     pub run-refuses : o ≡ refused number place → r ≡ answer.Refused number place
-    run-refuses is = ranOf-same r (answer.Refused number place) (a .answer ∙ ap (part (λ f. length (dwarf f))) is)
+    run-refuses is = ranOf-same r (answer.Refused number place) (a .answer ∙ ap (part (λ a. length (a .final))) is)
 
 -- No refusal has number 0.
 pub run-numbered : (s ts : List ℕ) (roots counts labels : ℕ) → Numbered (running s ts roots counts labels)
 unfolding running toggling
 run-numbered s ts roots counts labels = bind-numbered (accepted s) _ (accepted-numbered s) (λ x. search (asks, room-asks, given-numbered, lit<))
 
--- A job that answers has accepted the sheet, and it is the sheet's formula that the toggles run on.
-pub ran-accepted : (s ts : List ℕ) (a b c : ℕ) (f : Formula) → running s ts a b c ≡ given f → (x : Sheet) × (accepted s ≡ given x) × (x .formula ≡ f)
+-- A job that answers has accepted the sheet, and its answers are those of the sheet's formula.
+pub ran-accepted : (s ts : List ℕ) (a b c : ℕ) (v : Answers) → running s ts a b c ≡ given v → (x : Sheet) × (accepted s ≡ given x) × (answersOf (x .formula) ts ≡ v)
 unfolding running toggling
-ran-accepted s ts a b c f is =
-    let x = bind-given (accepted s) (λ (y : Sheet). toggling (y .formula) (length (y .names)) ts a b c) f is in
+ran-accepted s ts a b c v is =
+    let x = bind-given (accepted s) (λ (y : Sheet). toggling (y .formula) (length (y .names)) ts a b c) v is in
     let g = x .0 .formula in
     let n = length ts in
     let wrong = firstWrong (length (x .0 .names)) ts in
-    let named = need-given (eqb wrong n) 10 wrong _ f (x .2) .1 in
-    let rest = then-given (room n b) _ f (then-given (room n a) _ f named .2) .2 in
-    (x .0, x .1, given-same g f (then-given (room (length (dwarf g)) c) (given g) f rest .2))
+    let named = need-given (eqb wrong n) 10 wrong _ v (x .2) .1 in
+    let rest = then-given (room n b) _ v (then-given (room n a) _ v named .2) .2 in
+    (x .0, x .1, given-same (answersOf g ts) v (then-given (room (length (dwarf g)) c) (given (answersOf g ts)) v rest .2))

@@ -5,21 +5,30 @@ use lib.Dec.{eqb}
 use lib.ListN.{length}
 use Rattle.outcome.specs.Outcome.{Outcome, given, need, room, _>>=_, _>>_}
 use Rattle.formula.specs.Formula.{Formula}
+use Rattle.formula.specs.States.{toggledBy}
 use Rattle.contraction.specs.Rounds.{dwarf}
 use Rattle.accepting.specs.Accepting.{accepted}
+use Rattle.labels.specs.Labels.{labels as labelsOf}
+use Rattle.toggles.specs.Toggles.{Answers, answers, toggleRun}
+use Rattle.toggles.specs.Demand.{roots as rootsOf}
 use Rattle.toggles.specs.Named.{firstWrong}
 
--- The formula whose tree the toggles run on: 10 at the first shape number not below the number of names; then 9 for roots, counts, labels.
-unfoldable pub toggling : Formula → ℕ → List ℕ → ℕ → ℕ → ℕ → Outcome Formula
+-- What a run answers: a root bit for each toggle, by the formula and the oddness of the toggles so far;
+-- a count for each toggle, the number of nodes reworked; the final label of every dwarf node, worked out afresh from the shapes then inside.
+abbrev pub answersOf : Formula → List ℕ → Answers
+answersOf f toggles = answers (rootsOf f toggles) (toggleRun f toggles .counts) (labelsOf (toggledBy toggles) (dwarf f))
+
+-- 10 at the first shape number not below the number of names; then 9 for roots, counts, labels.
+unfoldable pub toggling : Formula → ℕ → List ℕ → ℕ → ℕ → ℕ → Outcome Answers
 toggling f names toggles roots counts labels = do
   need (eqb (firstWrong names toggles) (length toggles)) 10 (firstWrong names toggles)
   room (length toggles) roots
   room (length toggles) counts
   room (length (dwarf f)) labels
-  given f
+  given (answersOf f toggles)
 
 -- The sheet and its height first.
-unfoldable pub running : List ℕ → List ℕ → ℕ → ℕ → ℕ → Outcome Formula
+unfoldable pub running : List ℕ → List ℕ → ℕ → ℕ → ℕ → Outcome Answers
 running s toggles roots counts labels = do
   sheet ← accepted s
   toggling (sheet .formula) (length (sheet .names)) toggles roots counts labels

@@ -29,7 +29,7 @@ fn run_toggles(
     requires { ⌜ Tree (now k) (now f) (now s) (built .leaves) (built .nodes) × (names ≤ 256) ⌝ }
     ensures { λ r. ⌜ ((g : Formula) → Holds (now (k .entry)) (now (f .entry)) (now (s .entry)) (built .leaves) (built .nodes) g
         → Ran (toggling g names (now (toggles .entry)) (length (now (roots .entry))) (length (now (counts .entry))) (length (now (labels .entry))))
-        (now (toggles .entry)) (now (roots .entry)) (now (counts .entry)) (now (labels .entry)) r (now (roots .exit)) (now (counts .exit)) (now (labels .exit))) ⌝ }
+        (now (roots .entry)) (now (counts .entry)) (now (labels .entry)) r (now (roots .exit)) (now (counts .exit)) (now (labels .exit))) ⌝ }
 {
     let wrong = toggles::first_wrong(toggles, names);
     if wrong < toggles.len() {
@@ -72,7 +72,7 @@ pub fn run(
     labels: &mut [u8],
 ) -> RunAnswer
     ensures { λ r. ⌜ Ran (running (now (sheet .entry)) (now (toggles .entry)) (length (now (roots .entry))) (length (now (counts .entry))) (length (now (labels .entry))))
-        (now (toggles .entry)) (now (roots .entry)) (now (counts .entry)) (now (labels .entry)) r (now (roots .exit)) (now (counts .exit)) (now (labels .exit)) ⌝ }
+        (now (roots .entry)) (now (counts .entry)) (now (labels .entry)) r (now (roots .exit)) (now (counts .exit)) (now (labels .exit)) ⌝ }
 {
     let mut codes = [0u16; 2048];
     let mut k = [0u16; 3072];

@@ -3,6 +3,7 @@ use Prim.Native.Nat.{ℕ, zero, suc, _+_, _-_, _<_, _≤_}
 use native.Mathlib.Nat.{zero-add, add-zero, suc-add, add-suc}
 use native.Mathlib.Omega.{arith}
 use mathlib.Core.Path.{_≡_, refl, sym, ap, _∙_}
+use mathlib.Core.Bool.{true}
 use mathlib.Core.List.{List, [], _∷_, _++_, map}
 use lib.ListN.{length, getD, take, length-append, length-map, List·getD-append, List·getD-map}
 use lib.Seq.{take-all, getD-take, getD-append-add}
@@ -12,7 +13,8 @@ use Rattle.contraction.specs.Rounds.{dwarf, leafRecs, enough, planted}
 use Rattle.contraction.proofs.Worked.{Each, each-append}
 use Rattle.contraction.proofs.Rounds.{allMade, dwarf-all, length-leafRecs, root}
 use Rattle.contraction.proofs.Order.{ChildrenBelow, children-smaller}
-use Rattle.contraction.proofs.Over.{over-below}
+use Rattle.contraction.proofs.Once.{uses, at-most-one}
+use Rattle.contraction.proofs.Over.{over-below, over-refs}
 use Rattle.contraction.proofs.Leaves.{IsLeaf, NoLeaf, leafRecs-leaf, made-none}
 use Rattle.contraction.proofs.Size.{dwarf-few}
 use Rattle.labels.specs.Arrays.{Holds}
@@ -84,6 +86,19 @@ leafRecs-named : (f : Formula) (n : ℕ) → Over 256 f → Each Named n (leafRe
 leafRecs-named (leaf s) n o = (o, tt)
 leafRecs-named (node op l r) n o = each-append Named (leafRecs l) (leafRecs r) n (leafRecs-named l n (o .0)) (leafRecs-named r _ (o .1))
 
+-- a node that two records stand over is used twice
+uses-at : (rs : List Rec) (c i : ℕ) → i < length rs → over c (at rs i) ≡ true → 1 ≤ uses c rs
+uses-at [] c i h e = absurd (omega arith)
+uses-at (r ∷ rs) c zero h e = omega (arith, over-refs r c e)
+uses-at (r ∷ rs) c (suc i) h e = omega (arith, uses-at rs c i (omega arith) e)
+
+used-once : (rs : List Rec) (c i k : ℕ) → uses c rs ≤ 1 → i < length rs → k < length rs → over c (at rs i) ≡ true → over c (at rs k) ≡ true → i ≡ k
+used-once [] c i k u h l d e = absurd (omega arith)
+used-once (r ∷ rs) c zero zero u h l d e = refl
+used-once (r ∷ rs) c zero (suc k) u h l d e = absurd (omega (arith, over-refs r c d, uses-at rs c k (omega arith) e))
+used-once (r ∷ rs) c (suc i) zero u h l d e = absurd (omega (arith, over-refs r c e, uses-at rs c i (omega arith) d))
+used-once (r ∷ rs) c (suc i) (suc k) u h l d e = ap suc (used-once rs c i k (omega arith) (omega arith) (omega arith) d e)
+
 module _ (ks fs ss : List ℕ) (leaves nodes : ℕ) (f : Formula) (h : Holds ks fs ss leaves nodes f) where
   kind-is : (i : ℕ) → i < nodes → isLeaf (kindAt (getD ks i 0)) ≡ isLeaf (at (dwarf f) i .kind)
   kind-is i l = ap (λ (r : Rec). isLeaf (r .kind)) (rec-at ks fs ss leaves nodes f h i l)
@@ -110,6 +125,9 @@ module _ (ks fs ss : List ℕ) (leaves nodes : ℕ) (f : Formula) (h : Holds ks 
         below = λ i c l o.
             over-below (at (dwarf f) i) i c (rw (zero-add i) at (each-at ChildrenBelow (dwarf f) 0 i (children-smaller f) (omega (arith, h .nodes-are))))
             (sym (ap (over c) (rec-at ks fs ss leaves nodes f h i l)) ∙ o);
+        once = λ c i k l m o p.
+            used-once (dwarf f) c i k (at-most-one c f) (omega (arith, h .nodes-are)) (omega (arith, h .nodes-are))
+            (sym (ap (over c) (rec-at ks fs ss leaves nodes f h i l)) ∙ o) (sym (ap (over c) (rec-at ks fs ss leaves nodes f h k m)) ∙ p);
       }
 
 -- every formula within the limits is held by its own records

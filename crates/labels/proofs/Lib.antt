@@ -5,4 +5,5 @@ pub mod Value
 pub mod Root
 pub mod Fills
 pub mod Held
+pub mod Links
 pub mod Columns

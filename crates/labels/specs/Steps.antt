@@ -13,7 +13,7 @@ unfoldable pub seek : (Rec → Bool) → ℕ → List Rec → ℕ
 seek p j [] = absent
 seek p j (r ∷ rs) = elim (p r) [ true ↦ j | false ↦ seek p (suc j) rs ]
 
--- What the walks rely on: leaves come first, they are few, and children have smaller numbers.
+-- What the passes rely on: leaves come first, they are few, children have smaller numbers, and a node is a child of one node at most.
 pub record Shaped (ks fs ss : List ℕ) (leaves nodes : ℕ) : Type 0 where
   pub few : leaves ≤ 1024
   pub within : leaves ≤ nodes
@@ -23,6 +23,7 @@ pub record Shaped (ks fs ss : List ℕ) (leaves nodes : ℕ) : Type 0 where
   pub inner : (i : ℕ) → leaves ≤ i → i < nodes → isLeaf (kindAt (getD ks i 0)) ≡ false
   pub named : (i : ℕ) → i < leaves → getD fs i 0 < 256
   pub below : (i c : ℕ) → i < nodes → over c (recAt ks fs ss i) ≡ true → c < i
+  pub once : (c i k : ℕ) → i < nodes → k < nodes → over c (recAt ks fs ss i) ≡ true → over c (recAt ks fs ss k) ≡ true → i ≡ k
 
 -- Node j entered as the parent of each of the nodes cs.
 abbrev pub adopted : ℕ → List ℕ → List ℕ → List ℕ
@@ -38,8 +39,12 @@ pub record Chains (ks fs ss : List ℕ) (leaves nodes : ℕ) (heads nexts : List
   pub first : (s : ℕ) → s < 256 → getD heads s 0 ≡ seek (isOf s) 0 (recs ks fs ss 0 nodes)
   pub next : (i : ℕ) → i < leaves → getD nexts i 0 ≡ seek (isOf (getD fs i 0)) (suc i) (recs ks fs ss (suc i) (nodes - suc i))
 
--- All that a toggle looks up.
-pub record Ready (ks fs ss : List ℕ) (leaves nodes : ℕ) (parents heads nexts : List ℕ) : Type 0 where
+-- What a pass upwards looks up,
+pub record Linked (ks fs ss : List ℕ) (leaves nodes : ℕ) (parents : List ℕ) : Type 0 where
   pub shaped : Shaped ks fs ss leaves nodes
   pub ups : Parents ks fs ss nodes parents
+
+-- and all that a toggle looks up.
+pub record Ready (ks fs ss : List ℕ) (leaves nodes : ℕ) (parents heads nexts : List ℕ) : Type 0 where
+  pub linked : Linked ks fs ss leaves nodes parents
   pub chains : Chains ks fs ss leaves nodes heads nexts

@@ -3,7 +3,7 @@ ghost use mathlib.Core.Path.{_≡_};
 ghost use mathlib.Core.Bool.{true, false};
 ghost use mathlib.Core.List.{[], _∷_};
 ghost use Prim.Native.Nat.{_<_, _≤_};
-ghost use lib.ListN.{getD, set, take};
+ghost use lib.ListN.{length, getD, set, take};
 ghost use Rattle.formula.specs.Formula.{meaning as meaningOf, opAt};
 ghost use Rattle.formula.specs.States.{outside};
 ghost use Rattle.contraction.specs.Records.{left, right, children};
@@ -126,6 +126,7 @@ pub fn fill_labels(
     labels: &mut [u8; 3072],
 )
     requires { ⌜ Shaped (now kinds) (now firsts) (now seconds) leaves nodes ⌝ }
+    ensures { λ _. ⌜ length (now (labels .exit)) ≡ 3072 ⌝ }
     ensures { λ _. ⌜ take nodes (now (labels .exit)) ≡ afresh outside (recs (now (kinds .entry)) (now (firsts .entry)) (now (seconds .entry)) 0 nodes) ⌝ }
 {
     *labels = [0u8; 3072];

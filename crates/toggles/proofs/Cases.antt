@@ -1,4 +1,4 @@
--- Document 01's worked cases of toggles, computed from the definitions.
+-- Document 01's worked cases of toggles, with document 02's counts, computed from the definitions.
 use mathlib.Core.Path.{_≡_, refl}
 use mathlib.Core.List.{List, [], _∷_}
 use Rattle.formula.specs.Formula.{union, difference, exclusive, Formula, leaf, node}
@@ -26,6 +26,6 @@ pub cases-right : cases ≡
     answers (1 ∷ 0 ∷ 0 ∷ 0 ∷ []) (2 ∷ 2 ∷ 1 ∷ 2 ∷ []) (0 ∷ 1 ∷ 1 ∷ 1 ∷ 0 ∷ 0 ∷ [])
     ∷ answers (0 ∷ 0 ∷ []) (2 ∷ 1 ∷ []) (0 ∷ 1 ∷ 1 ∷ 1 ∷ 0 ∷ 0 ∷ [])
     ∷ answers (1 ∷ []) (0 ∷ []) (1 ∷ [])
-    ∷ answers (0 ∷ []) (2 ∷ []) (1 ∷ 1 ∷ 0 ∷ [])
+    ∷ answers (0 ∷ []) (1 ∷ []) (1 ∷ 1 ∷ 0 ∷ [])
     ∷ []
 cases-right = refl

@@ -25,11 +25,15 @@ length-filled xs old h = omega (arith, length-append xs (drop (length xs) old), 
 
 -- one toggle more
 each-snoc : (rs : List Rec) (ss ls : List ℕ) (s : ℕ) → toggleEach rs ls (ss ++ (s ∷ []))
-    ≡ answers (toggleEach rs ls ss .roots ++ (last (toggle rs 0 s (toggleEach rs ls ss .final) .labels) ∷ [])) (toggleEach rs ls ss .counts ++ (toggle rs 0 s (toggleEach rs ls ss .final) .count ∷ [])) (toggle rs 0 s (toggleEach rs ls ss .final) .labels)
+    ≡ answers (toggleEach rs ls ss .roots ++ (last (toggle rs s (toggleEach rs ls ss .final) .labels) ∷ [])) (toggleEach rs ls ss .counts ++ (toggle rs s (toggleEach rs ls ss .final) .count ∷ [])) (toggle rs s (toggleEach rs ls ss .final) .labels)
 each-snoc rs [] ls s = refl
 each-snoc rs (t ∷ ss) ls s =
-    let one = toggle rs 0 t ls in
+    let one = toggle rs t ls in
     ap (λ a. answers (last (one .labels) ∷ a .roots) (one .count ∷ a .counts) (a .final)) (each-snoc rs ss (one .labels) s)
+
+-- a toggle's shape is one of 256
+pub shape-below : {ss roots counts : List ℕ} {s : ℕ} (j : ℕ) → ToggleRoom ss roots counts → s ≡ getD ss j 0 → s < 256
+shape-below j room e = omega (arith, e, room .named j)
 
 -- the first i toggles done
 pub record Running (rs : List Rec) (ls ss roots counts : List ℕ) (i : ℕ) (ls′ roots′ counts′ : List ℕ) : Type 0 where
@@ -47,20 +51,17 @@ module _ {rs : List Rec} {ls ss roots counts : List ℕ} {i : ℕ} {ls′ roots�
   taken : length (take i ss) ≡ i
   taken = length-take-le i ss (g .within)
 
-  pub shape-below : {s : ℕ} → i < length ss → s ≡ getD ss i 0 → s < 256
-  shape-below h e = omega (arith, e, room .named i h)
-
   pub count-room : i < length ss → i < length counts′
   count-room h = omega (arith, g .counts-long, room .for-counts)
 
   pub root-room : i < length ss → i < length roots′
   root-room h = omega (arith, g .roots-long, room .for-roots)
 
-  pub running-more : {ms : List ℕ} {n x s : ℕ} → i < length ss → s ≡ getD ss i 0 → steps ms n ≡ toggle rs 0 s ls′ → x ≡ last ms
+  pub running-more : {ms : List ℕ} {n x s : ℕ} → i < length ss → s ≡ getD ss i 0 → steps ms n ≡ toggle rs s ls′ → x ≡ last ms
       → Running rs ls ss roots counts (i + 1) ms (set roots′ i x) (set counts′ i n)
   running-more {ms} {n} {x} {s} h e t b =
       let so-far = toggleEach rs ls (take i ss) in
-      let t′ : toggle rs 0 (getD ss i 0) (so-far .final) ≡ steps ms n = rw (← e, ← (g .so .labels-are)) (sym t) in
+      let t′ : toggle rs (getD ss i 0) (so-far .final) ≡ steps ms n = rw (← e, ← (g .so .labels-are)) (sym t) in
       let more : toggleEach rs ls (take (suc i) ss) ≡ answers (so-far .roots ++ (last ms ∷ [])) (so-far .counts ++ (n ∷ [])) ms =
       ap (toggleEach rs ls) (take-suc ss i 0 h) ∙ each-snoc rs (take i ss) ls (getD ss i 0) ∙ rw t′ in
       record {

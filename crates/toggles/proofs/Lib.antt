@@ -1,9 +1,9 @@
-pub mod Walks
 pub mod Toggles
 pub mod Runs
 pub mod Count
 pub mod Cases
-pub mod Jumps
-pub mod Chain
+pub mod Upwards
+pub mod Settles
+pub mod Flipping
 pub mod Filling
 pub mod RanLaws

@@ -20,7 +20,7 @@ use Rattle.labels.proofs.Held.{held-records, held-shaped}
 use Rattle.toggles.specs.Toggles.{toggleEach, toggleRun}
 use Rattle.toggles.specs.Named.{firstWrong}
 use Rattle.toggles.specs.Ran.{ToggleRoom, TreeRun}
-use Rattle.toggles.specs.Steps.{RunDone}
+use Rattle.toggles.specs.Steps.{Tables, RunDone}
 use Rattle.toggles.proofs.Runs.{run-roots, run-labels}
 
 -- the first i shape numbers are below the number of names
@@ -76,7 +76,11 @@ module _ {ks fs xs : List ℕ} {leaves nodes : ℕ} where
 
     pub narrow-ready : {ps hs ns : List ℕ} → Tree ks fs xs leaves nodes → m ≡ leaves → n ≡ nodes → Parents ks fs xs n ps → Chains ks fs xs m n hs ns
         → Ready ks fs xs leaves nodes ps hs ns
-    narrow-ready t d e p q = record { shaped = tree-shaped t; ups = rw e at p; chains = rw (d, e) at q }
+    narrow-ready t d e p q = record { linked = record { shaped = tree-shaped t; ups = rw e at p }; chains = rw (d, e) at q }
+
+  pub tables : {m n : ℕ} {ls ps hs ns : List ℕ} → Tree ks fs xs leaves nodes → m ≡ leaves → n ≡ nodes → length ls ≡ 3072
+      → take nodes ls ≡ labels outside (recs ks fs xs 0 nodes) → Parents ks fs xs n ps → Chains ks fs xs m n hs ns → Tables ks fs xs leaves nodes ls ps hs ns
+  tables t d e long is p q = record { ready = narrow-ready t d e p q; long = long; room = tree-room t; labels-are = is }
 
   pub ran : (ss roots counts list l₀ l₁ : List ℕ) {roots′ counts′ list′ : List ℕ} → take nodes l₀ ≡ labels outside (recs ks fs xs 0 nodes)
       → RunDone (recs ks fs xs 0 nodes) (take nodes l₀) ss roots counts (take nodes l₁) roots′ counts′ → list′ ≡ filled (take nodes l₁) list

@@ -25,7 +25,7 @@ flipped-toggled done s t =
     ap (λ b. cond (eqb t s) (not b) b) (sym (after-outside done t)) ∙ sym (after-append done (s ∷ []) outside t) ∙ after-outside (done ++ (s ∷ [])) t
 
 toggle-more : (f : Formula) (done : List ℕ) (s : ℕ)
-    → toggle (dwarf f) 0 s (labels (toggledBy done) (dwarf f)) .labels ≡ labels (toggledBy (done ++ (s ∷ []))) (dwarf f)
+    → toggle (dwarf f) s (labels (toggledBy done) (dwarf f)) .labels ≡ labels (toggledBy (done ++ (s ∷ []))) (dwarf f)
 toggle-more f done s = toggle-labels f (toggledBy done) s ∙ ap (λ state. labels state (dwarf f)) (fun-ext (flipped-toggled done s))
 
 -- what a run does after the toggles `done`
@@ -59,8 +59,8 @@ same-oddness-same-labels f ss us same =
 -- a root and a count for each toggle
 pub length-roots : (rs : List Rec) (ls ss : List ℕ) → length (toggleEach rs ls ss .roots) ≡ length ss
 length-roots rs ls [] = refl
-length-roots rs ls (s ∷ ss) = ap suc (length-roots rs (toggle rs 0 s ls .labels) ss)
+length-roots rs ls (s ∷ ss) = ap suc (length-roots rs (toggle rs s ls .labels) ss)
 
 pub length-counts : (rs : List Rec) (ls ss : List ℕ) → length (toggleEach rs ls ss .counts) ≡ length ss
 length-counts rs ls [] = refl
-length-counts rs ls (s ∷ ss) = ap suc (length-counts rs (toggle rs 0 s ls .labels) ss)
+length-counts rs ls (s ∷ ss) = ap suc (length-counts rs (toggle rs s ls .labels) ss)

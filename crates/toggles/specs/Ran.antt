@@ -14,7 +14,7 @@ use Rattle.toggles.specs.Demand.{roots as rootsOf}
 
 -- Every toggle is one of 256 shapes, and there is room for a root and a count for each.
 pub record ToggleRoom (ss roots counts : List ℕ) : Type 0 where
-  pub named : (i : ℕ) → i < length ss → getD ss i 0 < 256
+  pub named : (i : ℕ) → getD ss i 0 < 256
   pub for-roots : length ss ≤ length roots
   pub for-counts : length ss ≤ length counts
 
@@ -24,7 +24,7 @@ pub record RunRoom (ks fs ss : List ℕ) (leaves nodes : ℕ) (toggles roots cou
   pub answers : ToggleRoom toggles roots counts
   pub for-labels : nodes ≤ length labels
 
--- A root bit for each toggle, the formula's value; a count for each toggle, by the walk's rule;
+-- A root bit for each toggle, the formula's value; a count for each toggle, the number of nodes reworked;
 -- the final label of every dwarf node, worked out afresh from the shapes then inside.
 pub record TreeRun (f : Formula) (ss roots counts labels roots′ counts′ labels′ : List ℕ) : Type 0 where
   pub roots-are : roots′ ≡ filled (rootsOf f ss) roots

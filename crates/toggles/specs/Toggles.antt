@@ -1,17 +1,17 @@
--- Toggles by document 01's rule: the walk up from a leaf with its count, a toggle of a shape, a run.
-use Prim.Native.Nat.{ℕ, suc, _+_}
-use mathlib.Core.Bool.{true, false, not}
+-- Toggles by documents 01 and 02: a toggle of a shape with its count, and a run.
+use Prim.Native.Nat.{ℕ, suc}
+use mathlib.Core.Bool.{Bool, true, false, not, _||_, cond}
 use mathlib.Core.List.{List, [], _∷_}
 use lib.ListN.{getD, set}
 use lib.Dec.{eqb}
 use Rattle.formula.specs.Formula.{Formula}
 use Rattle.formula.specs.States.{outside}
-use Rattle.contraction.specs.Records.{Rec, over}
+use Rattle.contraction.specs.Records.{Rec, children}
 use Rattle.contraction.specs.Rounds.{dwarf}
 use Rattle.contraction.specs.Height.{last}
 use Rattle.labels.specs.Labels.{bit, on, label, labels, isOf}
 
--- What a walk or a toggle leaves: the labels, and the number of ancestor labels worked out.
+-- What a toggle leaves: the labels, and the number of nodes reworked.
 pub record Steps : Type 0 where
   pub labels : List ℕ
   pub count : ℕ
@@ -19,41 +19,36 @@ pub record Steps : Type 0 where
 abbrev pub steps : List ℕ → ℕ → Steps
 steps ls n = record { labels = ls; count = n }
 
--- An ancestor's label worked out. It is no leaf, so no shape's state matters.
-abbrev pub reworked : List ℕ → Rec → ℕ
-reworked ls r = label outside ls r
-
--- The walk up from node c, whose label has changed, through the records after it, of which the first has number j.
--- The first record over c is its parent, since children have smaller numbers.
--- It works out each ancestor's label, and ends after the root or after the first label that comes out as it was.
-abbrev pub walk : List Rec → ℕ → ℕ → List ℕ → Steps
-walk [] j c ls = steps ls 0
-walk (r ∷ rs) j c ls =
-    elim (over c r) [
-      | false ↦ walk rs (suc j) c ls
-      | true ↦
-          elim (eqb (reworked ls r) (getD ls j 0)) [
-            | true ↦ steps ls 1
-            | false ↦ let up = walk rs (suc j) j (set ls j (reworked ls r)) in steps (up .labels) (suc (up .count))
-          ]
-    ]
-
 -- The other bit.
 abbrev pub flip : ℕ → ℕ
 flip x = bit (not (on x))
 
--- A toggle of shape s flips the shape's leaves one by one in leaf order and walks up from each, among the records from number i on.
--- The count is the number of ancestor labels worked out, over all that shape's leaves.
-abbrev pub toggle : List Rec → ℕ → ℕ → List ℕ → Steps
-toggle [] i s ls = steps ls 0
-toggle (r ∷ rs) i s ls =
-    elim (isOf s r) [
-      | false ↦ toggle rs (suc i) s ls
-      | true ↦
-          let up = walk rs (suc i) i (set ls i (flip (getD ls i 0))) in
-          let more = toggle rs (suc i) s (up .labels) in
-          steps (more .labels) (up .count + more .count)
+-- A toggle flips all leaves of its shape s first: the leaves among the records from number i on.
+abbrev pub flipLeaves : ℕ → List Rec → ℕ → List ℕ → List ℕ
+flipLeaves s [] i ls = ls
+flipLeaves s (r ∷ rs) i ls = flipLeaves s rs (suc i) (cond (isOf s r) (set ls i (flip (getD ls i 0))) ls)
+
+-- The label of one of the nodes cs has changed, where `old` are the labels before the toggle.
+abbrev pub changed : List ℕ → List ℕ → List ℕ → Bool
+changed old ls [] = false
+changed old ls (c ∷ cs) = not (eqb (getD ls c 0) (getD old c 0)) || changed old ls cs
+
+-- A node's label worked out. It is no leaf, so no shape's state matters.
+abbrev pub reworked : List ℕ → Rec → ℕ
+reworked ls r = label outside ls r
+
+-- Then it goes through the nodes in rising number, here from node j on, and reworks a node exactly when a child's label has changed.
+-- The count is the number of nodes so reworked.
+abbrev pub rework : List ℕ → List Rec → ℕ → List ℕ → Steps
+rework old [] j ls = steps ls 0
+rework old (r ∷ rs) j ls =
+    elim (changed old ls (children r)) [
+      | false ↦ rework old rs (suc j) ls
+      | true ↦ let more = rework old rs (suc j) (set ls j (reworked ls r)) in steps (more .labels) (suc (more .count))
     ]
+
+abbrev pub toggle : List Rec → ℕ → List ℕ → Steps
+toggle rs s ls = rework ls rs 0 (flipLeaves s rs 0 ls)
 
 -- Answers, in order: a root bit for each toggle, a count for each toggle, the final label of every dwarf node.
 pub record Answers : Type 0 where
@@ -68,7 +63,7 @@ answers rs cs ls = record { roots = rs; counts = cs; final = ls }
 abbrev pub toggleEach : List Rec → List ℕ → List ℕ → Answers
 toggleEach rs ls [] = answers [] [] ls
 toggleEach rs ls (s ∷ ss) =
-    let one = toggle rs 0 s ls in
+    let one = toggle rs s ls in
     let more = toggleEach rs (one .labels) ss in
     answers (last (one .labels) ∷ more .roots) (one .count ∷ more .counts) (more .final)
 

@@ -1,15 +1,16 @@
-// Toggles: the walk up from a leaf with its count, a toggle of a shape, and a run over a toggle list.
+// Toggles: all leaves of a shape flipped, then the nodes above them reworked in rising number; and a run over a toggle list.
 ghost use mathlib.Core.Path.{_≡_};
-ghost use Prim.Native.Nat.{suc, _-_, _<_, _≤_};
+ghost use mathlib.Core.List.{List};
+ghost use Prim.Native.Nat.{ℕ, suc, _-_, _<_, _≤_};
 ghost use lib.ListN.{length, take};
 ghost use Rattle.formula.specs.Formula.{Formula};
 ghost use Rattle.contraction.specs.Height.{last};
-ghost use Rattle.outcome.specs.Lent.{filled};
-ghost use Rattle.labels.specs.Arrays.{Holds};
 ghost use Rattle.contraction.specs.Steps.{recs};
-ghost use Rattle.labels.specs.Steps.{Shaped, Parents, Ready};
-ghost use Rattle.toggles.specs.Toggles.{steps, flip as flipOf, walk as walkOf, toggle as toggleOf};
-ghost use Rattle.toggles.specs.Steps.{RunDone};
+ghost use Rattle.outcome.specs.Lent.{filled};
+ghost use Rattle.labels.specs.Arrays.{Holds, Tree};
+ghost use Rattle.labels.specs.Steps.{Ready};
+ghost use Rattle.toggles.specs.Toggles.{steps, flip as flipOf, rework, toggle as toggleOf};
+ghost use Rattle.toggles.specs.Steps.{Alone, Due, Bare, AddedNode, Climbs, Ripe, Settles, Settled, Toggles, Flipped, Tables, RunDone};
 ghost use Rattle.toggles.specs.Named.{firstWrong};
 ghost use Rattle.toggles.specs.Ran.{ToggleRoom, RunRoom, TreeRun};
 
@@ -20,7 +21,7 @@ fn flip(v: u8) -> u8
     if v == 0 { 1 } else { 0 }
 }
 
-// The walk up from a leaf whose label has changed, and the number of labels that it worked out.
+// The nodes reworked above one node whose label alone has changed: straight up, until a label comes out as it was. How many they are.
 fn walk(
     kinds: &[u16; 3072],
     firsts: &[u16; 3072],
@@ -29,15 +30,15 @@ fn walk(
     nodes: usize,
     parents: &[u16; 3072],
     labels: &mut [u8; 3072],
-    leaf: usize,
+    node: usize,
 ) -> u32
-    requires { ⌜ Shaped (now kinds) (now firsts) (now seconds) leaves nodes ⌝ }
-    requires { ⌜ Parents (now kinds) (now firsts) (now seconds) nodes (now parents) ⌝ }
-    requires { ⌜ leaf < nodes ⌝ }
-    ensures { λ r. ⌜ steps (take nodes (now (labels .exit))) r
-        ≡ walkOf (recs (now (kinds .entry)) (now (firsts .entry)) (now (seconds .entry)) (suc leaf) (nodes - suc leaf)) (suc leaf) leaf (take nodes (now (labels .entry))) ⌝ }
+    requires { ⌜ Climbs (now kinds) (now firsts) (now seconds) leaves nodes (now parents) (now labels) node ⌝ }
+    ensures { λ _. ⌜ length (now (labels .exit)) ≡ 3072 ⌝ }
+    ensures { λ r. ⌜ ((old : List ℕ) → Alone nodes old (now (labels .entry)) node
+        → steps (take nodes (now (labels .exit))) r
+        ≡ rework old (recs (now (kinds .entry)) (now (firsts .entry)) (now (seconds .entry)) (suc node) (nodes - suc node)) (suc node) (take nodes (now (labels .entry)))) ⌝ }
 {
-    let mut p = labels::wide(parents[leaf]);
+    let mut p = labels::wide(parents[node]);
     let mut count: u32 = 0;
     while p < nodes {
         let v = labels::work(kinds, firsts, seconds, labels, p);
@@ -52,7 +53,140 @@ fn walk(
     count
 }
 
-// A toggle of shape s: its leaves flipped and walked from, one by one. The number of labels worked out.
+// Node k, which is marked, reworked: its mark is taken off and, where its label changes, the node above it is marked.
+fn rework_node(
+    kinds: &[u16; 3072],
+    firsts: &[u16; 3072],
+    seconds: &[u16; 3072],
+    nodes: usize,
+    parents: &[u16; 3072],
+    labels: &mut [u8; 3072],
+    marks: &mut [u64; 48],
+    k: usize,
+)
+    requires { ⌜ Ripe nodes k (now parents) (now marks) ⌝ }
+    ensures { λ _. ⌜ Settled (now (kinds .entry)) (now (firsts .entry)) (now (seconds .entry)) nodes (now (parents .entry)) k
+        (now (labels .entry)) (now (marks .entry)) (now (labels .exit)) (now (marks .exit)) ⌝ }
+{
+    marks::unmark(marks, k);
+    let v = labels::work(kinds, firsts, seconds, labels, k);
+    if v == labels[k] {
+        return;
+    }
+    labels[k] = v;
+    let p = labels::wide(parents[k]);
+    if p < nodes {
+        marks::mark(marks, p);
+    }
+}
+
+// The marked nodes reworked in rising number, and every node above one whose label changes. How many they are.
+fn settle(
+    kinds: &[u16; 3072],
+    firsts: &[u16; 3072],
+    seconds: &[u16; 3072],
+    leaves: usize,
+    nodes: usize,
+    parents: &[u16; 3072],
+    labels: &mut [u8; 3072],
+    marks: &mut [u64; 48],
+) -> u32
+    requires { ⌜ Settles (now kinds) (now firsts) (now seconds) leaves nodes (now parents) (now labels) (now marks) ⌝ }
+    ensures { λ _. ⌜ length (now (labels .exit)) ≡ 3072 ⌝ }
+    ensures { λ r. ⌜ ((old : List ℕ) (j : ℕ) → Due (now (kinds .entry)) (now (firsts .entry)) (now (seconds .entry)) nodes old (now (labels .entry)) (now (marks .entry)) j
+        → steps (take nodes (now (labels .exit))) r
+        ≡ rework old (recs (now (kinds .entry)) (now (firsts .entry)) (now (seconds .entry)) j (nodes - j)) j (take nodes (now (labels .entry)))) ⌝ }
+{
+    let mut k = marks::first_mark(marks, 0);
+    let mut count: u32 = 0;
+    while k < nodes {
+        rework_node(kinds, firsts, seconds, nodes, parents, labels, marks, k);
+        count += 1;
+        k = marks::first_mark(marks, k);
+    }
+    count
+}
+
+// Marks node p, where there is such a node.
+fn mark_node(marks: &mut [u64; 48], p: usize, nodes: usize)
+    requires { ⌜ nodes ≤ 3072 ⌝ }
+    ensures { λ _. ⌜ AddedNode nodes p (now (marks .entry)) (now (marks .exit)) ⌝ }
+{
+    if p < nodes {
+        marks::mark(marks, p);
+    }
+}
+
+// The leaves of a shape flipped, from its first leaf on, and the nodes above them marked.
+fn flip_leaves(
+    kinds: &[u16; 3072],
+    firsts: &[u16; 3072],
+    seconds: &[u16; 3072],
+    leaves: usize,
+    nodes: usize,
+    parents: &[u16; 3072],
+    heads: &[u16; 256],
+    nexts: &[u16; 1024],
+    labels: &mut [u8; 3072],
+    marks: &mut [u64; 48],
+    s: usize,
+)
+    requires { ⌜ Toggles (now kinds) (now firsts) (now seconds) leaves nodes (now parents) (now heads) (now nexts) (now labels) s × Bare (now marks) ⌝ }
+    ensures { λ _. ⌜ Flipped (now (kinds .entry)) (now (firsts .entry)) (now (seconds .entry)) leaves nodes s (now (labels .entry)) (now (labels .exit)) (now (marks .exit)) ⌝ }
+{
+    let mut a = labels::wide(heads[s]);
+    while a < leaves {
+        labels[a] = flip(labels[a]);
+        mark_node(marks, labels::wide(parents[a]), nodes);
+        a = labels::wide(nexts[a]);
+    }
+}
+
+// A toggle of shape s, which stands at several leaves. The number of nodes reworked.
+fn toggle_many(
+    kinds: &[u16; 3072],
+    firsts: &[u16; 3072],
+    seconds: &[u16; 3072],
+    leaves: usize,
+    nodes: usize,
+    parents: &[u16; 3072],
+    heads: &[u16; 256],
+    nexts: &[u16; 1024],
+    labels: &mut [u8; 3072],
+    s: usize,
+) -> u32
+    requires { ⌜ Toggles (now kinds) (now firsts) (now seconds) leaves nodes (now parents) (now heads) (now nexts) (now labels) s ⌝ }
+    ensures { λ _. ⌜ length (now (labels .exit)) ≡ 3072 ⌝ }
+    ensures { λ r. ⌜ steps (take nodes (now (labels .exit))) r
+        ≡ toggleOf (recs (now (kinds .entry)) (now (firsts .entry)) (now (seconds .entry)) 0 nodes) s (take nodes (now (labels .entry))) ⌝ }
+{
+    let mut marks = [0u64; 48];
+    flip_leaves(
+        kinds,
+        firsts,
+        seconds,
+        leaves,
+        nodes,
+        parents,
+        heads,
+        nexts,
+        labels,
+        &mut marks,
+        s,
+    );
+    settle(
+        kinds,
+        firsts,
+        seconds,
+        leaves,
+        nodes,
+        parents,
+        labels,
+        &mut marks,
+    )
+}
+
+// A toggle of shape s. The number of nodes reworked. Above a single leaf one node at a time is due, and no mark is needed.
 fn toggle(
     kinds: &[u16; 3072],
     firsts: &[u16; 3072],
@@ -65,19 +199,32 @@ fn toggle(
     labels: &mut [u8; 3072],
     s: usize,
 ) -> u32
-    requires { ⌜ Ready (now kinds) (now firsts) (now seconds) leaves nodes (now parents) (now heads) (now nexts) ⌝ }
-    requires { ⌜ s < 256 ⌝ }
+    requires { ⌜ Toggles (now kinds) (now firsts) (now seconds) leaves nodes (now parents) (now heads) (now nexts) (now labels) s ⌝ }
+    ensures { λ _. ⌜ length (now (labels .exit)) ≡ 3072 ⌝ }
     ensures { λ r. ⌜ steps (take nodes (now (labels .exit))) r
-        ≡ toggleOf (recs (now (kinds .entry)) (now (firsts .entry)) (now (seconds .entry)) 0 nodes) 0 s (take nodes (now (labels .entry))) ⌝ }
+        ≡ toggleOf (recs (now (kinds .entry)) (now (firsts .entry)) (now (seconds .entry)) 0 nodes) s (take nodes (now (labels .entry))) ⌝ }
 {
-    let mut a = labels::wide(heads[s]);
-    let mut count: u32 = 0;
-    while a < leaves {
-        labels[a] = flip(labels[a]);
-        count += walk(kinds, firsts, seconds, leaves, nodes, parents, labels, a);
-        a = labels::wide(nexts[a]);
+    let a = labels::wide(heads[s]);
+    if leaves <= a {
+        return 0;
     }
-    count
+    let b = labels::wide(nexts[a]);
+    if b < leaves {
+        return toggle_many(
+            kinds,
+            firsts,
+            seconds,
+            leaves,
+            nodes,
+            parents,
+            heads,
+            nexts,
+            labels,
+            s,
+        );
+    }
+    labels[a] = flip(labels[a]);
+    walk(kinds, firsts, seconds, leaves, nodes, parents, labels, a)
 }
 
 // The label of the root, which is the last node.
@@ -104,7 +251,7 @@ fn toggle_each(
     roots: &mut [u8],
     counts: &mut [u32],
 )
-    requires { ⌜ Ready (now kinds) (now firsts) (now seconds) leaves nodes (now parents) (now heads) (now nexts) ⌝ }
+    requires { ⌜ Ready (now kinds) (now firsts) (now seconds) leaves nodes (now parents) (now heads) (now nexts) × (length (now labels) ≡ 3072) ⌝ }
     requires { ⌜ ToggleRoom (now toggles) (now roots) (now counts) ⌝ }
     ensures { λ _. ⌜ RunDone (recs (now (kinds .entry)) (now (firsts .entry)) (now (seconds .entry)) 0 nodes) (take nodes (now (labels .entry))) (now (toggles .entry))
         (now (roots .entry)) (now (counts .entry)) (take nodes (now (labels .exit))) (now (roots .exit)) (now (counts .exit)) ⌝ }
@@ -164,6 +311,28 @@ fn narrow(x: usize) -> u16
     x as u16
 }
 
+// The labels with every shape outside, each node's parent and the leaves of each shape.
+fn fill_tables(
+    kinds: &[u16; 3072],
+    firsts: &[u16; 3072],
+    seconds: &[u16; 3072],
+    leaves: usize,
+    nodes: usize,
+    labels: &mut [u8; 3072],
+    parents: &mut [u16; 3072],
+    heads: &mut [u16; 256],
+    nexts: &mut [u16; 1024],
+)
+    requires { ⌜ Tree (now kinds) (now firsts) (now seconds) leaves nodes ⌝ }
+    ensures { λ _. ⌜ Tables (now (kinds .entry)) (now (firsts .entry)) (now (seconds .entry)) leaves nodes (now (labels .exit)) (now (parents .exit)) (now (heads .exit)) (now (nexts .exit)) ⌝ }
+{
+    let few = narrow(leaves);
+    let all = narrow(nodes);
+    labels::fill_labels(kinds, firsts, seconds, leaves, nodes, labels);
+    labels::fill_parents(kinds, firsts, seconds, all, parents);
+    labels::fill_chains(kinds, firsts, seconds, few, all, heads, nexts);
+}
+
 // A toggle run on a dwarf tree, with every shape outside at first.
 pub fn run_tree(
     kinds: &[u16; 3072],
@@ -184,11 +353,17 @@ pub fn run_tree(
     let mut parents = [0u16; 3072];
     let mut heads = [0u16; 256];
     let mut nexts = [0u16; 1024];
-    let few = narrow(leaves);
-    let all = narrow(nodes);
-    labels::fill_labels(kinds, firsts, seconds, leaves, nodes, &mut current);
-    labels::fill_parents(kinds, firsts, seconds, all, &mut parents);
-    labels::fill_chains(kinds, firsts, seconds, few, all, &mut heads, &mut nexts);
+    fill_tables(
+        kinds,
+        firsts,
+        seconds,
+        leaves,
+        nodes,
+        &mut current,
+        &mut parents,
+        &mut heads,
+        &mut nexts,
+    );
     toggle_each(
         kinds,
         firsts,

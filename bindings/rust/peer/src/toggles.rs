@@ -94,41 +94,31 @@ pub struct Ran {
 }
 
 pub fn run(dwarf: &Dwarf, toggles: &[u16]) -> Ran {
-    let mut parents = vec![None; dwarf.records.len()];
-    let mut leaves_of = vec![Vec::new(); 256];
-    for (node, record) in dwarf.records.iter().enumerate() {
-        if record.kind == 0 {
-            leaves_of[usize::from(record.first)].push(node);
-        }
-        for child in record.children() {
-            parents[child] = Some(node);
-        }
-    }
     let mut labels = afresh(dwarf, &[false; 256]);
     let mut ran = Ran { roots: vec![], counts: vec![], labels: vec![] };
     for shape in toggles {
-        let walks = leaves_of[usize::from(*shape)].iter().map(|leaf| walk(dwarf, &parents, &mut labels, *leaf));
-        ran.counts.push(walks.sum());
+        ran.counts.push(toggle(dwarf, &mut labels, *shape));
         ran.roots.push(labels.last().unwrap().listed());
     }
     ran.labels = labels.into_iter().map(Label::listed).collect();
     ran
 }
 
-/// Flips a leaf and "goes up, works out each ancestor's label, and ends after the root or after the first label that comes out as it
-/// was". Gives the number of labels worked out.
-fn walk(dwarf: &Dwarf, parents: &[Option<usize>], labels: &mut [Label], leaf: usize) -> u32 {
-    labels[leaf] = Label::Bit(!labels[leaf].bit());
-    let mut count = 0;
-    let mut at = leaf;
-    while let Some(up) = parents[at] {
-        let new = label(dwarf, labels, up);
-        count += 1;
-        if new == labels[up] {
-            break;
+/// "Flips all leaves of its shape first, then goes through the dwarf nodes in rising number and reworks a node exactly when a child's
+/// label has changed. The count is the number of nodes so reworked."
+fn toggle(dwarf: &Dwarf, labels: &mut [Label], shape: u16) -> u32 {
+    let before = labels.to_vec();
+    for (node, record) in dwarf.records.iter().enumerate() {
+        if record.kind == 0 && record.first == shape {
+            labels[node] = Label::Bit(!labels[node].bit());
         }
-        labels[up] = new;
-        at = up;
+    }
+    let mut count = 0;
+    for (node, record) in dwarf.records.iter().enumerate() {
+        if record.children().into_iter().any(|child| labels[child] != before[child]) {
+            labels[node] = label(dwarf, labels, node);
+            count += 1;
+        }
     }
     count
 }

@@ -73,7 +73,7 @@ fn one_leaf() {
 
 #[test]
 fn a_shape_at_two_leaves() {
-    assert_eq!(run(&sheet(&["A"], &[0, 0, EXCLUSIVE]), &[0], ROOM), ran(&[0], &[2], &[1, 1, 0]));
+    assert_eq!(run(&sheet(&["A"], &[0, 0, EXCLUSIVE]), &[0], ROOM), ran(&[0], &[1], &[1, 1, 0]));
 }
 
 #[test]

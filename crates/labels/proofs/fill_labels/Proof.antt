@@ -30,7 +30,7 @@ loop-again : tie.Need-loop-again Inv-loop μ-loop
 loop-again c = search labels-more
 
 returns : tie.Need-returns Inv-loop μ-loop
-returns c = search labels-end
+returns c = (search needs, search labels-end)
 
 pub fill-labels-spec : {M : Type 1} → statement M
 fill-labels-spec =

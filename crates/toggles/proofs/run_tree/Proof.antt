@@ -1,31 +1,17 @@
 -- `toggles::run_tree` meets its contract.
-use Rattle.toggles.proofs.RanLaws.{tree-shaped, tree-room, tree-fits, narrow-room, narrow-shaped, narrow-ready, ran}
 use borrow.Author.Needs.{needs}
+use Rattle.toggles.proofs.RanLaws.{ran}
 use Rattle.toggles.proofs.run_tree.Statement.{statement}
 use Rattle.toggles.proofs.run_tree.Tie as tie
 
-narrow-requires : tie.Need-narrow-requires
-narrow-requires c κs = search needs
-
-narrow-requires-2 : tie.Need-narrow-requires-2
-narrow-requires-2 c κs = search tree-fits
-
-fill-labels-requires : tie.Need-fill-labels-requires
-fill-labels-requires c κs = search tree-shaped
-
-fill-parents-requires : tie.Need-fill-parents-requires
-fill-parents-requires c κs = search narrow-room
-
-fill-chains-requires : tie.Need-fill-chains-requires
-fill-chains-requires c κs = search narrow-shaped
+fill-tables-requires : tie.Need-fill-tables-requires
+fill-tables-requires c κs = search needs
 
 toggle-each-requires : tie.Need-toggle-each-requires
-toggle-each-requires c κs = let given = c .before .before .before .before .before .before .before .before .before .before .before .before .before .before .before .before .before .before .before .pre in
-    (search (narrow-ready, given .tree), given .answers)
+toggle-each-requires c κs = search needs
 
 copy-labels-requires : tie.Need-copy-labels-requires
-copy-labels-requires c κs = let given = c .before .before .before .before .before .before .before .before .before .before .before .before .before .before .before .before .before .before .before .before .before .before .before .before .before .before .pre in
-    (tree-room (given .tree), given .for-labels)
+copy-labels-requires c κs = search needs
 
 same-length : tie.Need-same-length
 same-length c = search needs
@@ -43,11 +29,7 @@ pub run-tree-spec : {M : Type 1} → statement M
 run-tree-spec =
     tie.close
     (tie.spec
-    narrow-requires
-    narrow-requires-2
-    fill-labels-requires
-    fill-parents-requires
-    fill-chains-requires
+    fill-tables-requires
     toggle-each-requires
     copy-labels-requires
     same-length

@@ -1,5 +1,6 @@
 -- `toggles::toggle_each` meets its contract. The loop keeps: the first i toggles are done.
 use Prim.Native.Nat.{_-_}
+use mathlib.Core.Path.{_≡_}
 use borrow.Author.Needs.{needs}
 use lib.ListN.{length, take}
 use Rattle.contraction.specs.Steps.{recs}
@@ -8,13 +9,13 @@ use Rattle.toggles.proofs.toggle_each.Statement.{statement}
 use Rattle.toggles.proofs.toggle_each.Tie as tie
 
 abbrev Inv-loop : tie.InvT-loop
-Inv-loop kinds firsts seconds leaves nodes parents heads nexts labels₀ toggles roots₀ counts₀ i₀ labels roots counts i = Running (recs kinds firsts seconds 0 nodes) (take nodes labels₀) toggles roots₀ counts₀ i (take nodes labels) roots counts
+Inv-loop kinds firsts seconds leaves nodes parents heads nexts labels₀ toggles roots₀ counts₀ i₀ labels roots counts i = Running (recs kinds firsts seconds 0 nodes) (take nodes labels₀) toggles roots₀ counts₀ i (take nodes labels) roots counts × (length labels ≡ 3072)
 
 abbrev μ-loop : tie.MeasureT-loop
 μ-loop kinds firsts seconds leaves nodes parents heads nexts labels₀ toggles roots₀ counts₀ i₀ labels roots counts i = length toggles - i
 
 loop-holds : tie.Need-loop-holds Inv-loop μ-loop
-loop-holds c = running-start _ _ _ _ _
+loop-holds c = (running-start _ _ _ _ _, search needs)
 
 mul-wide : tie.Need-mul-wide Inv-loop μ-loop
 mul-wide c = search needs
@@ -26,7 +27,7 @@ wide-requires : tie.Need-wide-requires Inv-loop μ-loop
 wide-requires c κs = search needs
 
 toggle-requires : tie.Need-toggle-requires Inv-loop μ-loop
-toggle-requires c κs = (search needs, search shape-below)
+toggle-requires c κs = search (shape-below, needs)
 
 mul-counts : tie.Need-mul-counts Inv-loop μ-loop
 mul-counts c = search needs
@@ -47,7 +48,7 @@ loop-less : tie.Need-loop-less Inv-loop μ-loop
 loop-less c = search needs
 
 loop-again : tie.Need-loop-again Inv-loop μ-loop
-loop-again c = search running-more
+loop-again c = (search running-more, search needs)
 
 same-length : tie.Need-same-length Inv-loop μ-loop
 same-length c = search needs

@@ -1,11 +1,11 @@
-//! Running: parents and the leaves of each shape are lists of numbers, and a walk goes up from a leaf.
+//! Running: parents and the leaves of each shape are lists of numbers, a walk goes up from a single leaf, and marks say which nodes are due above several.
 
 use super::{contracted, enough, Dwarf, Refused};
 
 const NONE: u16 = 65535;
 const NODES: usize = 3069;
 
-/// A dwarf tree with its labels, ready for walks.
+/// A dwarf tree with its labels, ready for toggles.
 pub struct Labels {
     pub dwarf: Dwarf,
     pub labels: [u8; NODES],
@@ -38,17 +38,44 @@ impl Labels {
         self.labels[self.dwarf.nodes - 1]
     }
 
-    /// Flips the leaves of a shape; gives how many labels were worked out.
+    /// Flips the leaves of a shape and reworks each node with a changed child, in rising number; gives how many.
     pub fn toggle(&mut self, shape: u16) -> u32 {
-        let (mut count, mut leaf) = (0, self.first_leaf[usize::from(shape)]);
+        let mut leaf = self.first_leaf[usize::from(shape)];
+        if leaf == NONE {
+            return 0;
+        }
+        if self.next_leaf[usize::from(leaf)] == NONE {
+            self.labels[usize::from(leaf)] ^= 1;
+            return self.walk(leaf);
+        }
+        let mut marks = Marks([0; 48]);
         while leaf != NONE {
             self.labels[usize::from(leaf)] ^= 1;
-            count += self.walk(leaf);
+            marks.put(self.parents[usize::from(leaf)]);
             leaf = self.next_leaf[usize::from(leaf)];
+        }
+        self.settle(&mut marks)
+    }
+
+    /// Reworks the marked nodes, and those above a node whose label changes.
+    fn settle(&mut self, marks: &mut Marks) -> u32 {
+        let mut count = 0;
+        for word in 0..marks.0.len() {
+            while marks.0[word] != 0 {
+                let node = word * 64 + marks.0[word].trailing_zeros() as usize;
+                marks.0[word] &= marks.0[word] - 1;
+                let label = self.label(node);
+                count += 1;
+                if label != self.labels[node] {
+                    self.labels[node] = label;
+                    marks.put(self.parents[node]);
+                }
+            }
         }
         count
     }
 
+    /// Straight up from a leaf, one node at a time.
     fn walk(&mut self, leaf: u16) -> u32 {
         let (mut count, mut up) = (0, self.parents[usize::from(leaf)]);
         while up != NONE {
@@ -80,6 +107,17 @@ impl Labels {
             11 => (1 - first) << 1,
             13 => first >> second() & 1,
             _ => (first >> (second() >> 1) & 1) << 1 | first >> (second() & 1) & 1,
+        }
+    }
+}
+
+/// A set of nodes, a bit each.
+struct Marks([u64; 48]);
+
+impl Marks {
+    fn put(&mut self, node: u16) {
+        if node != NONE {
+            self.0[usize::from(node) / 64] |= 1 << (node % 64);
         }
     }
 }

@@ -1,0 +1,278 @@
+-- The leaves of a shape flipped one after the other, and the nodes above them marked; so a toggle of one leaf and of several.
+use Prim.Native.Nat.{ℕ, zero, suc, _+_, _-_, _/_, _%_, _<_, _≤_}
+use native.Mathlib.Nat.{zero-add}
+use native.Mathlib.Omega.{arith}
+use mathlib.Core.Path.{_≡_, refl, sym, ap, _∙_}
+use mathlib.Core.Bool.{Bool, true, false, not, cond, _&&_, _||_, or-false, true≢false, false≢true}
+use mathlib.Core.List.{List, [], _∷_}
+use mathlib.Core.Logic.{⊎-elim}
+use lib.Dec.{eqb, ltb}
+use borrow.Author.Tests.{eqb-true, eqb-false, eq-eqb, ne-eqb, lt-ltb, le-ltb, ltb-true, ltb-false}
+use lib.ListN.{length, getD, set, take, replicate, length-set, getD-replicate}
+use lib.Seq.{getD-take, getD-set-same, getD-set-other, take-set-lt}
+use Rattle.contraction.specs.Records.{Rec, isLeaf, children, listed, over}
+use Rattle.contraction.specs.Steps.{kindAt, recAt, recs}
+use Rattle.contraction.proofs.Steps.{recs-more}
+use Rattle.marks.specs.Marks.{digit, marked, Added}
+use Rattle.labels.specs.Labels.{isOf}
+use Rattle.labels.specs.Steps.{seek, Shaped, Linked, Ready}
+use Rattle.labels.proofs.Links.{cases, found, jump, done, parent-is, parent-over, parent-after}
+use Rattle.toggles.specs.Toggles.{steps, flip, flipLeaves, changed, rework, toggle}
+use Rattle.toggles.specs.Steps.{Alone, Due, Within, Bare, AddedNode, Flipped}
+use Rattle.toggles.proofs.Toggles.{rework-skip, leaf-none}
+use Rattle.toggles.proofs.Upwards.{changed-set}
+
+-- a node marked, where there is one
+pub node-marked : {ms ms′ : List ℕ} {p nodes : ℕ} → p < nodes → Added ms p ms′ → AddedNode nodes p ms ms′
+node-marked {p = p} {nodes = nodes} h on = record { so = λ i. on .so i ∙ rw (lt-ltb p nodes h) }
+
+pub node-none : {ms : List ℕ} {p nodes : ℕ} → nodes ≤ p → AddedNode nodes p ms ms
+node-none {ms} {p} {nodes} h = record { so = λ i. rw (le-ltb p nodes h) (sym (or-false (marked ms i))) }
+
+-- a set with nothing in it
+pub unmarked : Bare (replicate 48 0)
+unfolding digit
+unmarked = record { none = λ k l. rw (getD-replicate {A = ℕ} 48 (k / 64) 0 0 (omega arith)) (empty (k % 64)) }
+  where
+    empty : (b : ℕ) → eqb (digit 0 b) 1 ≡ false
+    empty zero = refl
+    empty (suc b) = empty b
+
+-- the two ways of a leaf's record
+flip-skip : (s : ℕ) (r : Rec) (rs : List Rec) (i : ℕ) (ls : List ℕ) → isOf s r ≡ false → flipLeaves s (r ∷ rs) i ls ≡ flipLeaves s rs (suc i) ls
+flip-skip s r rs i ls e = rw e
+
+flip-here : (s : ℕ) (r : Rec) (rs : List Rec) (i : ℕ) (ls : List ℕ) → isOf s r ≡ true → flipLeaves s (r ∷ rs) i ls ≡ flipLeaves s rs (suc i) (set ls i (flip (getD ls i 0)))
+flip-here s r rs i ls e = rw e
+
+-- the other bit is another
+pub flip-other : (x : ℕ) → eqb (flip x) x ≡ false
+flip-other zero = refl
+flip-other (suc x) = ne-eqb 0 (suc x) (λ e. omega arith)
+
+and-both : (a b : Bool) → a && b ≡ true → (a ≡ true) × (b ≡ true)
+and-both true true e = (refl, refl)
+and-both true false e = absurd (false≢true e)
+and-both false b e = absurd (false≢true e)
+
+changed-none : (old ls cs : List ℕ) → ((c : ℕ) → listed c cs ≡ true → getD ls c 0 ≡ getD old c 0) → changed old ls cs ≡ false
+changed-none old ls [] h = refl
+changed-none old ls (c ∷ cs) h =
+    rw (eq-eqb (getD ls c 0) (getD old c 0) (h c (rw (eq-eqb c c refl)))) (changed-none old ls cs (λ d l. h d (later (eqb d c) (listed d cs) l)))
+  where
+    later : (a b : Bool) → b ≡ true → a || b ≡ true
+    later true b e = refl
+    later false b e = e
+
+-- where nothing has changed, nothing is reworked
+rework-none : (ls : List ℕ) (rs : List Rec) (j : ℕ) → rework ls rs j ls ≡ steps ls 0
+rework-none ls [] j = refl
+rework-none ls (r ∷ rs) j = rework-skip ls r rs j ls (changed-none ls ls (children r) (λ c l. refl)) ∙ rework-none ls rs (suc j)
+
+module _ {ks fs ss : List ℕ} {leaves nodes : ℕ} (sh : Shaped ks fs ss leaves nodes) where
+  -- no leaf is reworked
+  leaves-first : (old ls : List ℕ) (j : ℕ) → j ≤ leaves → rework old (recs ks fs ss 0 nodes) 0 ls ≡ rework old (recs ks fs ss j (nodes - j)) j ls
+  leaves-first old ls zero h = let e : nodes ≡ nodes - 0 = omega arith in ap (λ n. rework old (recs ks fs ss 0 n) 0 ls) e
+  leaves-first old ls (suc j) h =
+      let e : nodes - j ≡ suc (nodes - suc j) = omega (arith, sh .within) in
+      leaves-first old ls j (omega arith) ∙ ap (λ n. rework old (recs ks fs ss j n) j ls) e
+      ∙ ap (λ rs. rework old rs j ls) (recs-more ks fs ss j (nodes - suc j))
+      ∙ rework-skip old (recAt ks fs ss j) (recs ks fs ss (suc j) (nodes - suc j)) j ls (ap (changed old ls) (leaf-none (recAt ks fs ss j) (sh .leaf j (omega arith))))
+
+-- the leaves below `from` are done, and a is the next of the shape
+module _ (ks fs ss : List ℕ) (leaves nodes : ℕ) (ps hs ns : List ℕ) (s : ℕ) (old : List ℕ) where
+  pub record Turning (a : ℕ) (ls : List ℕ) : Type 0 where
+    pub from : ℕ
+    pub inside : from ≤ leaves
+    pub here : a ≡ seek (isOf s) from (recs ks fs ss from (nodes - from))
+    pub same : flipLeaves s (recs ks fs ss 0 nodes) 0 (take nodes old) ≡ flipLeaves s (recs ks fs ss from (nodes - from)) from (take nodes ls)
+    pub kept : (i : ℕ) → from ≤ i → getD ls i 0 ≡ getD old i 0
+    pub long : length ls ≡ 3072
+
+  -- and the nodes above them are marked
+  pub record Flipping (a : ℕ) (ls ms : List ℕ) : Type 0 where
+    pub turning : Turning a ls
+    pub within : Within nodes ms
+    pub low : (k : ℕ) → k < leaves → marked ms k ≡ false
+    pub dues : (k : ℕ) → k < nodes → changed (take nodes old) ls (children (recAt ks fs ss k)) ≡ marked ms k
+
+module _ {ks fs ss : List ℕ} {leaves nodes : ℕ} {ps hs ns : List ℕ} (rd : Ready ks fs ss leaves nodes ps hs ns) {s : ℕ} {old : List ℕ} where
+  pub turning-start : {a : ℕ} → s < 256 → a ≡ getD hs s 0 → length old ≡ 3072 → Turning ks fs ss leaves nodes ps hs ns s old a old
+  turning-start h e long =
+      let d : nodes ≡ nodes - 0 = omega arith in
+      record {
+        from = 0;
+        inside = omega arith;
+        here = e ∙ rd .chains .first s h ∙ ap (λ n. seek (isOf s) 0 (recs ks fs ss 0 n)) d;
+        same = ap (λ n. flipLeaves s (recs ks fs ss 0 n) 0 (take nodes old)) d;
+        kept = λ i b. refl;
+        long = long;
+      }
+
+  module _ {a : ℕ} {ls : List ℕ} (g : Turning ks fs ss leaves nodes ps hs ns s old a ls) where
+    all : g .from + (nodes - g .from) ≡ nodes
+    all = omega (arith, g .inside, rd .linked .shaped .within)
+
+    -- a leaf of the shape is one of the leaves, which come first
+    past-leaves : leaves ≤ a → nodes ≤ a
+    past-leaves h =
+        ⊎-elim (λ e. omega (arith, e, g .here, rd .linked .shaped .room))
+        (λ w. absurd (true≢false (sym (ap (λ k. isLeaf (kindAt (getD ks k 0))) (g .here) ∙ and-both _ _ (w .0) .0) ∙ rd .linked .shaped .inner a h (omega (arith, w .2, g .here, all)))))
+        (found ks fs ss (isOf s) (nodes - g .from) (g .from))
+
+    pub turning-end : leaves ≤ a → take nodes ls ≡ flipLeaves s (recs ks fs ss 0 nodes) 0 (take nodes old)
+    turning-end h =
+        sym (g .same ∙ done (isOf s) (λ rs i. flipLeaves s rs i (take nodes ls)) (take nodes ls) (λ i. refl) (λ r rs i q. flip-skip s r rs i (take nodes ls) q)
+        ks fs ss (nodes - g .from) (g .from) (omega (arith, all, g .here, past-leaves h)))
+
+    is-here : a < leaves → (isOf s (recAt ks fs ss a) ≡ true) × (g .from ≤ a)
+    is-here h =
+        ⊎-elim (λ e. absurd (omega (arith, e, g .here, rd .linked .shaped .few))) (λ w. (rw (g .here) (w .0), omega (arith, g .here, w .1)))
+        (found ks fs ss (isOf s) (nodes - g .from) (g .from))
+
+    module _ {v : ℕ} (h : a < leaves) (e : v ≡ flip (getD ls a 0)) where
+      flipped-here : set (take nodes ls) a (flip (getD (take nodes ls) a 0)) ≡ take nodes (set ls a v)
+      flipped-here =
+          let l : a < nodes = omega (arith, rd .linked .shaped .within) in
+          ap (λ x. set (take nodes ls) a (flip x)) (getD-take nodes ls a 0 l) ∙ ap (set (take nodes ls) a) (sym e) ∙ sym (take-set-lt nodes ls a v l)
+
+      at-leaf : flipLeaves s (recs ks fs ss 0 nodes) 0 (take nodes old) ≡ flipLeaves s (recs ks fs ss (suc a) (nodes - suc a)) (suc a) (take nodes (set ls a v))
+      at-leaf =
+          let rs = recs ks fs ss (suc a) (nodes - suc a) in
+          g .same ∙ jump (isOf s) (λ rs i. flipLeaves s rs i (take nodes ls)) (take nodes ls) (λ i. refl) (λ r rs i q. flip-skip s r rs i (take nodes ls) q)
+          ks fs ss (nodes - g .from) (g .from) (omega (arith, all, rd .linked .shaped .room)) (omega (arith, all, g .here, rd .linked .shaped .within))
+          ∙ rw (all, ← (g .here)) (flip-here s (recAt ks fs ss a) rs a (take nodes ls) (is-here h .0)) ∙ ap (flipLeaves s rs (suc a)) flipped-here
+
+      pub turning-on : {b : ℕ} → b ≡ getD ns a 0 → Turning ks fs ss leaves nodes ps hs ns s old b (set ls a v)
+      turning-on {b} q =
+          let shape : getD fs a 0 ≡ s = eqb-true (getD fs a 0) s (and-both (isLeaf (kindAt (getD ks a 0))) (eqb (getD fs a 0) s) (is-here h .0) .1) in
+          record {
+            from = suc a;
+            inside = h;
+            here = q ∙ rd .chains .next a h ∙ ap (λ t. seek (isOf t) (suc a) (recs ks fs ss (suc a) (nodes - suc a))) shape;
+            same = at-leaf;
+            kept = λ i c. getD-set-other ls a i v 0 (λ z. omega arith) ∙ g .kept i (omega (arith, is-here h .1));
+            long = length-set ls a v ∙ g .long;
+          }
+
+pub leaf-inside : {ks fs ss : List ℕ} {leaves nodes : ℕ} {a : ℕ} → Shaped ks fs ss leaves nodes → a < leaves → a < nodes
+leaf-inside sh h = omega (arith, sh .within)
+
+-- a toggle whose shape has no leaf
+pub toggle-none : {ks fs ss : List ℕ} {leaves nodes : ℕ} {ps hs ns : List ℕ} → Ready ks fs ss leaves nodes ps hs ns → {s a : ℕ} (ls : List ℕ) → leaves ≤ a → a ≡ getD hs s 0 → s < 256
+    → length ls ≡ 3072 → steps (take nodes ls) 0 ≡ toggle (recs ks fs ss 0 nodes) s (take nodes ls)
+toggle-none {ks} {fs} {ss} {leaves} {nodes} rd {s} ls past e h long =
+    let still = turning-end rd (turning-start rd {s = s} {old = ls} h e long) past in
+    sym (ap (rework (take nodes ls) (recs ks fs ss 0 nodes) 0) (sym still) ∙ rework-none (take nodes ls) (recs ks fs ss 0 nodes) 0)
+
+-- one whose shape has a single leaf, a
+pub toggle-one : {ks fs ss : List ℕ} {leaves nodes : ℕ} {ps hs ns : List ℕ} → Ready ks fs ss leaves nodes ps hs ns → {s a b v n : ℕ} (ls ms : List ℕ) → a < leaves → a ≡ getD hs s 0
+    → leaves ≤ b → b ≡ getD ns a 0 → v ≡ flip (getD ls a 0) → s < 256 → length ls ≡ 3072
+    → ((old : List ℕ) → Alone nodes old (set ls a v) a → steps (take nodes ms) n ≡ rework old (recs ks fs ss (suc a) (nodes - suc a)) (suc a) (take nodes (set ls a v)))
+    → steps (take nodes ms) n ≡ toggle (recs ks fs ss 0 nodes) s (take nodes ls)
+toggle-one {ks} {fs} {ss} {leaves} {nodes} rd {s} {a} {b} {v} ls ms h e past q f small long walked =
+    let sh = rd .linked .shaped in
+    let L = take nodes ls in
+    let t = turning-start rd {s = s} {old = ls} small e long in
+    let turned = turning-end rd (turning-on rd t h f q) past in
+    walked L alone ∙ sym (leaves-first sh L (take nodes (set ls a v)) (suc a) h) ∙ ap (rework L (recs ks fs ss 0 nodes) 0) turned
+  where
+    alone : Alone nodes (take nodes ls) (set ls a v) a
+    alone =
+        record {
+          differs = λ z. absurd (eqb-false (flip (getD ls a 0)) (getD ls a 0) (flip-other (getD ls a 0))
+              (sym f ∙ sym (getD-set-same ls a v 0 (omega (arith, rd .linked .shaped .few))) ∙ z ∙ getD-take nodes ls a 0 (omega (arith, rd .linked .shaped .within))));
+          elsewhere = λ i l o. getD-set-other ls a i v 0 o ∙ sym (getD-take nodes ls i 0 l);
+        }
+
+-- the marks on the way
+module _ {ks fs ss : List ℕ} {leaves nodes : ℕ} {ps hs ns : List ℕ} (rd : Ready ks fs ss leaves nodes ps hs ns) {s : ℕ} {old : List ℕ} where
+  pub flipping-start : {a : ℕ} {ms : List ℕ} → s < 256 → a ≡ getD hs s 0 → length old ≡ 3072 → Bare ms → Flipping ks fs ss leaves nodes ps hs ns s old a old ms
+  flipping-start h e long bare =
+      let room = rd .linked .shaped .room in
+      record {
+        turning = turning-start rd h e long;
+        within = record { node = λ k l m. absurd (true≢false (sym m ∙ bare .none k l)) };
+        low = λ k l. bare .none k (omega (arith, rd .linked .shaped .few));
+        dues = λ k l.
+            changed-none (take nodes old) old (children (recAt ks fs ss k)) (λ c o. sym (getD-take nodes old c 0 (omega (arith, rd .linked .shaped .below k c l o))))
+            ∙ sym (bare .none k (omega arith));
+      }
+
+  module _ {a : ℕ} {ls ms : List ℕ} (g : Flipping ks fs ss leaves nodes ps hs ns s old a ls ms) where
+    pub flipping-end : leaves ≤ a → Flipped ks fs ss leaves nodes s old ls ms
+    flipping-end h =
+        let t = g .turning in
+        record {
+          labels-are = turning-end rd t h;
+          long = t .long;
+          within = g .within;
+          due =
+              record {
+                inside = rd .linked .shaped .within;
+                kept = λ i b l. t .kept i (omega (arith, t .inside)) ∙ sym (getD-take nodes old i 0 l);
+                low = g .low;
+                dues = λ k b l. g .dues k l;
+              };
+        }
+
+    module _ {p v : ℕ} {ms′ : List ℕ} (h : a < leaves) (e : v ≡ flip (getD ls a 0)) (u : p ≡ getD ps a 0) (on : AddedNode nodes p ms ms′) where
+      in-nodes : a < nodes
+      in-nodes = omega (arith, rd .linked .shaped .within)
+
+      -- the node above a leaf is no leaf
+      above-leaves : p < nodes → leaves ≤ p
+      above-leaves l =
+          cases (ltb p leaves)
+          (λ q. absurd (clash (ltb-true p leaves q)))
+          (λ q. ltb-false p leaves q)
+        where
+          clash : p < leaves → ⊥
+          clash c =
+              let o : over a (recAt ks fs ss p) ≡ true = rw u (parent-over (rd .linked) a in-nodes (omega arith)) in
+              let none : over a (recAt ks fs ss p) ≡ false = ap (listed a) (leaf-none (recAt ks fs ss p) (rd .linked .shaped .leaf p c)) in
+              true≢false (sym o ∙ none)
+
+      either : (x y z : Bool) → (x || (y && z)) ≡ true → x ≡ false → (y ≡ true) × (z ≡ true)
+      either true y z q w = absurd (true≢false w)
+      either false true true q w = (refl, refl)
+      either false true false q w = absurd (true≢false (sym q))
+      either false false z q w = absurd (true≢false (sym q))
+
+      pub flipping-on : {b : ℕ} → b ≡ getD ns a 0 → Flipping ks fs ss leaves nodes ps hs ns s old b (set ls a v) ms′
+      flipping-on q =
+          record {
+            turning = turning-on rd (g .turning) h e q;
+            within =
+                record {
+                  node = λ k l m.
+                      cases (marked ms k) (λ y. g .within .node k l y)
+                      (λ y. let w = either (marked ms k) (ltb p nodes) (eqb k p) (sym (on .so k) ∙ m) y in omega (arith, eqb-true k p (w .1), ltb-true p nodes (w .0)));
+                };
+            low = λ k l.
+                cases (marked ms′ k)
+                (λ m. let w = either (marked ms k) (ltb p nodes) (eqb k p) (sym (on .so k) ∙ m) (g .low k l) in
+                absurd (omega (arith, eqb-true k p (w .1), above-leaves (ltb-true p nodes (w .0)))))
+                (λ m. m);
+            dues = λ k l.
+                changed-set (take nodes old) ls a v (omega (arith, g .turning .long, rd .linked .shaped .few)) as-before (children (recAt ks fs ss k))
+                ∙ rw (g .dues k l, parent-is (rd .linked) a k in-nodes l, ← u, e, flip-other (getD ls a 0)) (joined k l) ∙ sym (on .so k);
+          }
+        where
+          as-before : getD ls a 0 ≡ getD (take nodes old) a 0
+          as-before = g .turning .kept a (is-here rd (g .turning) h .1) ∙ sym (getD-take nodes old a 0 in-nodes)
+
+          joined : (k : ℕ) → k < nodes → (marked ms k || (eqb k p && true)) ≡ (marked ms k || (ltb p nodes && eqb k p))
+          joined k l = cases (eqb k p) (λ z. rw (z, lt-ltb p nodes (omega (arith, eqb-true k p z)))) (λ z. rw z (ap (λ w. marked ms k || w) (sym (none (ltb p nodes)))))
+            where
+              none : (x : Bool) → (x && false) ≡ false
+              none true = refl
+              none false = refl
+
+-- a toggle whose shape has several leaves
+pub toggle-several : {ks fs ss : List ℕ} {leaves nodes : ℕ} {ps : List ℕ} → Linked ks fs ss leaves nodes ps → {s n : ℕ} (old ls ms ls′ : List ℕ) → Flipped ks fs ss leaves nodes s old ls ms
+    → ((before : List ℕ) (j : ℕ) → Due ks fs ss nodes before ls ms j → steps (take nodes ls′) n ≡ rework before (recs ks fs ss j (nodes - j)) j (take nodes ls))
+    → steps (take nodes ls′) n ≡ toggle (recs ks fs ss 0 nodes) s (take nodes old)
+toggle-several {ks} {fs} {ss} {leaves} {nodes} lk old ls ms ls′ f settled =
+    settled (take nodes old) leaves (f .due) ∙ sym (leaves-first (lk .shaped) (take nodes old) (take nodes ls) leaves (omega arith))
+    ∙ ap (rework (take nodes old) (recs ks fs ss 0 nodes) 0) (f .labels-are)
