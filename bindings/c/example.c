@@ -70,19 +70,22 @@ static void classify_lines(void) {
     static const uint16_t shapes[] = {0, 1, 1, 0};
     uint32_t wall_lines[LENGTH(lines) / 2];
     int32_t starts[LENGTH(lines) / 2], ends[LENGTH(lines) / 2];
-    struct kressedach_classify_report r =
-        kressedach_classify(LIST(sheet), LIST(lines), LIST(positions), LIST(shapes), LIST(wall_lines), LIST(starts), LIST(ends));
+    uint16_t start_shapes[LENGTH(lines) / 2], end_shapes[LENGTH(lines) / 2];
+    struct kressedach_classify_report r = kressedach_classify(LIST(sheet), LIST(lines), LIST(positions), LIST(shapes), LIST(wall_lines),
+                                                              LIST(starts), LIST(ends), LIST(start_shapes), LIST(end_shapes));
     for (size_t k = 0; k < r.walls; k++) {
-        printf("wall: line %lu, %ld to %ld\n", (unsigned long)wall_lines[k], (long)starts[k], (long)ends[k]);
+        printf("wall: line %lu, %ld at shape %u to %ld at shape %u\n", (unsigned long)wall_lines[k], (long)starts[k], start_shapes[k],
+               (long)ends[k], end_shapes[k]);
     }
     expect(r.number == KRESSEDACH_GIVEN && r.walls == 2 && wall_lines[0] == 7 && wall_lines[1] == 7, "two walls");
     expect(starts[0] == 0 && ends[0] == 40 && starts[1] == 60 && ends[1] == 100, "beside the bore, on both sides");
+    expect(start_shapes[0] == 0 && end_shapes[0] == 1 && start_shapes[1] == 1 && end_shapes[1] == 0, "from block to bore, from bore to block");
 
-    r = kressedach_classify(LIST(sheet), lines, 3, positions, 3, shapes, 3, wall_lines, 2, starts, 2, ends, 2);
+    r = kressedach_classify(LIST(sheet), lines, 3, positions, 3, shapes, 3, wall_lines, 2, starts, 2, ends, 2, start_shapes, 2, end_shapes, 2);
     printf("without the last crossing: refused %u at %zu\n", r.number, r.place);
     expect(r.number == KRESSEDACH_ODD && r.place == 2 && r.walls == 0, "the block is not left");
 
-    r = kressedach_classify(LIST(sheet), NULL, 0, NULL, 0, NULL, 0, NULL, 0, NULL, 0, NULL, 0);
+    r = kressedach_classify(LIST(sheet), NULL, 0, NULL, 0, NULL, 0, NULL, 0, NULL, 0, NULL, 0, NULL, 0, NULL, 0);
     expect(r.number == KRESSEDACH_GIVEN && r.walls == 0, "no crossings, no walls");
 }
 

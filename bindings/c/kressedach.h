@@ -117,12 +117,14 @@ struct kressedach_classify_report {
 };
 
 /* Finds the walls of lines. A crossing is a line number, a position in micrometres and a shape number, at one index of three lists;
- * line numbers never fall, and positions never fall within a line. A wall is a longest stretch of positive length inside. Refusals:
- * 1 to 7, 8, 13, then 10 and 11 crossing by crossing, 12, then 9 for wall_lines, starts, ends in this order.
+ * line numbers never fall, and positions never fall within a line. A wall is a longest stretch of positive length inside; the shape at
+ * its start and the one at its end is the lowest number whose state differs before and after that position. Refusals: 1 to 7, 8, 13,
+ * then 10 and 11 crossing by crossing, 12, then 9 for wall_lines, starts, ends, start_shapes, end_shapes in this order.
  *
  * The caller keeps: sheet_length bytes at sheet; lines_length, positions_length and shapes_length entries at lines, positions and
- * shapes; wall_lines_length, starts_length and ends_length entries at wall_lines, starts and ends. The last three are written: none of
- * them overlaps another list. Each needs half as many entries as there are crossings, rounded down.
+ * shapes; wall_lines_length, starts_length, ends_length, start_shapes_length and end_shapes_length entries at wall_lines, starts, ends,
+ * start_shapes and end_shapes. The last five are written: none of them overlaps another list. Each needs half as many entries as there
+ * are crossings, rounded down.
  */
 struct kressedach_classify_report kressedach_classify(const uint8_t *sheet, size_t sheet_length,
                                                       const uint32_t *lines, size_t lines_length,
@@ -130,7 +132,9 @@ struct kressedach_classify_report kressedach_classify(const uint8_t *sheet, size
                                                       const uint16_t *shapes, size_t shapes_length,
                                                       uint32_t *wall_lines, size_t wall_lines_length,
                                                       int32_t *starts, size_t starts_length,
-                                                      int32_t *ends, size_t ends_length);
+                                                      int32_t *ends, size_t ends_length,
+                                                      uint16_t *start_shapes, size_t start_shapes_length,
+                                                      uint16_t *end_shapes, size_t end_shapes_length);
 
 #ifdef __cplusplus
 }

@@ -87,5 +87,9 @@ extern "C" {
         starts_length: usize,
         ends: *mut i32,
         ends_length: usize,
+        start_shapes: *mut u16,
+        start_shapes_length: usize,
+        end_shapes: *mut u16,
+        end_shapes_length: usize,
     ) -> ClassifyReport;
 }

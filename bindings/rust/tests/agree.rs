@@ -3,6 +3,7 @@
 //! Answers and refusals are compared, and every answer list from end to end, with entries before and after it that were not lent.
 //! `KRESSEDACH_CASES` and `KRESSEDACH_SEED` say how many cases and from which seed. A difference prints its case whole.
 
+use kressedach::WallLists;
 use peer::lines::{Crossing, Crossings};
 use peer::make::{self, Dice, Form};
 use peer::{say, Refused};
@@ -14,7 +15,7 @@ enum Case {
     Read { sheet: Vec<u8> },
     Build { sheet: Vec<u8>, rooms: [usize; 3] },
     Run { sheet: Vec<u8>, toggles: Vec<u16>, rooms: [usize; 3] },
-    Classify { sheet: Vec<u8>, lines: Vec<u32>, positions: Vec<i32>, shapes: Vec<u16>, rooms: [usize; 3] },
+    Classify { sheet: Vec<u8>, lines: Vec<u32>, positions: Vec<i32>, shapes: Vec<u16>, rooms: [usize; 5] },
 }
 
 impl Debug for Case {
@@ -104,20 +105,29 @@ fn compare(case: &Case) -> Result<u8, String> {
         Case::Classify { sheet, lines, positions, shapes, rooms } => {
             let mut wall_lines = Lent::new(rooms[0], |k| k as u32);
             let (mut starts, mut ends) = (Lent::new(rooms[1], |k| k as i32), Lent::new(rooms[2], |k| k as i32));
-            let (list, starts_list, ends_list) = (wall_lines.list(), starts.list(), ends.list());
-            let got = kressedach::classify_into(sheet, lines, positions, shapes, list, starts_list, ends_list);
+            let (mut start_shapes, mut end_shapes) = (Lent::new(rooms[3], |k| k as u16), Lent::new(rooms[4], |k| k as u16));
+            let mut lists = WallLists {
+                lines: wall_lines.list(),
+                starts: starts.list(),
+                ends: ends.list(),
+                start_shapes: start_shapes.list(),
+                end_shapes: end_shapes.list(),
+            };
+            let got = kressedach::classify_into(sheet, lines, positions, shapes, &mut lists);
             let due = peer::classify(sheet, Crossings { lines, positions, shapes }, *rooms);
             let number = same(got, due.as_ref().map(|walls| walls.len()))?;
             wall_lines.check("wall_lines", due.iter().flatten().map(|wall| wall.line))?;
             starts.check("starts", due.iter().flatten().map(|wall| wall.start))?;
             ends.check("ends", due.iter().flatten().map(|wall| wall.end))?;
+            start_shapes.check("start_shapes", due.iter().flatten().map(|wall| wall.start_shape))?;
+            end_shapes.check("end_shapes", due.iter().flatten().map(|wall| wall.end_shape))?;
             Ok(number)
         }
     }
 }
 
-/// The lengths of three answer lists that need so much room: mostly enough, sometimes too short.
-fn rooms(dice: &mut Dice, needed: [usize; 3]) -> [usize; 3] {
+/// The lengths of answer lists that need so much room: mostly enough, sometimes too short.
+fn rooms<const LISTS: usize>(dice: &mut Dice, needed: [usize; LISTS]) -> [usize; LISTS] {
     let often_good = dice.below(4) > 0;
     needed.map(|need| match dice.below(if often_good { 3 } else { 6 }) {
         0 => need,
@@ -182,7 +192,7 @@ fn make_case(dice: &mut Dice, job: u64) -> Case {
                     _ => shapes.push(65535),
                 }
             }
-            let rooms = rooms(dice, [lines.len() / 2; 3]);
+            let rooms = rooms(dice, [lines.len() / 2; 5]);
             Case::Classify { sheet, lines, positions, shapes, rooms }
         }
     }
@@ -256,7 +266,7 @@ fn largest_sheets() -> Vec<Case> {
         let toggles: Vec<u16> = (0..256).chain((0..256).rev()).chain((0..2000).map(|_| dice.below(256) as u16)).collect();
         cases.push(Case::Run { sheet: sheet.clone(), rooms: [toggles.len(), toggles.len(), 3069], toggles });
         let (lines, positions, shapes) = lists(&make::crossings(dice, 256, 40, 1000));
-        cases.push(Case::Classify { sheet, rooms: [lines.len() / 2; 3], lines, positions, shapes });
+        cases.push(Case::Classify { sheet, rooms: [lines.len() / 2; 5], lines, positions, shapes });
     }
     cases
 }
@@ -313,7 +323,7 @@ fn long_lists() {
             shapes.push(shape);
         }
         assert_eq!(
-            assert_same(Case::Classify { sheet: sheet.clone(), lines, positions, shapes, rooms: [length / 2; 3] }),
+            assert_same(Case::Classify { sheet: sheet.clone(), lines, positions, shapes, rooms: [length / 2; 5] }),
             0,
             "pattern {k}"
         );

@@ -63,12 +63,20 @@ fn the_worked_sheet() {
 }
 
 #[test]
+fn the_shapes_at_a_walls_ends_are_quoted_as_csv_needs() {
+    let path = file("quoted.sheet", &sheet(&["a,b", "\"", "C"], &[1, 0, 0xFFF2]));
+    let crossings = b"line,position,shape\n1,0,2\n1,0,1\n1,5,0\n1,9,2\n1,9,1\n1,9,0\n";
+    let due = "line,start,end,start_shape,end_shape\n1,0,5,\"\"\"\",\"a,b\"\n";
+    assert_eq!(wallcheck(&["walls", &path, "-"], crossings), answered(due));
+}
+
+#[test]
 fn columns_in_any_order_by_name_or_number() {
     let path = file("order.sheet", &sheet(&["A", "B"], &[0, 1, 0xFFF2]));
-    let walls = answered("line,start,end\n7,-5,40\n7,60,100\n");
+    let walls = answered("line,start,end,start_shape,end_shape\n7,-5,40,A,B\n7,60,100,B,A\n");
     assert_eq!(wallcheck(&["walls", &path, "-"], b"line,position,name\n7,-5,A\n7,40,B\n7,60,B\n7,100,A\n"), walls);
     assert_eq!(wallcheck(&["walls", &path, "-"], b"shape,line,position\r\n0,7,-5\r\n1,7,40\r\n\r\n1,7,60\r\n0,7,100"), walls);
-    assert_eq!(wallcheck(&["walls", &path, "-"], b"line,position,name\n"), answered("line,start,end\n"));
+    assert_eq!(wallcheck(&["walls", &path, "-"], b"line,position,name\n"), answered("line,start,end,start_shape,end_shape\n"));
     let crossings = file("order.csv", b"line,position,name\n7,-5,A\n7,40,B\n7,60,B\n7,100,A\n");
     assert_eq!(wallcheck(&["walls", "-", &crossings], &sheet(&["A", "B"], &[0, 1, 0xFFF2])), walls);
 }

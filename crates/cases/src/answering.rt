@@ -145,10 +145,17 @@ fn walls(lines: &[u32; 3072], starts: &[i32; 3072], ends: &[i32; 3072], n: usize
     show_i32(b", ends", ends, n);
 }
 
+fn faces(start_shapes: &[u16; 3072], end_shapes: &[u16; 3072], n: usize) {
+    show_u16(b", start shapes", start_shapes, n);
+    show_u16(b", end shapes", end_shapes, n);
+}
+
 fn classify(sheet: &[u8], l: &[u32], p: &[i32], s: &[u16], room: [usize; 8]) {
     let mut lines = [99u32; 3072];
     let mut starts = [99i32; 3072];
     let mut ends = [99i32; 3072];
+    let mut start_shapes = [99u16; 3072];
+    let mut end_shapes = [99u16; 3072];
     let n = classified(job_classify::classify(
         sheet,
         l,
@@ -157,8 +164,11 @@ fn classify(sheet: &[u8], l: &[u32], p: &[i32], s: &[u16], room: [usize; 8]) {
         lend_u32(&mut lines, room[0]),
         lend_i32(&mut starts, room[1]),
         lend_i32(&mut ends, room[2]),
+        lend_u16(&mut start_shapes, room[3]),
+        lend_u16(&mut end_shapes, room[4]),
     ));
     walls(&lines, &starts, &ends, shown(n));
+    faces(&start_shapes, &end_shapes, shown(n));
 }
 
 // Whether the job takes the lists that the case gives, and has as many answer lists as the case lends, where it says so.
@@ -167,7 +177,7 @@ fn takes(job: usize, given: usize, rooms: usize) -> bool {
         READ => given == 0,
         BUILD => given == 0 || (given == 0x4 && rooms == 3),
         RUN => given == 0x3 || (given == 0x34 && rooms == 3),
-        CLASSIFY => given == 0x123 || (given == 0x1234 && rooms == 3),
+        CLASSIFY => given == 0x123 || (given == 0x1234 && rooms == 5),
         _ => false,
     }
 }

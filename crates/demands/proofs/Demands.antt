@@ -23,7 +23,7 @@ use Rattle.toggles.specs.Toggles.{Answers, toggleRun}
 use Rattle.toggles.specs.Demand.{rootsAfter, roots as rootsOf, leavesOf}
 use Rattle.toggles.proofs.Runs.{run-roots, length-roots, length-counts}
 use Rattle.toggles.proofs.Count.{count-bound}
-use Rattle.lines.specs.Lines.{crossings, Wall}
+use Rattle.lines.specs.Lines.{CrossingLists, entries, AnswerLists, Wall}
 use Rattle.lines.specs.Right.{Right}
 use Rattle.lines.proofs.Theorems.{right-only, classified-right}
 use Rattle.job_run.specs.Running.{answersOf, running}
@@ -99,24 +99,25 @@ same-oddness-same-labels s x is ts rs cs ls nodes rs′ cs′ ls′ a us ps ds m
           ∙ sym (label-afresh s x is us ps ds ms nodes₂ ps′ ds′ ms′ b d (omega arith))),
     )
 
--- ---- Demand 2, lines that are answered: the walls reported are the longest stretches of positive length inside, all of them, in rising order
+-- ---- Demand 2, lines that are answered: the walls reported are the longest stretches of positive length inside, all of them, in rising order, each with the shapes that bound it
 
-module _ (s : List ℕ) (x : Sheet) (is : accepted s ≡ given x) (ls : List ℕ) (ps : List ℤ) (ss : List ℕ) (a b c : ℕ) (ws : List Wall)
-    (gives : classifying s ls ps ss a b c ≡ given ws) where
-  pub walls-right : Right (x .formula) (crossings ls ps ss) ws
+module _ (s : List ℕ) (x : Sheet) (is : accepted s ≡ given x) (c : CrossingLists) (lent : AnswerLists) (ws : List Wall) (gives : classifying s c lent ≡ given ws) where
+  pub walls-right : Right (x .formula) (entries c) ws
   walls-right =
-      classified-right (x .formula) (length (x .names)) (guaranteed s x (accepted-read s x is .0) .good-names .few) ls ps ss a b c ws
-      (sym (classifying-accepted ls ps ss a b c s x is) ∙ gives)
+      classified-right (x .formula) (length (x .names)) (guaranteed s x (accepted-read s x is .0) .good-names .few) c lent ws
+      (sym (classifying-accepted c lent s x is) ∙ gives)
 
   -- No other list is right.
-  pub walls-only : (vs : List Wall) → Right (x .formula) (crossings ls ps ss) vs → vs ≡ ws
-  walls-only vs right = right-only (x .formula) (crossings ls ps ss) vs ws right walls-right
+  pub walls-only : (vs : List Wall) → Right (x .formula) (entries c) vs → vs ≡ ws
+  walls-only vs right = right-only (x .formula) (entries c) vs ws right walls-right
 
--- They are what the three lists hold, entry by entry, and their number is the answer.
-pub walls-listed : (o : Outcome (List Wall)) (ls : List ℕ) (ss es : List ℤ) (n : ℕ) (ls′ : List ℕ) (ss′ es′ : List ℤ)
-    → Classified o ls ss es (classify.Walls n) ls′ ss′ es′
+-- They are what the five lists hold, entry by entry, and their number is the answer.
+pub walls-listed : (o : Outcome (List Wall)) (lent : AnswerLists) (n : ℕ) (after : AnswerLists) → Classified o lent (classify.Walls n) after
     → (ws : List Wall) × (o ≡ given ws) × (n ≡ length ws)
-    × (ls′ ≡ filled (map (λ (w : Wall). w .line) ws) ls) × (ss′ ≡ filled (map (λ (w : Wall). w .start) ws) ss) × (es′ ≡ filled (map (λ (w : Wall). w .end) ws) es)
-walls-listed o ls ss es n ls′ ss′ es′ c =
+    × (after .lines ≡ filled (map (λ (w : Wall). w .line) ws) (lent .lines)) × (after .starts ≡ filled (map (λ (w : Wall). w .start) ws) (lent .starts))
+    × (after .ends ≡ filled (map (λ (w : Wall). w .end) ws) (lent .ends))
+    × (after .startShapes ≡ filled (map (λ (w : Wall). w .startShape) ws) (lent .startShapes)) × (after .endShapes ≡ filled (map (λ (w : Wall). w .endShape) ws) (lent .endShapes))
+walls-listed o lent n after c =
     let a = part-given length o n (c .answer) in
-    (a .0, a .1, sym (a .2), rw (a .1) at (c .lists .lines-list), rw (a .1) at (c .lists .starts-list), rw (a .1) at (c .lists .ends-list))
+    let l = c .lists in
+    (a .0, a .1, sym (a .2), rw (a .1) at (l .lines-list), rw (a .1) at (l .starts-list), rw (a .1) at (l .ends-list), rw (a .1) at (l .start-shapes-list), rw (a .1) at (l .end-shapes-list))

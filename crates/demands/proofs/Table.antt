@@ -3,7 +3,7 @@ use Prim.Native.Nat.{ℕ, zero, suc, _/_, _%_}
 use mathlib.Core.Path.{_≡_, refl}
 use mathlib.Core.List.{List, [], _∷_, _++_, map}
 use lib.IntN.{ℤ, pos}
-use lib.ListN.{length}
+use lib.ListN.{length, replicate}
 use Rattle.outcome.specs.Outcome.{given, part}
 use Rattle.formula.specs.Formula.{union, intersection, difference, exclusive, Formula, leaf, node, postfix}
 use Rattle.formula.specs.States.{times}
@@ -13,7 +13,7 @@ use Rattle.sheet.specs.Sheet.{lengthAt, pastAt, bytesAt, allGood, same, taken, 
 use Rattle.accepting.specs.Accepting.{accepted}
 use Rattle.toggles.specs.Toggles.{Answers, answers}
 use Rattle.lines.specs.Lines as lines
-use Rattle.lines.specs.Lines.{crossed, ordered, anyInside, firstLine, anyOn, lastOn, wallsFrom, classified}
+use Rattle.lines.specs.Lines.{crossed, ordered, anyInside, firstLine, anyOn, lastOn, lowestFrom, shapeAt, wallsFrom, crossingLists, answerLists, classified}
 use Rattle.job_build.specs.Building.{giving, building, Summary, summary, summaryOf}
 use Rattle.job_run.specs.Running.{toggling, running}
 use Rattle.job_classify.specs.Classifying.{classifying}
@@ -60,6 +60,12 @@ worked = sheet 3 (node difference A (node union B C))
 abbrev pub room : ℕ
 room = 12
 
+abbrev pub lentNumbers : List ℕ
+lentNumbers = replicate room 0
+
+abbrev pub lentPlaces : List ℤ
+lentPlaces = replicate room (pos 0)
+
 pub data Case : Type 0 where
   -- a sheet is these bytes
   bytes : List ℕ → List ℕ → Case
@@ -69,8 +75,8 @@ pub data Case : Type 0 where
   lists : List ℕ → List (ℕ × ℕ × ℕ) → Case
   -- of a sheet and toggles
   runs : List ℕ → List ℕ → Answers → Case
-  -- of a sheet and the crossings of line 0, by position and shape: walls by start and end
-  walls : List ℕ → List (ℤ × ℕ) → List (ℤ × ℤ) → Case
+  -- of a sheet and the crossings of line 0, by position and shape: walls by start and end, with the shape at each
+  walls : List ℕ → List (ℤ × ℕ) → List ((ℤ × ℕ) × (ℤ × ℕ)) → Case
 
 abbrev pub Holds : Case → Type 0
 Holds (bytes s b) = s ≡ b
@@ -78,8 +84,8 @@ Holds (builds s n) = part summaryOf (building s room room room) ≡ given n
 Holds (lists s rs) = part (λ f. map (λ r. (number (r .kind), r .first, r .second)) (dwarf f)) (building s room room room) ≡ given rs
 Holds (runs s ts a) = running s ts room room room ≡ given a
 Holds (walls s xs ws) =
-    classifying s (map (λ x. 0) xs) (map (λ x. x .0) xs) (map (λ x. x .1) xs) room room room
-    ≡ given (map (λ w. record { line = 0; start = w .0; end = w .1 }) ws)
+    classifying s (crossingLists (map (λ x. 0) xs) (map (λ x. x .0) xs) (map (λ x. x .1) xs)) (answerLists lentNumbers lentPlaces lentPlaces lentNumbers lentNumbers)
+    ≡ given (map (λ w. record { line = 0; start = w .0 .0; end = w .1 .0; startShape = w .0 .1; endShape = w .1 .1 }) ws)
 
 abbrev pub All : List Case → Type 0
 All [] = Unit {0}
@@ -107,9 +113,9 @@ table =
     -- A B union C D union intersection: 7 nodes, 2 rounds, height 2.
     ∷ builds (sheet 4 (node intersection (node union A B) (node union C D))) (summary 4 7 2 2)
     -- A less B, A at 0 and 100, B at 40 and 60: walls 0 to 40, 60 to 100.
-    ∷ walls (sheet 2 (node difference A B)) ((pos 0, 0) ∷ (pos 40, 1) ∷ (pos 60, 1) ∷ (pos 100, 0) ∷ []) ((pos 0, pos 40) ∷ (pos 60, pos 100) ∷ [])
+    ∷ walls (sheet 2 (node difference A B)) ((pos 0, 0) ∷ (pos 40, 1) ∷ (pos 60, 1) ∷ (pos 100, 0) ∷ []) (((pos 0, 0), (pos 40, 1)) ∷ ((pos 60, 1), (pos 100, 0)) ∷ [])
     -- A union B, A at 0 and 50, B at 50 and 90: one wall, 0 to 90. Their intersection: none.
-    ∷ walls (sheet 2 (node union A B)) ((pos 0, 0) ∷ (pos 50, 0) ∷ (pos 50, 1) ∷ (pos 90, 1) ∷ []) ((pos 0, pos 90) ∷ [])
+    ∷ walls (sheet 2 (node union A B)) ((pos 0, 0) ∷ (pos 50, 0) ∷ (pos 50, 1) ∷ (pos 90, 1) ∷ []) (((pos 0, 0), (pos 90, 1)) ∷ [])
     ∷ walls (sheet 2 (node intersection A B)) ((pos 0, 0) ∷ (pos 50, 0) ∷ (pos 50, 1) ∷ (pos 90, 1) ∷ []) []
     -- A at 10 and 10: none. No crossings: none.
     ∷ walls (sheet 1 A) ((pos 10, 0) ∷ (pos 10, 0) ∷ []) []
@@ -117,5 +123,5 @@ table =
     ∷ []
 
 pub table-holds : All table
-unfolding building giving running toggling classifying accepted reading fields fieldAt header nameAt formulaAt formulaOf allCodes codesOf taken same allGood bytesAt pastAt lengthAt times classified lines.judged ordered firstLine anyInside crossed anyOn lastOn wallsFrom
+unfolding building giving running toggling classifying accepted reading fields fieldAt header nameAt formulaAt formulaOf allCodes codesOf taken same allGood bytesAt pastAt lengthAt times classified lines.judged ordered firstLine anyInside crossed anyOn lastOn lowestFrom shapeAt wallsFrom
 table-holds = (refl, (refl, (refl, (refl, (refl, (refl, (refl, (refl, (refl, (refl, (refl, (refl, (refl, (refl, (refl, tt)))))))))))))))

@@ -8,7 +8,7 @@ use Rattle.formula.specs.Formula.{Formula}
 use Rattle.sheet_reading.specs.Reading.{Numbers, numbers, answerOf}
 use Rattle.sheet_reading.specs.declared.ReadAnswer.{ReadAnswer}
 use Rattle.sheet_reading.specs.declared.ReadAnswer.the-variants as read
-use Rattle.lines.specs.Lines.{Wall}
+use Rattle.lines.specs.Lines.{AnswerLists, Wall}
 use Rattle.job_build.specs.Building.{Summary, summary}
 use Rattle.job_build.specs.Built.{builtOf, Built}
 use Rattle.toggles.specs.Toggles.{Answers}
@@ -57,16 +57,16 @@ module _ {o : Outcome Answers} {rs cs ls : List ℕ} {a : RunAnswer} {rs′ cs�
   pub run-refused : {k p : ℕ} → a ≡ run.Refused k p → RunReported o rs cs ls (runReport (refused k p)) rs′ cs′ ls′
   run-refused {k} {p} is = run-as (refused k p) (ap ranOf is)
 
-module _ {o : Outcome (List Wall)} {wl : List ℕ} {ws we : List ℤ} {a : ClassifyAnswer} {wl′ : List ℕ} {ws′ we′ : List ℤ} (done : Classified o wl ws we a wl′ ws′ we′) where
-  classify-as : (v : Outcome ℕ) → classifiedOf a ≡ v → ClassifyReported o wl ws we (classifyReport v) wl′ ws′ we′
+module _ {o : Outcome (List Wall)} {lent : AnswerLists} {a : ClassifyAnswer} {after : AnswerLists} (done : Classified o lent a after) where
+  classify-as : (v : Outcome ℕ) → classifiedOf a ≡ v → ClassifyReported o lent (classifyReport v) after
   classify-as v is =
       record {
         report = ap classifyReport (sym is ∙ done .answer);
         lists = done .lists;
       }
 
-  pub classify-reported : {n : ℕ} → a ≡ classify.Walls n → ClassifyReported o wl ws we (classifyReport (given n)) wl′ ws′ we′
+  pub classify-reported : {n : ℕ} → a ≡ classify.Walls n → ClassifyReported o lent (classifyReport (given n)) after
   classify-reported {n} is = classify-as (given n) (ap classifiedOf is)
 
-  pub classify-refused : {k p : ℕ} → a ≡ classify.Refused k p → ClassifyReported o wl ws we (classifyReport (refused k p)) wl′ ws′ we′
+  pub classify-refused : {k p : ℕ} → a ≡ classify.Refused k p → ClassifyReported o lent (classifyReport (refused k p)) after
   classify-refused {k} {p} is = classify-as (refused k p) (ap classifiedOf is)

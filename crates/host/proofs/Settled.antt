@@ -12,7 +12,8 @@ use Rattle.formula.specs.Formula.{Formula}
 use Rattle.sheet.specs.Sheet.{reading}
 use Rattle.sheet_reading.specs.Reading.{Numbers, numbersOf, told}
 use Rattle.sheet.proofs.Numbered.{reading-numbered}
-use Rattle.lines.specs.Lines.{Wall}
+use Rattle.lines.specs.Lines.{CrossingLists, AnswerLists, Wall}
+use Rattle.lines.proofs.GivenLaws.{lists-unique}
 use Rattle.job_build.specs.Building.{Summary, summaryOf, building}
 use Rattle.job_build.proofs.Settled.{build-numbered}
 use Rattle.toggles.specs.Toggles.{Answers}
@@ -49,14 +50,8 @@ run-report-unique o rs cs ls r q rs₁ cs₁ ls₁ rs₂ cs₂ ls₂ a b = (
   a .lists .labels-list ∙ sym (b .lists .labels-list),
 )
 
-pub classify-report-unique : (o : Outcome (List Wall)) (ls : List ℕ) (ss es : List ℤ) (r q : ClassifyReport) (ls₁ : List ℕ) (ss₁ es₁ : List ℤ) (ls₂ : List ℕ) (ss₂ es₂ : List ℤ)
-    → ClassifyReported o ls ss es r ls₁ ss₁ es₁ → ClassifyReported o ls ss es q ls₂ ss₂ es₂ → (r ≡ q) × (ls₁ ≡ ls₂) × (ss₁ ≡ ss₂) × (es₁ ≡ es₂)
-classify-report-unique o ls ss es r q ls₁ ss₁ es₁ ls₂ ss₂ es₂ a b = (
-  a .report ∙ sym (b .report),
-  a .lists .lines-list ∙ sym (b .lists .lines-list),
-  a .lists .starts-list ∙ sym (b .lists .starts-list),
-  a .lists .ends-list ∙ sym (b .lists .ends-list),
-)
+pub classify-report-unique : (o : Outcome (List Wall)) (lent : AnswerLists) (r q : ClassifyReport) (after other : AnswerLists) → ClassifyReported o lent r after → ClassifyReported o lent q other → (r ≡ q) × (after ≡ other)
+classify-report-unique o lent r q after other a b = (a .report ∙ sym (b .report), lists-unique (a .lists) (b .lists))
 
 -- ---- Number 0 says that the job is given: no refusal has it
 
@@ -79,8 +74,7 @@ run-given s ts a b c =
     let job = running s ts a b c in
     told-given (λ o. runReport o .number) (λ k p. refl) (part (λ v. length (v .final)) job) (part-numbered (λ v. length (v .final)) job (run-numbered s ts a b c))
 
-pub classify-given : (s ls : List ℕ) (ps : List ℤ) (ss : List ℕ) (a b c : ℕ) → classifyReport (part length (classifying s ls ps ss a b c)) .number ≡ 0
-    → (v : ℕ) × (part length (classifying s ls ps ss a b c) ≡ given v)
-classify-given s ls ps ss a b c =
-    let job = classifying s ls ps ss a b c in
-    told-given (λ o. classifyReport o .number) (λ k p. refl) (part length job) (part-numbered length job (classify-numbered s ls ps ss a b c))
+pub classify-given : (s : List ℕ) (c : CrossingLists) (lent : AnswerLists) → classifyReport (part length (classifying s c lent)) .number ≡ 0 → (v : ℕ) × (part length (classifying s c lent) ≡ given v)
+classify-given s c lent =
+    let job = classifying s c lent in
+    told-given (λ o. classifyReport o .number) (λ k p. refl) (part length job) (part-numbered length job (classify-numbered s c lent))

@@ -8,12 +8,12 @@ use lib.ListN.{length}
 use Rattle.outcome.specs.Outcome.{Outcome, given, refused, part}
 use Rattle.formula.specs.Formula.{Formula}
 use Rattle.sheet_reading.specs.Reading.{Numbers, numbers}
-use Rattle.lines.specs.Lines.{Wall}
+use Rattle.lines.specs.Lines.{AnswerLists, Wall}
+use Rattle.lines.specs.Given.{WallLists}
 use Rattle.job_build.specs.Building.{Summary, summary, summaryOf}
 use Rattle.job_build.specs.Built.{BuiltLists}
 use Rattle.toggles.specs.Toggles.{Answers}
 use Rattle.job_run.specs.Ran.{RanLists}
-use Rattle.job_classify.specs.Classified.{WallLists}
 use Rattle.host.specs.declared.ReadReport.{ReadReport}
 use Rattle.host.specs.declared.BuildReport.{BuildReport}
 use Rattle.host.specs.declared.RunReport.{RunReport}
@@ -48,6 +48,6 @@ pub record RunReported (o : Outcome Answers) (roots counts labels : List ℕ) (r
   pub report : r ≡ runReport (part (λ a. length (a .final)) o)
   pub lists : RanLists o roots counts labels roots′ counts′ labels′
 
-pub record ClassifyReported (o : Outcome (List Wall)) (lines : List ℕ) (starts ends : List ℤ) (r : ClassifyReport) (lines′ : List ℕ) (starts′ ends′ : List ℤ) : Type 0 where
+pub record ClassifyReported (o : Outcome (List Wall)) (lent : AnswerLists) (r : ClassifyReport) (after : AnswerLists) : Type 0 where
   pub report : r ≡ classifyReport (part length o)
-  pub lists : WallLists o lines starts ends lines′ starts′ ends′
+  pub lists : WallLists o lent after

@@ -5,6 +5,7 @@ ghost use lib.ListN.{length};
 ghost use Rattle.sheet_reading.specs.Reading.{told};
 ghost use Rattle.job_build.specs.Building.{building};
 ghost use Rattle.job_run.specs.Running.{running};
+ghost use Rattle.lines.specs.Lines.{crossingLists, answerLists};
 ghost use Rattle.job_classify.specs.Classifying.{classifying};
 ghost use Rattle.host.specs.Report.{readReport, BuildReported, RunReported, ClassifyReported};
 use job_build::BuildAnswer;
@@ -148,11 +149,23 @@ pub extern "C" fn kressedach_classify(
     wall_lines: &mut [u32],
     starts: &mut [i32],
     ends: &mut [i32],
+    start_shapes: &mut [u16],
+    end_shapes: &mut [u16],
 ) -> ClassifyReport
-    ensures { λ r. ⌜ ClassifyReported (classifying (now (sheet .entry)) (now (lines .entry)) (now (positions .entry)) (now (shapes .entry)) (length (now («wall_lines» .entry))) (length (now (starts .entry))) (length (now (ends .entry))))
-        (now («wall_lines» .entry)) (now (starts .entry)) (now (ends .entry)) r (now («wall_lines» .exit)) (now (starts .exit)) (now (ends .exit)) ⌝ }
+    ensures { λ r. ⌜ ClassifyReported (classifying (now (sheet .entry)) (crossingLists (now (lines .entry)) (now (positions .entry)) (now (shapes .entry))) (answerLists (now («wall_lines» .entry)) (now (starts .entry)) (now (ends .entry)) (now («start_shapes» .entry)) (now («end_shapes» .entry))))
+        (answerLists (now («wall_lines» .entry)) (now (starts .entry)) (now (ends .entry)) (now («start_shapes» .entry)) (now («end_shapes» .entry))) r (answerLists (now («wall_lines» .exit)) (now (starts .exit)) (now (ends .exit)) (now («start_shapes» .exit)) (now («end_shapes» .exit))) ⌝ }
 {
-    match job_classify::classify(sheet, lines, positions, shapes, wall_lines, starts, ends) {
+    match job_classify::classify(
+        sheet,
+        lines,
+        positions,
+        shapes,
+        wall_lines,
+        starts,
+        ends,
+        start_shapes,
+        end_shapes,
+    ) {
         ClassifyAnswer::Walls { walls } => ClassifyReport {
             number: 0,
             place: 0,

@@ -1,7 +1,7 @@
 // The job of classifying lines: where there is metal, given to the caller's lists.
 use accepting::Acceptance;
 use line_walls::LinesAnswer;
-ghost use lib.ListN.{length};
+ghost use Rattle.lines.specs.Lines.{crossingLists, answerLists};
 ghost use Rattle.job_classify.specs.Classifying.{classifying};
 ghost use Rattle.job_classify.specs.Classified.{Classified};
 
@@ -20,9 +20,11 @@ pub fn classify(
     wall_lines: &mut [u32],
     starts: &mut [i32],
     ends: &mut [i32],
+    start_shapes: &mut [u16],
+    end_shapes: &mut [u16],
 ) -> ClassifyAnswer
-    ensures { λ r. ⌜ Classified (classifying (now (sheet .entry)) (now (lines .entry)) (now (positions .entry)) (now (shapes .entry)) (length (now («wall_lines» .entry))) (length (now (starts .entry))) (length (now (ends .entry))))
-        (now («wall_lines» .entry)) (now (starts .entry)) (now (ends .entry)) r (now («wall_lines» .exit)) (now (starts .exit)) (now (ends .exit)) ⌝ }
+    ensures { λ r. ⌜ Classified (classifying (now (sheet .entry)) (crossingLists (now (lines .entry)) (now (positions .entry)) (now (shapes .entry))) (answerLists (now («wall_lines» .entry)) (now (starts .entry)) (now (ends .entry)) (now («start_shapes» .entry)) (now («end_shapes» .entry))))
+        (answerLists (now («wall_lines» .entry)) (now (starts .entry)) (now (ends .entry)) (now («start_shapes» .entry)) (now («end_shapes» .entry))) r (answerLists (now («wall_lines» .exit)) (now (starts .exit)) (now (ends .exit)) (now («start_shapes» .exit)) (now («end_shapes» .exit))) ⌝ }
 {
     let mut codes = [0u16; 2048];
     match accepting::accept(sheet, &mut codes) {
@@ -37,6 +39,8 @@ pub fn classify(
             wall_lines,
             starts,
             ends,
+            start_shapes,
+            end_shapes,
         ) {
             LinesAnswer::Walls(walls) => ClassifyAnswer::Walls { walls },
             LinesAnswer::Refused(number, place) => ClassifyAnswer::Refused { number, place },

@@ -1,2 +1,3 @@
-mod States
+pub mod States
 mod Laws
+mod RoomLaws

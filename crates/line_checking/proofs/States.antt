@@ -16,7 +16,7 @@ use Rattle.lines.specs.Lines.{anyInside}
 use Rattle.line_checking.specs.Steps.{stateOf, ones, Held}
 
 -- a store of the other state
-flipped-set : (a : List ℕ) (s v : ℕ) → s < length a → not (eqb v 0) ≡ not (stateOf a s) → stateOf (set a s v) ≡ flipped s (stateOf a)
+pub flipped-set : (a : List ℕ) (s v : ℕ) → s < length a → not (eqb v 0) ≡ not (stateOf a s) → stateOf (set a s v) ≡ flipped s (stateOf a)
 flipped-set a s v h e = fun-ext (λ t. go t (eqb t s) refl)
   where
     go : (t : ℕ) (b : Bool) → eqb t s ≡ b → stateOf (set a s v) t ≡ flipped s (stateOf a) t

@@ -14,7 +14,7 @@ pub enum Verdict {
     Refused(u8, usize),
 }
 
-fn wide(s: u16) -> usize
+fn shape_number(s: u16) -> usize
     ensures { λ r. ⌜ r ≡ s ⌝ }
 {
     s as usize
@@ -71,7 +71,7 @@ fn pass_uneven(names: usize, line: &[u32], at: &[i32], shape: &[u16], j: usize) 
 {
     let mut i = j;
     while i < line.len() {
-        if names <= wide(shape[i]) {
+        if names <= shape_number(shape[i]) {
             return Verdict::Refused(10, i);
         }
         if shown(line, at, i, 0) == 11 {
@@ -91,7 +91,7 @@ fn pass(names: usize, line: &[u32], at: &[i32], shape: &[u16]) -> Verdict
     let mut n: usize = 0;
     let mut i: usize = 0;
     while i < line.len() {
-        let s = wide(shape[i]);
+        let s = shape_number(shape[i]);
         if names <= s {
             return Verdict::Refused(10, i);
         }
@@ -125,9 +125,16 @@ pub fn judge(names: usize, line: &[u32], at: &[i32], shape: &[u16]) -> Verdict
     pass(names, line, at, shape)
 }
 
-// 9: the answer lists line, start, end, of which each needs n entries.
-pub fn room(n: usize, lines: usize, starts: usize, ends: usize) -> Verdict
-    ensures { λ r. ⌜ verdict r ≡ roomy n lines starts ends ⌝ }
+// 9: the answer lists line, start, end, start shape, end shape, of which each needs n entries.
+pub fn room(
+    n: usize,
+    lines: usize,
+    starts: usize,
+    ends: usize,
+    start_shapes: usize,
+    end_shapes: usize,
+) -> Verdict
+    ensures { λ r. ⌜ verdict r ≡ roomy n lines starts ends «start_shapes» «end_shapes» ⌝ }
 {
     if lines < n {
         return Verdict::Refused(9, n);
@@ -136,6 +143,12 @@ pub fn room(n: usize, lines: usize, starts: usize, ends: usize) -> Verdict
         return Verdict::Refused(9, n);
     }
     if ends < n {
+        return Verdict::Refused(9, n);
+    }
+    if start_shapes < n {
+        return Verdict::Refused(9, n);
+    }
+    if end_shapes < n {
         return Verdict::Refused(9, n);
     }
     Verdict::Fine

@@ -1,3 +1,2 @@
-mod StepLaws
 mod BitLaws
-pub mod PassLaws
+pub mod ChangeLaws

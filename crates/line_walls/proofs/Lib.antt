@@ -1,3 +1,6 @@
-mod JobLaws
+mod ListLaws
+mod WallLaws
+mod TurnLaws
+mod BlockLaws
 mod Evenness
-pub mod Only
+mod JobLaws

@@ -1,1 +1,2 @@
-pub mod Classified
+pub mod Answers
+pub mod Walls

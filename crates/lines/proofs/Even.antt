@@ -14,7 +14,7 @@ use Rattle.outcome.specs.Outcome.{Outcome, given, refused, _>>_, need}
 use Rattle.formula.specs.States.{State, outside, toggledBy, flipped}
 use Rattle.formula.specs.Flips.{after}
 use Rattle.formula.proofs.States.{after-outside}
-use Rattle.lines.specs.Lines.{Crossing, crossed, on, anyInside, firstLine, anyOn, lastOn, even}
+use Rattle.lines.specs.Lines.{Crossing, crossed, onLine, anyInside, firstLine, anyOn, lastOn, even}
 use Rattle.lines.specs.Steps.{endsLine, evenFrom}
 use Rattle.lines.proofs.Keys.{yes-leK}
 use Rattle.lines.proofs.WallsCover.{crossed-in, crossed-out, Sorted, Settled}
@@ -68,13 +68,13 @@ after-nil st = fun-ext (λ t. refl)
 
 abbrev begins : ℕ → List Crossing → Bool
 begins l [] = false
-begins l (x ∷ xs) = on l x
+begins l (x ∷ xs) = onLine l x
 
 -- the states at the end of line l, where those of the first line so far are st
 abbrev endState : ℕ → State → List Crossing → State
-endState l st xs = after (cond (begins l xs) st outside) (crossed (on l) xs)
+endState l st xs = after (cond (begins l xs) st outside) (crossed (onLine l) xs)
 
-ends-at : (x : Crossing) (xs : List Crossing) (l : ℕ) (b : Bool) → on l x ≡ b → begins l xs ≡ not b → endsLine x xs ≡ true
+ends-at : (x : Crossing) (xs : List Crossing) (l : ℕ) (b : Bool) → onLine l x ≡ b → begins l xs ≡ not b → endsLine x xs ≡ true
 ends-at x [] l b e f = refl
 ends-at x (y ∷ ys) l true e f = ap not (ne-eqb (y .line) (x .line) (λ k. eqb-false (y .line) l f (k ∙ eqb-true (x .line) l e)))
 ends-at x (y ∷ ys) l false e f = ap not (ne-eqb (y .line) (x .line) (λ k. eqb-false (x .line) l e (sym k ∙ eqb-true (y .line) l f)))
@@ -82,30 +82,30 @@ ends-at x (y ∷ ys) l false e f = ap not (ne-eqb (y .line) (x .line) (λ k. eqb
 endState-on : (x : Crossing) (xs : List Crossing) (l : ℕ) (st : State) → (endsLine x xs ≡ true → flipped (x .shape) st ≡ outside)
     → endState l st (x ∷ xs) ≡ endState l (flipped (x .shape) st) xs
 unfolding after
-endState-on x xs l st out = by (on l x) refl (begins l xs) refl
+endState-on x xs l st out = by (onLine l x) refl (begins l xs) refl
   where
     st′ : State
     st′ = flipped (x .shape) st
 
-    by : (a : Bool) → on l x ≡ a → (b : Bool) → begins l xs ≡ b → after (cond a st outside) (crossed (on l) (x ∷ xs)) ≡ after (cond b st′ outside) (crossed (on l) xs)
-    by true a true b = rw (crossed-in (on l) x xs a) (fun-ext (λ t. refl))
-    by true a false b = rw (crossed-in (on l) x xs a) (fun-ext (λ t. ap (λ (u : State). after u (crossed (on l) xs) t) (out (ends-at x xs l true a b))))
-    by false a true b = rw (crossed-out (on l) x xs a) (fun-ext (λ t. ap (λ (u : State). after u (crossed (on l) xs) t) (sym (out (ends-at x xs l false a b)))))
-    by false a false b = rw (crossed-out (on l) x xs a)
+    by : (a : Bool) → onLine l x ≡ a → (b : Bool) → begins l xs ≡ b → after (cond a st outside) (crossed (onLine l) (x ∷ xs)) ≡ after (cond b st′ outside) (crossed (onLine l) xs)
+    by true a true b = rw (crossed-in (onLine l) x xs a) (fun-ext (λ t. refl))
+    by true a false b = rw (crossed-in (onLine l) x xs a) (fun-ext (λ t. ap (λ (u : State). after u (crossed (onLine l) xs) t) (out (ends-at x xs l true a b))))
+    by false a true b = rw (crossed-out (onLine l) x xs a) (fun-ext (λ t. ap (λ (u : State). after u (crossed (onLine l) xs) t) (sym (out (ends-at x xs l false a b)))))
+    by false a false b = rw (crossed-out (onLine l) x xs a)
 
 -- once a line has ended it does not come again
-none-on : (l : ℕ) (x : Crossing) (xs : List Crossing) → Sorted (x ∷ xs) → l < x .line → (anyOn l (x ∷ xs) ≡ false) × (crossed (on l) (x ∷ xs) ≡ [])
+none-on : (l : ℕ) (x : Crossing) (xs : List Crossing) → Sorted (x ∷ xs) → l < x .line → (anyOn l (x ∷ xs) ≡ false) × (crossed (onLine l) (x ∷ xs) ≡ [])
 unfolding anyOn crossed
-none-on l x [] so h = (rw (ne-eqb (x .line) l (omega arith)), crossed-out (on l) x [] (ne-eqb (x .line) l (omega arith)))
+none-on l x [] so h = (rw (ne-eqb (x .line) l (omega arith)), crossed-out (onLine l) x [] (ne-eqb (x .line) l (omega arith)))
 none-on l x (y ∷ ys) so h =
     let r = none-on l y ys (so .1) (later (yes-leK (x .line) (x .at) (y .line) (y .at) (so .0))) in
-    (rw (ne-eqb (x .line) l (omega arith)) (r .0), crossed-out (on l) x (y ∷ ys) (ne-eqb (x .line) l (omega arith)) ∙ r .1)
+    (rw (ne-eqb (x .line) l (omega arith)) (r .0), crossed-out (onLine l) x (y ∷ ys) (ne-eqb (x .line) l (omega arith)) ∙ r .1)
   where
     later : (x .line < y .line) ⊎ ((x .line ≡ y .line) × (leZ (x .at) (y .at) ≡ true)) → l < y .line
     later (inl k) = omega arith
     later (inr k) = omega arith
 
-ended : (x : Crossing) (xs : List Crossing) → Sorted (x ∷ xs) → endsLine x xs ≡ true → (anyOn (x .line) xs ≡ false) × (crossed (on (x .line)) xs ≡ [])
+ended : (x : Crossing) (xs : List Crossing) → Sorted (x ∷ xs) → endsLine x xs ≡ true → (anyOn (x .line) xs ≡ false) × (crossed (onLine (x .line)) xs ≡ [])
 unfolding anyOn crossed
 ended x [] so e = (refl, refl)
 ended x (y ∷ ys) so e = none-on (x .line) y ys (so .1) (later (yes-leK (x .line) (x .at) (y .line) (y .at) (so .0)))
@@ -117,8 +117,8 @@ ended x (y ∷ ys) so e = none-on (x .line) y ys (so .1) (later (yes-leK (x .lin
 endState-here : (x : Crossing) (xs : List Crossing) (st : State) → Sorted (x ∷ xs) → endsLine x xs ≡ true → endState (x .line) st (x ∷ xs) ≡ flipped (x .shape) st
 unfolding after
 endState-here x xs st so e =
-    let here : on (x .line) x ≡ true = eq-eqb (x .line) (x .line) refl in
-    rw (here, crossed-in (on (x .line)) x xs here, ended x xs so e .1) (fun-ext (λ t. refl))
+    let here : onLine (x .line) x ≡ true = eq-eqb (x .line) (x .line) refl in
+    rw (here, crossed-in (onLine (x .line)) x xs here, ended x xs so e .1) (fun-ext (λ t. refl))
 
 -- ---- the first uneven line and its last entry
 
@@ -135,9 +135,9 @@ unfolding firstLine anyOn
 firstLine-on so [] l e = let z : _≡_ {A = ℕ} 0 1 = cc in let b : ⊥ = omega arith in absurd b
 firstLine-on so (x ∷ xs) l e = by (so (x .line)) refl (firstLine-on so xs l)
   where
-    by : (b : Bool) → so (x .line) ≡ b → (firstLine so xs ≡ some l → anyOn l xs ≡ true) → (on l x || anyOn l xs) ≡ true
+    by : (b : Bool) → so (x .line) ≡ b → (firstLine so xs ≡ some l → anyOn l xs ≡ true) → (onLine l x || anyOn l xs) ≡ true
     by true u ih = let k : x .line ≡ l = cc (e, firstLine-yes so x xs u) in rw (eq-eqb (x .line) l k)
-    by false u ih = rw (ih (sym (firstLine-no so x xs u) ∙ e)) (or-yes (on l x))
+    by false u ih = rw (ih (sym (firstLine-no so x xs u) ∙ e)) (or-yes (onLine l x))
       where
         or-yes : (b : Bool) → (b || true) ≡ true
         or-yes true = refl
@@ -228,8 +228,8 @@ module _ (names : ℕ) (few : names ≤ 256) where
       counted none = refl
       counted (some l) = ap (refused 12) (omega arith)
 
-      at : (l : ℕ) → toggledBy (crossed (on l) xs) ≡ endState l outside xs
-      at l = fun-ext (λ s. sym (after-outside (crossed (on l) xs) s) ∙ ap (λ (u : State). after u (crossed (on l) xs) s) (same (begins l xs)))
+      at : (l : ℕ) → toggledBy (crossed (onLine l) xs) ≡ endState l outside xs
+      at l = fun-ext (λ s. sym (after-outside (crossed (onLine l) xs) s) ∙ ap (λ (u : State). after u (crossed (onLine l) xs) s) (same (begins l xs)))
         where
           same : (b : Bool) → outside ≡ cond b outside outside
           same true = refl

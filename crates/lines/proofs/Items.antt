@@ -3,15 +3,18 @@ use Prim.Native.Nat.{ℕ, zero, suc, _+_, _<_, _≤_}
 use native.Mathlib.Nat.{not-suc-le-zero, le-of-suc-le-suc}
 use native.Mathlib.Numerals.{add-one}
 use native.Mathlib.Omega.{arith}
-use mathlib.Core.Path.{_≡_, refl, sym, ap}
+use mathlib.Core.Path.{_≡_, refl, sym, ap, _∙_}
 use mathlib.Core.Bool.{Bool, true, false, cond}
 use mathlib.Core.List.{List, [], _∷_}
 use borrow.Author.Tests.{eqb-true, eqb-false}
 use lib.Dec.{eqb}
-use lib.IntN.{ℤ}
+use lib.IntN.{ℤ, pos}
 use lib.ListN.{length, drop, getD, drop-of-length-le}
 use Rattle.lines.specs.Lines.{Crossing, crossings}
 use Rattle.lines.specs.Steps.{item}
+use lib.Signed.{leZ}
+use Rattle.lines.proofs.Keys.{leK, eq-leK, le-trans, total}
+use Rattle.lines.proofs.WallsCover.{Sorted}
 use Rattle.lines.proofs.Judgement.{Named}
 
 pub length-crossings : (ls : List ℕ) (ps : List ℤ) (ss : List ℕ) → length ps ≡ length ls → length ss ≡ length ls → length (crossings ls ps ss) ≡ length ls
@@ -50,3 +53,25 @@ named-shape names (l ∷ ls) [] ss e f nm i h = let z : ⊥ = omega arith in abs
 named-shape names (l ∷ ls) (p ∷ ps) [] e f nm i h = let z : ⊥ = omega arith in absurd z
 named-shape names (l ∷ ls) (p ∷ ps) (s ∷ ss) e f nm zero h = nm .0
 named-shape names (l ∷ ls) (p ∷ ps) (s ∷ ss) e f nm (suc i) h = named-shape names ls ps ss (omega arith) (omega arith) (nm .1) i (le-of-suc-le-suc h)
+
+-- sorted entries rise from one index to any later one
+pub sorted-items : (ls : List ℕ) (ps : List ℤ) (ss : List ℕ) → length ps ≡ length ls → length ss ≡ length ls → Sorted (crossings ls ps ss) → (i j : ℕ) → i ≤ j → j < length ls
+    → leK (getD ls i 0) (getD ps i (pos 0)) (getD ls j 0) (getD ps j (pos 0)) ≡ true
+sorted-items [] ps ss e f so i j h k = absurd (not-suc-le-zero k)
+sorted-items (l ∷ ls) [] ss e f so i j h k = let z : ⊥ = omega arith in absurd z
+sorted-items (l ∷ ls) (p ∷ ps) [] e f so i j h k = let z : ⊥ = omega arith in absurd z
+sorted-items (l ∷ ls) (p ∷ ps) (s ∷ ss) e f so zero zero h k = eq-leK l p l p refl ∙ self p
+  where
+    self : (p : ℤ) → leZ p p ≡ true
+    self p = by (leZ p p) refl
+      where
+        by : (t : Bool) → leZ p p ≡ t → leZ p p ≡ true
+        by true q = q
+        by false q = total p p q
+sorted-items (l ∷ []) (p ∷ ps) (s ∷ ss) e f so zero (suc j) h k = let z : ⊥ = omega arith in absurd z
+sorted-items (l ∷ m ∷ ls) (p ∷ []) (s ∷ ss) e f so zero (suc j) h k = let z : ⊥ = omega arith in absurd z
+sorted-items (l ∷ m ∷ ls) (p ∷ q ∷ ps) (s ∷ []) e f so zero (suc j) h k = let z : ⊥ = omega arith in absurd z
+sorted-items (l ∷ m ∷ ls) (p ∷ q ∷ ps) (s ∷ t ∷ ss) e f so zero (suc j) h k =
+    le-trans (l, p) (m, q) (getD (m ∷ ls) j 0, getD (q ∷ ps) j (pos 0)) (so .0) (sorted-items (m ∷ ls) (q ∷ ps) (t ∷ ss) (omega arith) (omega arith) (so .1) zero j (omega arith) (le-of-suc-le-suc k))
+sorted-items (l ∷ ls) (p ∷ ps) (s ∷ ss) e f so (suc i) zero h k = absurd (not-suc-le-zero h)
+sorted-items (l ∷ ls) (p ∷ ps) (s ∷ ss) e f so (suc i) (suc j) h k = sorted-items ls ps ss (omega arith) (omega arith) (so .1) i j (le-of-suc-le-suc h) (le-of-suc-le-suc k)

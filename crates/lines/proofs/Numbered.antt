@@ -11,7 +11,7 @@ use Rattle.outcome.specs.Outcome.{given, refused, need, room, _>>_}
 use Rattle.outcome.specs.Numbered.{Numbered}
 use Rattle.outcome.proofs.NumberedLaws.{given-numbered, refused-numbered, need-numbered, asks, room-asks, then-numbered}
 use Rattle.formula.specs.Formula.{Formula}
-use Rattle.lines.specs.Lines.{Crossing, crossings, falls, ordered, uneven, firstLine, lastOn, even, judged, roomy, walls, classified}
+use Rattle.lines.specs.Lines.{CrossingLists, Crossing, crossings, entries, falls, ordered, uneven, firstLine, lastOn, even, judged, AnswerLists, roomy, roomyLists, walls, classified}
 
 ordered-numbered : (names : ℕ) (x : Option Crossing) (i : ℕ) (ys : List Crossing) → Numbered (ordered names x i ys)
 unfolding ordered
@@ -35,15 +35,16 @@ judged-numbered names ls ps ss =
     asks (eqb (length ps) (length ls) && eqb (length ss) (length ls)) 13 0 (ordered names none 0 xs >> even names xs) (omega arith)
     (then-numbered (ordered names none 0 xs) (even names xs) (ordered-numbered names none 0 xs) (even-numbered names xs))
 
-roomy-numbered : (n lines starts ends : ℕ) → Numbered (roomy n lines starts ends)
-roomy-numbered n lines starts ends =
-    room-asks n lines (room n starts >> room n ends) (room-asks n starts (room n ends) (need-numbered (leb n ends) 9 n (omega arith)))
+roomy-numbered : (n lines starts ends startShapes endShapes : ℕ) → Numbered (roomy n lines starts ends startShapes endShapes)
+roomy-numbered n lines starts ends startShapes endShapes =
+    room-asks n lines (room n starts >> (room n ends >> (room n startShapes >> room n endShapes)))
+    (room-asks n starts (room n ends >> (room n startShapes >> room n endShapes))
+    (room-asks n ends (room n startShapes >> room n endShapes) (room-asks n startShapes (room n endShapes) (need-numbered (leb n endShapes) 9 n (omega arith)))))
 
-pub classified-numbered : (f : Formula) (names : ℕ) (ls : List ℕ) (ps : List ℤ) (ss : List ℕ) (lines starts ends : ℕ)
-    → Numbered (classified f names ls ps ss lines starts ends)
+pub classified-numbered : (f : Formula) (names : ℕ) (c : CrossingLists) (lent : AnswerLists) → Numbered (classified f names c lent)
 unfolding classified
-classified-numbered f names ls ps ss lines starts ends =
-    let rooms = roomy (length ls / 2) lines starts ends in
-    let found = given (walls f (crossings ls ps ss)) in
-    then-numbered (judged names ls ps ss) (rooms >> found) (judged-numbered names ls ps ss)
-    (then-numbered rooms found (roomy-numbered (length ls / 2) lines starts ends) (given-numbered (walls f (crossings ls ps ss))))
+classified-numbered f names c lent =
+    let rooms = roomyLists (length (c .lines) / 2) lent in
+    let found = given (walls f (entries c)) in
+    then-numbered (judged names (c .lines) (c .positions) (c .shapes)) (rooms >> found) (judged-numbered names (c .lines) (c .positions) (c .shapes))
+    (then-numbered rooms found (roomy-numbered (length (c .lines) / 2) _ _ _ _ _) (given-numbered (walls f (entries c))))

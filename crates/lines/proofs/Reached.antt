@@ -12,24 +12,23 @@ use lib.Signed.{leZ}
 use Rattle.formula.specs.States.{State, outside, flipped}
 use Rattle.formula.specs.Flips.{after}
 use Rattle.formula.proofs.States.{after-outside}
-use Rattle.lines.specs.Lines.{Crossing, crossed}
-use Rattle.lines.specs.Right.{upto, stateAt}
+use Rattle.lines.specs.Lines.{Crossing, crossed, asFarAs, stateAt}
 use Rattle.lines.specs.Steps.{endsLine}
 use Rattle.lines.proofs.Keys.{yes-leK, no-leK}
 use Rattle.lines.proofs.WallsCover.{crossed-in, crossed-out, Follows, Sorted, Settled, reach, reach-off, reached, reached-on, reached-off}
 
 -- an entry beyond the cell does not count
-upto-off : (l : ℕ) (p : ℤ) (x : Crossing) → reach l p x ≡ false → upto l p x ≡ false
-upto-off l p x e = by (no-leK (x .line) (x .at) l p e)
+far-off : (l : ℕ) (p : ℤ) (x : Crossing) → reach l p x ≡ false → asFarAs l p x ≡ false
+far-off l p x e = by (no-leK (x .line) (x .at) l p e)
   where
-    by : (l < x .line) ⊎ ((x .line ≡ l) × (leZ (x .at) p ≡ false)) → upto l p x ≡ false
+    by : (l < x .line) ⊎ ((x .line ≡ l) × (leZ (x .at) p ≡ false)) → asFarAs l p x ≡ false
     by (inl h) = rw (ne-eqb (x .line) l (omega arith))
     by (inr h) = rw (h .1) (and-false (eqb (x .line) l))
 
-upto-none : (l : ℕ) (p : ℤ) (x : Crossing) (xs : List Crossing) → Sorted (x ∷ xs) → reach l p x ≡ false → crossed (upto l p) (x ∷ xs) ≡ []
+far-none : (l : ℕ) (p : ℤ) (x : Crossing) (xs : List Crossing) → Sorted (x ∷ xs) → reach l p x ≡ false → crossed (asFarAs l p) (x ∷ xs) ≡ []
 unfolding crossed
-upto-none l p x [] so e = crossed-out (upto l p) x [] (upto-off l p x e)
-upto-none l p x (y ∷ ys) so e = crossed-out (upto l p) x (y ∷ ys) (upto-off l p x e) ∙ upto-none l p y ys (so .1) (reach-off l p x y (so .0) e)
+far-none l p x [] so e = crossed-out (asFarAs l p) x [] (far-off l p x e)
+far-none l p x (y ∷ ys) so e = crossed-out (asFarAs l p) x (y ∷ ys) (far-off l p x e) ∙ far-none l p y ys (so .1) (reach-off l p x y (so .0) e)
 
 -- the list begins on a line before l
 abbrev short : ℕ → List Crossing → Bool
@@ -52,7 +51,7 @@ not-short x (y ∷ ys) l f h = by (yes-leK (x .line) (x .at) (y .line) (y .at) f
 abbrev begun : ℕ → State → List Crossing → State
 begun l st xs = cond (short l xs) outside st
 
-reached-from : (l : ℕ) (p : ℤ) (xs : List Crossing) (st : State) → Sorted xs → Settled st xs → reached l p st xs ≡ after (begun l st xs) (crossed (upto l p) xs)
+reached-from : (l : ℕ) (p : ℤ) (xs : List Crossing) (st : State) → Sorted xs → Settled st xs → reached l p st xs ≡ after (begun l st xs) (crossed (asFarAs l p) xs)
 unfolding crossed after
 reached-from l p [] st so se = refl
 reached-from l p (x ∷ xs) st so se = by (reach l p x) refl (reached-from l p xs (flipped (x .shape) st) (so .1) (se .1))
@@ -60,35 +59,35 @@ reached-from l p (x ∷ xs) st so se = by (reach l p x) refl (reached-from l p x
     st′ : State
     st′ = flipped (x .shape) st
 
-    on : (x .line < l) ⊎ ((x .line ≡ l) × (leZ (x .at) p ≡ true)) → reached l p st′ xs ≡ after (begun l st′ xs) (crossed (upto l p) xs)
-        → reached l p st′ xs ≡ after (begun l st (x ∷ xs)) (crossed (upto l p) (x ∷ xs))
+    on : (x .line < l) ⊎ ((x .line ≡ l) × (leZ (x .at) p ≡ true)) → reached l p st′ xs ≡ after (begun l st′ xs) (crossed (asFarAs l p) xs)
+        → reached l p st′ xs ≡ after (begun l st (x ∷ xs)) (crossed (asFarAs l p) (x ∷ xs))
     on (inl h) ih =
-        ih ∙ ap (λ (u : State). after u (crossed (upto l p) xs)) (gone (short l xs) refl)
-        ∙ rw (lt-ltb (x .line) l h, crossed-out (upto l p) x xs (rw (ne-eqb (x .line) l (omega arith))))
+        ih ∙ ap (λ (u : State). after u (crossed (asFarAs l p) xs)) (gone (short l xs) refl)
+        ∙ rw (lt-ltb (x .line) l h, crossed-out (asFarAs l p) x xs (rw (ne-eqb (x .line) l (omega arith))))
       where
         gone : (t : Bool) → short l xs ≡ t → cond t outside st′ ≡ outside
         gone true k = refl
         gone false k = se .0 (ends-later x xs l h k)
     on (inr h) ih =
-        ih ∙ rw (not-short x xs l (so .0) (omega arith), le-ltb (x .line) l (omega arith), crossed-in (upto l p) x xs (rw (eq-eqb (x .line) l (h .0), h .1))) step
+        ih ∙ rw (not-short x xs l (so .0) (omega arith), le-ltb (x .line) l (omega arith), crossed-in (asFarAs l p) x xs (rw (eq-eqb (x .line) l (h .0), h .1))) step
       where
-        step : after st′ (crossed (upto l p) xs) ≡ after st (x .shape ∷ crossed (upto l p) xs)
+        step : after st′ (crossed (asFarAs l p) xs) ≡ after st (x .shape ∷ crossed (asFarAs l p) xs)
         step = fun-ext (λ t. refl)
 
     late : (l < x .line) ⊎ ((x .line ≡ l) × (leZ (x .at) p ≡ false)) → ltb (x .line) l ≡ false
     late (inl h) = le-ltb (x .line) l (omega arith)
     late (inr h) = le-ltb (x .line) l (omega arith)
 
-    by : (t : Bool) → reach l p x ≡ t → reached l p st′ xs ≡ after (begun l st′ xs) (crossed (upto l p) xs)
-        → reached l p st (x ∷ xs) ≡ after (begun l st (x ∷ xs)) (crossed (upto l p) (x ∷ xs))
+    by : (t : Bool) → reach l p x ≡ t → reached l p st′ xs ≡ after (begun l st′ xs) (crossed (asFarAs l p) xs)
+        → reached l p st (x ∷ xs) ≡ after (begun l st (x ∷ xs)) (crossed (asFarAs l p) (x ∷ xs))
     by true e ih = reached-on l p st x xs e ∙ on (yes-leK (x .line) (x .at) l p e) ih
-    by false e ih = reached-off l p st x xs so e ∙ rw (late (no-leK (x .line) (x .at) l p e), upto-none l p x xs so e) none
+    by false e ih = reached-off l p st x xs so e ∙ rw (late (no-leK (x .line) (x .at) l p e), far-none l p x xs so e) none
       where
         none : st ≡ after st []
         none = fun-ext (λ t. refl)
 
 pub reached-stateAt : (l : ℕ) (p : ℤ) (xs : List Crossing) → Sorted xs → Settled outside xs → reached l p outside xs ≡ stateAt l p xs
-reached-stateAt l p xs so se = reached-from l p xs outside so se ∙ fun-ext (λ s. ap (λ (u : State). after u (crossed (upto l p) xs) s) (same (short l xs)) ∙ after-outside (crossed (upto l p) xs) s)
+reached-stateAt l p xs so se = reached-from l p xs outside so se ∙ fun-ext (λ s. ap (λ (u : State). after u (crossed (asFarAs l p) xs) s) (same (short l xs)) ∙ after-outside (crossed (asFarAs l p) xs) s)
   where
     same : (b : Bool) → cond b outside outside ≡ outside
     same true = refl

@@ -1,39 +1,45 @@
--- Two rising wall lists that cover the same cells are equal.
+-- Two rising wall lists that cover the same cells and name the shapes that bound them are equal.
 use Prim.Native.Nat.{ℕ, _<_}
 use native.Mathlib.Decide.{decLt}
 use native.Mathlib.Omega.{arith}
-use mathlib.Core.Path.{_≡_, refl, sym, _∙_}
+use mathlib.Core.Path.{_≡_, refl, sym, ap, _∙_}
 use mathlib.Core.Bool.{Bool, true, false, not, _&&_, false≢true}
 use mathlib.Core.List.{List, [], _∷_}
 use borrow.Author.Tests.{eq-eqb, ne-eqb, eqb-true, ltb-true}
 use lib.Dec.{eqb, ltb}
 use lib.IntN.{ℤ}
 use lib.Signed.{leZ, ltZ}
-use Rattle.lines.specs.Lines.{Wall}
-use Rattle.lines.specs.Right.{covers, apart, Rising}
+use Rattle.lines.specs.Lines.{Crossing, Wall}
+use Rattle.lines.specs.Right.{covers, apart, Rising, Bounded}
 use Rattle.lines.proofs.Keys.{leK, lt-leK, gt-leK, eq-leK, Key, le, le-total, le-trans, le-antisym, ltZ-not, lt→no}
+use Rattle.lines.proofs.Lowest.{lowest-only}
 use Rattle.lines.proofs.Stretches.{Stretch, covered, inStretch, Rises, unique}
 
 -- a wall as a stretch of keys
-stretch : Wall → Stretch Key
+unfoldable pub stretch : Wall → Stretch Key
 stretch w = record { lo = (w .line, w .start); hi = (w .line, w .end) }
 
-stretches : List Wall → List (Stretch Key)
+unfoldable pub stretches : List Wall → List (Stretch Key)
 stretches [] = []
 stretches (w ∷ ws) = stretch w ∷ stretches ws
 
-same-walls : (vs ws : List Wall) → stretches vs ≡ stretches ws → vs ≡ ws
+same-walls : (xs : List Crossing) (vs ws : List Wall) → stretches vs ≡ stretches ws → Bounded xs vs → Bounded xs ws → vs ≡ ws
 unfolding stretches stretch
-same-walls [] [] e = refl
-same-walls [] (w ∷ ws) e = let z : _≡_ {A = ℕ} 0 1 = cc in let b : ⊥ = omega arith in absurd b
-same-walls (v ∷ vs) [] e = let z : _≡_ {A = ℕ} 0 1 = cc in let b : ⊥ = omega arith in absurd b
-same-walls (v ∷ vs) (w ∷ ws) e =
+same-walls xs [] [] e b c = refl
+same-walls xs [] (w ∷ ws) e b c = let z : _≡_ {A = ℕ} 0 1 = cc in let b : ⊥ = omega arith in absurd b
+same-walls xs (v ∷ vs) [] e b c = let z : _≡_ {A = ℕ} 0 1 = cc in let b : ⊥ = omega arith in absurd b
+same-walls xs (v ∷ vs) (w ∷ ws) e b c =
     let a : stretch v ≡ stretch w = cc in
-    let b : stretches vs ≡ stretches ws = cc in
-    let t : vs ≡ ws = same-walls vs ws b in
-    λ i. record { line = a i .lo .0; start = a i .lo .1; end = a i .hi .1 } ∷ t i
+    let d : stretches vs ≡ stretches ws = cc in
+    let t : vs ≡ ws = same-walls xs vs ws d (b .1) (c .1) in
+    let l : v .line ≡ w .line = ap (λ (k : Stretch Key). k .lo .0) a in
+    let p : v .start ≡ w .start = ap (λ (k : Stretch Key). k .lo .1) a in
+    let q : v .end ≡ w .end = ap (λ (k : Stretch Key). k .hi .1) a in
+    let f : v .startShape ≡ w .startShape = lowest-only _ _ _ _ (rw (l, p) at (b .0 .0)) (c .0 .0) in
+    let g : v .endShape ≡ w .endShape = lowest-only _ _ _ _ (rw (l, q) at (b .0 .1)) (c .0 .1) in
+    λ i. record { line = l i; start = p i; end = q i; startShape = f i; endShape = g i } ∷ t i
 
-in-wall : (l : ℕ) (p : ℤ) (w : Wall) → (eqb (w .line) l && leZ (w .start) p && ltZ p (w .end)) ≡ inStretch le (l, p) (stretch w)
+pub in-wall : (l : ℕ) (p : ℤ) (w : Wall) → (eqb (w .line) l && leZ (w .start) p && ltZ p (w .end)) ≡ inStretch le (l, p) (stretch w)
 unfolding stretch
 in-wall l p w = by (decLt (w .line) l) (decLt l (w .line))
   where
@@ -44,7 +50,7 @@ in-wall l p w = by (decLt (w .line) l) (decLt l (w .line))
         let e : w .line ≡ l = omega arith in
         rw (eq-leK (w .line) (w .start) l p e, eq-leK (w .line) (w .end) l p e, eq-eqb (w .line) l e, ltZ-not p (w .end))
 
-covers-is : (l : ℕ) (p : ℤ) (ws : List Wall) → covers l p ws ≡ covered le (l, p) (stretches ws)
+pub covers-is : (l : ℕ) (p : ℤ) (ws : List Wall) → covers l p ws ≡ covered le (l, p) (stretches ws)
 unfolding covers covered stretches
 covers-is l p [] = refl
 covers-is l p (w ∷ ws) = rw (in-wall l p w, covers-is l p ws)
@@ -60,14 +66,14 @@ apart-is w v e = by (ltb (w .line) (v .line)) refl (eqb (w .line) (v .line)) ref
     by false a true c = eq-leK (v .line) (v .start) (w .line) (w .end) (sym (eqb-true (w .line) (v .line) c)) ∙ lt→no (w .end) (v .start) (rw (a, c) at e)
     by false a false c = absurd (false≢true (rw (a, c) at e))
 
-rises-is : (ws : List Wall) → Rising ws → Rises le (stretches ws)
+pub rises-is : (ws : List Wall) → Rising ws → Rises le (stretches ws)
 unfolding stretches stretch
 rises-is [] r = tt
 rises-is (w ∷ []) r = (long w (r .0), (tt, tt))
 rises-is (w ∷ v ∷ vs) r = (long w (r .0), (apart-is w v (r .1 .0), rises-is (v ∷ vs) (r .1 .1)))
 
-pub rising-only : (vs ws : List Wall) → Rising vs → Rising ws → ((l : ℕ) (p : ℤ) → covers l p vs ≡ covers l p ws) → vs ≡ ws
-rising-only vs ws a b same =
-    same-walls vs ws
+pub rising-only : (xs : List Crossing) (vs ws : List Wall) → Rising vs → Rising ws → ((l : ℕ) (p : ℤ) → covers l p vs ≡ covers l p ws) → Bounded xs vs → Bounded xs ws → vs ≡ ws
+rising-only xs vs ws a b same =
+    same-walls xs vs ws
     (unique le le-total le-trans le-antisym (stretches vs) (stretches ws) (rises-is vs a) (rises-is ws b)
     (λ k. sym (covers-is (k .0) (k .1) vs) ∙ same (k .0) (k .1) ∙ covers-is (k .0) (k .1) ws))

@@ -56,7 +56,7 @@ module _ {K : Type 0} (le : K → K → Bool)
   before k w (v ∷ vs) r h = rw h (before k v vs (r .1 .1) (le-lt k (w .lo) (v .lo) (total (w .lo) k h) (lt-le (w .lo) (w .hi) (v .lo) (r .0) (total (v .lo) (w .hi) (r .1 .0)))))
 
   -- nothing in the others up to the end of the first
-  beyond : (k : K) (w : Stretch K) (ws : List (Stretch K)) → Rises le (w ∷ ws) → le k (w .hi) ≡ true → covered le k ws ≡ false
+  pub beyond : (k : K) (w : Stretch K) (ws : List (Stretch K)) → Rises le (w ∷ ws) → le k (w .hi) ≡ true → covered le k ws ≡ false
   unfolding covered
   beyond k w [] r h = refl
   beyond k w (v ∷ vs) r h = before k v vs (r .1 .1) (le-lt k (w .hi) (v .lo) h (r .1 .0))

@@ -12,7 +12,7 @@ use lib.IntN.{ℤ}
 use lib.Signed.{leZ, ltZ}
 use Rattle.formula.specs.States.{State, outside, flipped}
 use Rattle.formula.specs.Flips.{after}
-use Rattle.lines.specs.Lines.{Crossing, crossed, Wall, endsGroup, opened, closed, wallsFrom}
+use Rattle.lines.specs.Lines.{Crossing, crossed, Wall, Edge, edgeAt, endsGroup, opened, closed, wallsFrom}
 use Rattle.lines.specs.Right.{covers}
 use Rattle.lines.specs.Steps.{endsLine}
 use Rattle.lines.proofs.Keys.{leK, yes-leK, no-leK, lt-leK, eq-leK, le-trans, ltZ-not, trans, antisym, not-lt→, lt→le, lt-trans}
@@ -42,10 +42,10 @@ Settled st [] = Unit {0}
 Settled st (x ∷ xs) = (endsLine x xs ≡ true → flipped (x .shape) st ≡ outside) × Settled (flipped (x .shape) st) xs
 
 -- the open wall began before what is left
-abbrev pub Opened : Option ℤ → List Crossing → Type 0
+abbrev pub Opened : Option Edge → List Crossing → Type 0
 Opened o [] = Unit {0}
 Opened none (x ∷ xs) = Unit {0}
-Opened (some a) (x ∷ xs) = ltZ a (x .at) ≡ true
+Opened (some a) (x ∷ xs) = ltZ (a .at) (x .at) ≡ true
 
 -- y acts together with x: at the same place
 pub together : (x y : Crossing) (ys : List Crossing) → Follows x (y ∷ ys) → endsGroup x (y ∷ ys) ≡ false → (y .line ≡ x .line) × (y .at ≡ x .at)
@@ -66,19 +66,19 @@ module _ (solid : State → Bool) (air : solid outside ≡ false) where
       go true e = eqb-true _ _ e
       go false e = absurd (false≢true (sym (ap solid (se .0 (ap not e)) ∙ air) ∙ u))
 
-  pub opened-ok : (x : Crossing) (xs : List Crossing) (st : State) (o : Option ℤ) → Sorted (x ∷ xs) → Settled st (x ∷ xs) → Opened o (x ∷ xs)
-      → Opened (opened (endsGroup x xs) (solid (flipped (x .shape) st)) o (x .at)) xs
-  opened-ok x [] st o so se op = tt
-  opened-ok x (y ∷ ys) st o so se op = go (endsGroup x (y ∷ ys)) refl (solid (flipped (x .shape) st)) refl o op
+  pub opened-ok : (shape : ℕ → ℤ → ℕ) (x : Crossing) (xs : List Crossing) (st : State) (o : Option Edge) → Sorted (x ∷ xs) → Settled st (x ∷ xs) → Opened o (x ∷ xs)
+      → Opened (opened (endsGroup x xs) (solid (flipped (x .shape) st)) o (edgeAt shape (x .line) (x .at))) xs
+  opened-ok shape x [] st o so se op = tt
+  opened-ok shape x (y ∷ ys) st o so se op = go (endsGroup x (y ∷ ys)) refl (solid (flipped (x .shape) st)) refl o op
     where
       next : endsGroup x (y ∷ ys) ≡ true → solid (flipped (x .shape) st) ≡ true → ltZ (x .at) (y .at) ≡ true
       next q u = rw (eq-eqb _ _ (goes-on x y ys st se u)) at q
 
-      go : (e : Bool) → endsGroup x (y ∷ ys) ≡ e → (m : Bool) → solid (flipped (x .shape) st) ≡ m → (o : Option ℤ) → Opened o (x ∷ y ∷ ys) → Opened (opened e m o (x .at)) (y ∷ ys)
+      go : (e : Bool) → endsGroup x (y ∷ ys) ≡ e → (m : Bool) → solid (flipped (x .shape) st) ≡ m → (o : Option Edge) → Opened o (x ∷ y ∷ ys) → Opened (opened e m o (edgeAt shape (x .line) (x .at))) (y ∷ ys)
       go false q m u none op = tt
       go false q m u (some a) op = rw (together x y ys (so .0) q .1) op
       go true q true u none op = next q u
-      go true q true u (some a) op = lt-trans a (x .at) (y .at) op (next q u)
+      go true q true u (some a) op = lt-trans (a .at) (x .at) (y .at) op (next q u)
       go true q false u o op = tt
 
 -- ---- a cell, in the order of the lists: which entries lie at it or before it
@@ -90,12 +90,12 @@ reach l p x = leK (x .line) (x .at) l p
 abbrev pub reached : ℕ → ℤ → State → List Crossing → State
 reached l p st xs = after st (crossed (reach l p) xs)
 
-abbrev pub openAt : Option ℤ → ℤ → Bool
+abbrev pub openAt : Option Edge → ℤ → Bool
 openAt none p = false
-openAt (some a) p = leZ a p
+openAt (some a) p = leZ (a .at) p
 
 -- what is true of the cell once the entries before x have acted: beyond x the states say, and short of it the open wall
-abbrev pub said : (State → Bool) → ℕ → ℤ → State → Option ℤ → List Crossing → Bool
+abbrev pub said : (State → Bool) → ℕ → ℤ → State → Option Edge → List Crossing → Bool
 said solid l p st o [] = false
 said solid l p st o (x ∷ xs) = cond (reach l p x) (solid (reached l p st (x ∷ xs))) (eqb (x .line) l && openAt o p)
 
@@ -151,37 +151,37 @@ covers-app l p (w ∷ a) b = rw (covers-app l p a b) (sym (assoc (eqb (w .line) 
     assoc false y z = refl
 
 -- the wall that ends at x covers the cell, short of x, from where it began
-ended : (l : ℕ) (p : ℤ) (e m : Bool) (o : Option ℤ) (L : ℕ) (P : ℤ) → covers l p (closed e m o L P) ≡ (e && not m && cond (leK L P l p) false (eqb L l && openAt o p))
+ended : (l : ℕ) (p : ℤ) (e m : Bool) (o : Option Edge) (L : ℕ) (h : Edge) → covers l p (closed e m o L h) ≡ (e && not m && cond (leK L (h .at) l p) false (eqb L l && openAt o p))
 unfolding covers
-ended l p false m o L P = refl
-ended l p true true o L P = refl
-ended l p true false none L P = sym (none-of (leK L P l p) (eqb L l))
+ended l p false m o L h = refl
+ended l p true true o L h = refl
+ended l p true false none L h = sym (none-of (leK L (h .at) l p) (eqb L l))
   where
     none-of : (a b : Bool) → cond a false (b && false) ≡ false
     none-of true b = refl
     none-of false true = refl
     none-of false false = refl
-ended l p true false (some a) L P = or-false _ ∙ wall-cell l p L a P
+ended l p true false (some a) L h = or-false _ ∙ wall-cell l p L (a .at) (h .at)
 
-pub walls-cons : (solid : State → Bool) (st : State) (o : Option ℤ) (x : Crossing) (xs : List Crossing)
-    → wallsFrom solid st o (x ∷ xs) ≡ closed (endsGroup x xs) (solid (flipped (x .shape) st)) o (x .line) (x .at) ++ wallsFrom solid (flipped (x .shape) st) (opened (endsGroup x xs) (solid (flipped (x .shape) st)) o (x .at)) xs
+pub walls-cons : (solid : State → Bool) (shape : ℕ → ℤ → ℕ) (st : State) (o : Option Edge) (x : Crossing) (xs : List Crossing)
+    → wallsFrom solid shape st o (x ∷ xs) ≡ closed (endsGroup x xs) (solid (flipped (x .shape) st)) o (x .line) (edgeAt shape (x .line) (x .at)) ++ wallsFrom solid shape (flipped (x .shape) st) (opened (endsGroup x xs) (solid (flipped (x .shape) st)) o (edgeAt shape (x .line) (x .at))) xs
 unfolding wallsFrom
-walls-cons solid st o x xs = refl
+walls-cons solid shape st o x xs = refl
 
-module _ (solid : State → Bool) (air : solid outside ≡ false) (l : ℕ) (p : ℤ) where
+module _ (solid : State → Bool) (air : solid outside ≡ false) (shape : ℕ → ℤ → ℕ) (l : ℕ) (p : ℤ) where
   -- one entry: the wall that ends here, or what is said from the next on
-  one : (x : Crossing) (xs : List Crossing) (st : State) (o : Option ℤ) → Sorted (x ∷ xs) → Settled st (x ∷ xs) → Opened o (x ∷ xs)
-      → (covers l p (closed (endsGroup x xs) (solid (flipped (x .shape) st)) o (x .line) (x .at)) || said solid l p (flipped (x .shape) st) (opened (endsGroup x xs) (solid (flipped (x .shape) st)) o (x .at)) xs)
+  one : (x : Crossing) (xs : List Crossing) (st : State) (o : Option Edge) → Sorted (x ∷ xs) → Settled st (x ∷ xs) → Opened o (x ∷ xs)
+      → (covers l p (closed (endsGroup x xs) (solid (flipped (x .shape) st)) o (x .line) (edgeAt shape (x .line) (x .at))) || said solid l p (flipped (x .shape) st) (opened (endsGroup x xs) (solid (flipped (x .shape) st)) o (edgeAt shape (x .line) (x .at))) xs)
       ≡ said solid l p st o (x ∷ xs)
   one x [] st o so se op =
       let m : solid (flipped (x .shape) st) ≡ false = ap solid (se .0 refl) ∙ air in
-      rw (ended l p true (solid (flipped (x .shape) st)) o (x .line) (x .at), m) (or-false _ ∙ go (reach l p x) refl)
+      rw (ended l p true (solid (flipped (x .shape) st)) o (x .line) (edgeAt shape (x .line) (x .at)), m) (or-false _ ∙ go (reach l p x) refl)
     where
       go : (t : Bool) → reach l p x ≡ t → cond (reach l p x) false (eqb (x .line) l && openAt o p) ≡ said solid l p st o (x ∷ [])
       go true e = rw (e, reached-on l p st x [] e) (sym (ap solid (reached-nil l p (flipped (x .shape) st)) ∙ ap solid (se .0 refl) ∙ air))
       go false e = rw e
   one x (y ∷ ys) st o so se op =
-      rw (ended l p (endsGroup x (y ∷ ys)) (solid (flipped (x .shape) st)) o (x .line) (x .at))
+      rw (ended l p (endsGroup x (y ∷ ys)) (solid (flipped (x .shape) st)) o (x .line) (edgeAt shape (x .line) (x .at)))
       (go (endsGroup x (y ∷ ys)) refl (solid (flipped (x .shape) st)) refl (reach l p x) refl (reach l p y) refl o op)
     where
       st′ : State
@@ -211,8 +211,8 @@ module _ (solid : State → Bool) (air : solid outside ≡ false) (l : ℕ) (p :
           by (inr h) = rw (h .1)
 
       go : (e : Bool) → endsGroup x (y ∷ ys) ≡ e → (m : Bool) → solid st′ ≡ m → (a : Bool) → reach l p x ≡ a → (b : Bool) → reach l p y ≡ b
-          → (o : Option ℤ) → Opened o (x ∷ y ∷ ys)
-          → (e && not m && cond a false (eqb (x .line) l && openAt o p) || cond b (solid (reached l p st′ (y ∷ ys))) (eqb (y .line) l && openAt (opened e m o (x .at)) p))
+          → (o : Option Edge) → Opened o (x ∷ y ∷ ys)
+          → (e && not m && cond a false (eqb (x .line) l && openAt o p) || cond b (solid (reached l p st′ (y ∷ ys))) (eqb (y .line) l && openAt (opened e m o (edgeAt shape (x .line) (x .at))) p))
           ≡ cond a (solid (reached l p st (x ∷ y ∷ ys))) (eqb (x .line) l && openAt o p)
       go e q m u false a true b o op = absurd (true≢false (sym (reach-on l p x y (so .0) b) ∙ a))
       go false q m u true a true b o op = same a
@@ -221,19 +221,20 @@ module _ (solid : State → Bool) (air : solid outside ≡ false) (l : ℕ) (p :
       go true q true u true a true b o op = same a
       go true q false u true a true b o op = same a
       go true q true u true a false b none op = let h = here u a b in rw (eq-eqb (y .line) l (h .0), h .1) (sym (between a b ∙ u))
-      go true q true u true a false b (some c) op = let h = here u a b in rw (eq-eqb (y .line) l (h .0), trans c (x .at) p (lt→le c (x .at) op) (h .1)) (sym (between a b ∙ u))
+      go true q true u true a false b (some c) op = let h = here u a b in rw (eq-eqb (y .line) l (h .0), trans (c .at) (x .at) p (lt→le (c .at) (x .at) op) (h .1)) (sym (between a b ∙ u))
       go true q false u true a false b o op = and-false (eqb (y .line) l) ∙ sym (between a b ∙ u)
       go true q true u false a false b none op = rw (goes-on solid air x y ys st se u) (short a)
       go true q true u false a false b (some c) op = rw (goes-on solid air x y ys st se u)
       go true q false u false a false b o op = rw (and-false (eqb (y .line) l)) (or-false _)
 
-  pub cells : (xs : List Crossing) (st : State) (o : Option ℤ) → Sorted xs → Settled st xs → Opened o xs → covers l p (wallsFrom solid st o xs) ≡ said solid l p st o xs
+  pub cells : (xs : List Crossing) (st : State) (o : Option Edge) → Sorted xs → Settled st xs → Opened o xs → covers l p (wallsFrom solid shape st o xs) ≡ said solid l p st o xs
   unfolding wallsFrom covers
   cells [] st o so se op = refl
   cells (x ∷ xs) st o so se op =
       let e : Bool = endsGroup x xs in
       let m : Bool = solid (flipped (x .shape) st) in
-      ap (covers l p) (walls-cons solid st o x xs)
-      ∙ covers-app l p (closed e m o (x .line) (x .at)) (wallsFrom solid (flipped (x .shape) st) (opened e m o (x .at)) xs)
-      ∙ ap (λ (b : Bool). covers l p (closed e m o (x .line) (x .at)) || b) (cells xs (flipped (x .shape) st) (opened e m o (x .at)) (so .1) (se .1) (opened-ok solid air x xs st o so se op))
+      let h : Edge = edgeAt shape (x .line) (x .at) in
+      ap (covers l p) (walls-cons solid shape st o x xs)
+      ∙ covers-app l p (closed e m o (x .line) h) (wallsFrom solid shape (flipped (x .shape) st) (opened e m o h) xs)
+      ∙ ap (λ (b : Bool). covers l p (closed e m o (x .line) h) || b) (cells xs (flipped (x .shape) st) (opened e m o h) (so .1) (se .1) (opened-ok solid air shape x xs st o so se op))
       ∙ one x xs st o so se op

@@ -6,15 +6,16 @@ use lib.IntN.{ℤ, pos, negsuc}
 use Rattle.outcome.specs.Outcome.{refused}
 use Rattle.formula.specs.Formula.{union, intersection, difference, Formula, leaf, node}
 use Rattle.formula.specs.States.{times}
-use Rattle.lines.specs.Lines.{Crossing, crossed, ordered, anyInside, firstLine, anyOn, lastOn, judged, Wall, wallsFrom, walls}
+use Rattle.lines.specs.Lines.{Crossing, crossed, ordered, anyInside, firstLine, anyOn, lastOn, judged, lowestFrom, shapeAt, Wall, wallsFrom, walls}
 
 -- crossings of one line, by position and shape
 abbrev line : List (ℤ × ℕ) → List Crossing
 line [] = []
 line (x ∷ xs) = record { line = 0; at = x .0; shape = x .1 } ∷ line xs
 
-abbrev wall : ℤ → ℤ → Wall
-wall a b = record { line = 0; start = a; end = b }
+-- by start and end, and the shapes there
+abbrev wall : ℤ → ℤ → ℕ → ℕ → Wall
+wall a b s t = record { line = 0; start = a; end = b; startShape = s; endShape = t }
 
 abbrev A : Formula
 A = leaf 0
@@ -22,14 +23,21 @@ A = leaf 0
 abbrev B : Formula
 B = leaf 1
 
-pub cases : (walls (node difference A B) (line ((pos 0, 0) ∷ (pos 40, 1) ∷ (pos 60, 1) ∷ (pos 100, 0) ∷ [])) ≡ wall (pos 0) (pos 40) ∷ wall (pos 60) (pos 100) ∷ [])
-    × (walls (node union A B) (line ((pos 0, 0) ∷ (pos 50, 0) ∷ (pos 50, 1) ∷ (pos 90, 1) ∷ [])) ≡ wall (pos 0) (pos 90) ∷ [])
+pub cases : (walls (node difference A B) (line ((pos 0, 0) ∷ (pos 40, 1) ∷ (pos 60, 1) ∷ (pos 100, 0) ∷ [])) ≡ wall (pos 0) (pos 40) 0 1 ∷ wall (pos 60) (pos 100) 1 0 ∷ [])
+    × (walls (node union A B) (line ((pos 0, 0) ∷ (pos 50, 0) ∷ (pos 50, 1) ∷ (pos 90, 1) ∷ [])) ≡ wall (pos 0) (pos 90) 0 1 ∷ [])
     × (walls (node intersection A B) (line ((pos 0, 0) ∷ (pos 50, 0) ∷ (pos 50, 1) ∷ (pos 90, 1) ∷ [])) ≡ [])
     × (walls A (line ((pos 10, 0) ∷ (pos 10, 0) ∷ [])) ≡ [])
     × (walls A [] ≡ [])
-    × (walls A (line ((negsuc 2147483647, 0) ∷ (pos 2147483647, 0) ∷ [])) ≡ wall (negsuc 2147483647) (pos 2147483647) ∷ [])
-unfolding wallsFrom
+    × (walls A (line ((negsuc 2147483647, 0) ∷ (pos 2147483647, 0) ∷ [])) ≡ wall (negsuc 2147483647) (pos 2147483647) 0 0 ∷ [])
+unfolding wallsFrom shapeAt lowestFrom crossed times
 cases = (refl, refl, refl, refl, refl, refl)
+
+-- Several crossings at one position: the lowest that changes, in whatever order they stand; one crossed twice there is no answer, and one that stands at no leaf is.
+pub faces : (walls A (line ((pos 0, 2) ∷ (pos 0, 1) ∷ (pos 0, 0) ∷ (pos 9, 1) ∷ (pos 9, 2) ∷ (pos 9, 0) ∷ [])) ≡ wall (pos 0) (pos 9) 0 0 ∷ [])
+    × (walls B (line ((pos 0, 1) ∷ (pos 0, 0) ∷ (pos 0, 2) ∷ (pos 0, 0) ∷ (pos 9, 2) ∷ (pos 9, 0) ∷ (pos 9, 1) ∷ (pos 9, 0) ∷ [])) ≡ wall (pos 0) (pos 9) 1 1 ∷ [])
+    × (walls B (line ((pos 0, 1) ∷ (pos 0, 0) ∷ (pos 9, 1) ∷ (pos 20, 0) ∷ [])) ≡ wall (pos 0) (pos 9) 0 1 ∷ [])
+unfolding wallsFrom shapeAt lowestFrom crossed times
+faces = (refl, refl, refl)
 
 -- A on one line at 5 only. Shape 3 of three names. A falling position. On the second of two lines B is crossed once, and A after it.
 pub refusals : (judged 1 (0 ∷ []) (pos 5 ∷ []) (0 ∷ []) ≡ refused 12 0)

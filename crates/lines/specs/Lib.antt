@@ -1,4 +1,5 @@
 pub mod Lines
 pub mod Right
+pub mod Given
 pub mod Steps
 pub mod Examples

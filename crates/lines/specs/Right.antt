@@ -1,5 +1,5 @@
 -- What makes a wall list right, apart from how walls are found.
-use Prim.Native.Nat.{ℕ}
+use Prim.Native.Nat.{ℕ, _<_}
 use mathlib.Core.Path.{_≡_}
 use mathlib.Core.Bool.{Bool, true, false, _&&_, _||_}
 use mathlib.Core.List.{List, [], _∷_}
@@ -7,16 +7,8 @@ use lib.Dec.{eqb, ltb}
 use lib.IntN.{ℤ}
 use lib.Signed.{ltZ, leZ}
 use Rattle.formula.specs.Formula.{Formula, inside}
-use Rattle.formula.specs.States.{State, toggledBy}
-use Rattle.lines.specs.Lines.{Crossing, crossed, on, Wall}
-
--- On line l, at position p or before it.
-abbrev pub upto : ℕ → ℤ → Crossing → Bool
-upto l p x = on l x && leZ (x .at) p
-
--- The shapes' states in the unit cell from p to p + 1 of line l: a shape is inside after an odd number of crossings.
-abbrev pub stateAt : ℕ → ℤ → List Crossing → State
-stateAt l p xs = toggledBy (crossed (upto l p) xs)
+use Rattle.formula.specs.States.{State}
+use Rattle.lines.specs.Lines.{Crossing, stateBefore, stateAt, Wall}
 
 -- The unit cell from p to p + 1 of line l lies in a wall of the list.
 unfoldable pub covers : ℕ → ℤ → List Wall → Bool
@@ -36,7 +28,22 @@ abbrev pub Rising : List Wall → Type 0
 Rising [] = Unit {0}
 Rising (w ∷ ws) = (ltZ (w .start) (w .end) ≡ true) × (Next w ws × Rising ws)
 
--- The longest stretches of positive length inside, all of them, in rising order.
+-- Of the states before and after: s is the lowest number whose state differs.
+pub record LowestChanged (a b : State) (s : ℕ) : Type 0 where
+  pub changed : a s ≡ b s → ⊥
+  pub lowest : (t : ℕ) → t < s → a t ≡ b t
+
+-- The shape at position p of line l.
+abbrev pub Bounds : List Crossing → ℕ → ℤ → ℕ → Type 0
+Bounds xs l p s = LowestChanged (stateBefore l p xs) (stateAt l p xs) s
+
+-- Each wall names the shape at its start and the one at its end.
+abbrev pub Bounded : List Crossing → List Wall → Type 0
+Bounded xs [] = Unit {0}
+Bounded xs (w ∷ ws) = (Bounds xs (w .line) (w .start) (w .startShape) × Bounds xs (w .line) (w .end) (w .endShape)) × Bounded xs ws
+
+-- The longest stretches of positive length inside, all of them, in rising order, with the shapes that bound them.
 pub record Right (f : Formula) (xs : List Crossing) (ws : List Wall) : Type 0 where
   pub cells : (l : ℕ) (p : ℤ) → covers l p ws ≡ inside f (stateAt l p xs)
   pub rising : Rising ws
+  pub shapes : Bounded xs ws

@@ -1,6 +1,7 @@
 //! What is timed: each row is one job on one sheet with its lists.
 
 use crate::plain;
+use kressedach::WallLists;
 use peer::lines::{Crossing, Crossings};
 use peer::make::{self, Dice, Form};
 use std::hint::black_box;
@@ -58,6 +59,8 @@ pub fn all(crossings: usize) -> Vec<Row> {
             rows.push(classify(formula, leaves, a_line, crossings));
         }
     }
+    rows.push(walls_only(64, crossings));
+    rows.push(together(64, crossings));
     rows
 }
 
@@ -196,19 +199,66 @@ struct Lines {
     shapes: Vec<u16>,
 }
 
+/// The lists that walls are written to.
+#[derive(Clone)]
+struct Room {
+    lines: Vec<u32>,
+    starts: Vec<i32>,
+    ends: Vec<i32>,
+    start_shapes: Vec<u16>,
+    end_shapes: Vec<u16>,
+}
+
+impl Room {
+    fn of(walls: usize) -> Room {
+        Room {
+            lines: vec![0; walls],
+            starts: vec![0; walls],
+            ends: vec![0; walls],
+            start_shapes: vec![0; walls],
+            end_shapes: vec![0; walls],
+        }
+    }
+
+    fn lent(&mut self) -> WallLists<'_> {
+        let Room { lines, starts, ends, start_shapes, end_shapes } = self;
+        WallLists { lines, starts, ends, start_shapes, end_shapes }
+    }
+}
+
 /// A way to classify, with the lists it writes.
-type Way = fn(&Lines, &mut [u32], &mut [i32], &mut [i32]) -> usize;
+type Way = fn(&Lines, &mut WallLists) -> usize;
 
-const LIBRARY: Way =
-    |l, wall_lines, starts, ends| kressedach::classify_into(&l.sheet, &l.lines, &l.positions, &l.shapes, wall_lines, starts, ends).unwrap();
-const WORDS: Way =
-    |l, wall_lines, starts, ends| plain::by_words(&l.sheet, &l.lines, &l.positions, &l.shapes, wall_lines, starts, ends).unwrap();
-const WALK: Way =
-    |l, wall_lines, starts, ends| plain::by_walk(&l.sheet, &l.lines, &l.positions, &l.shapes, wall_lines, starts, ends).unwrap();
+const LIBRARY: Way = |l, walls| kressedach::classify_into(&l.sheet, &l.lines, &l.positions, &l.shapes, walls).unwrap();
+const WORDS: Way = |l, walls| plain::by_words(&l.sheet, &l.lines, &l.positions, &l.shapes, walls).unwrap();
+const WALK: Way = |l, walls| plain::by_walk(&l.sheet, &l.lines, &l.positions, &l.shapes, walls).unwrap();
 
+/// Random crossings, so many a line.
 fn classify(formula: &'static str, leaves: usize, a_line: usize, count: usize) -> Row {
     let (sheet, names) = sheet(formula, leaves);
-    let all = crossings(names, a_line, count);
+    lines_row(formula, leaves, sheet, crossings(names, a_line, count), format!("{a_line} a line"))
+}
+
+/// Every two crossings make a wall: on each line the first shape alone is crossed, of a union of all.
+fn walls_only(leaves: usize, count: usize) -> Row {
+    let names: Vec<String> = (0..leaves).map(|shape| format!("rib{shape:03}")).collect();
+    let codes: Vec<u16> = (0..leaves as u16).flat_map(|leaf| if leaf == 0 { vec![0] } else { vec![leaf, 0xFFF0] }).collect();
+    let all = (0..count).map(|k| Crossing { line: (k / 10) as u32, position: 10 * (k % 10) as i32, shape: 0 }).collect();
+    lines_row("union", leaves, make::sheet(&names, &codes), all, "a wall for every two".into())
+}
+
+/// Two positions a line, at which all its crossings lie: every shape at both.
+fn together(leaves: usize, count: usize) -> Row {
+    let names: Vec<String> = (0..leaves).map(|shape| format!("rib{shape:03}")).collect();
+    let codes: Vec<u16> = (0..leaves as u16).flat_map(|leaf| if leaf == 0 { vec![0] } else { vec![leaf, 0xFFF0] }).collect();
+    let count = count / (2 * leaves) * 2 * leaves;
+    let one =
+        |k: usize| Crossing { line: (k / (2 * leaves)) as u32, position: (k / leaves % 2) as i32, shape: (leaves - 1 - k % leaves) as u16 };
+    lines_row("union", leaves, make::sheet(&names, &codes), (0..count).map(one).collect(), format!("{leaves} at one position"))
+}
+
+fn lines_row(formula: &'static str, leaves: usize, sheet: Vec<u8>, all: Vec<Crossing>, named: String) -> Row {
+    let count = all.len();
     let lines = std::rc::Rc::new(Lines {
         sheet: sheet.clone(),
         lines: all.iter().map(|c| c.line).collect(),
@@ -216,18 +266,17 @@ fn classify(formula: &'static str, leaves: usize, a_line: usize, count: usize) -
         shapes: all.iter().map(|c| c.shape).collect(),
     });
     let timed = |way: Way| -> Box<dyn FnMut()> {
-        let lines = lines.clone();
-        let (mut wall_lines, mut starts, mut ends) = (vec![0; count / 2], vec![0; count / 2], vec![0; count / 2]);
-        Box::new(move || _ = black_box(way(black_box(&lines), &mut wall_lines, &mut starts, &mut ends)))
+        let (lines, mut room) = (lines.clone(), Room::of(count / 2));
+        Box::new(move || _ = black_box(way(black_box(&lines), &mut room.lent())))
     };
-    let walls = WORDS(&lines, &mut vec![0; count / 2], &mut vec![0; count / 2], &mut vec![0; count / 2]);
+    let walls = WORDS(&lines, &mut Room::of(count / 2).lent());
     let (mut copy_sheet, mut copy_shapes) = (copying(sheet), copying(lines.shapes.clone()));
-    let (mut copy_words, mut copy_walls) = (copying(vec![0u32; 2 * count]), copying(vec![0u32; 3 * walls]));
+    let (mut copy_words, mut copy_walls) = (copying(vec![0u32; 2 * count]), copying(vec![0u32; 4 * walls]));
     Row {
         job: "classify",
         formula,
         leaves,
-        lists: format!("{a_line} a line"),
+        lists: named,
         items: count,
         library: timed(LIBRARY),
         plain: timed(WORDS),
@@ -240,12 +289,13 @@ fn classify(formula: &'static str, leaves: usize, a_line: usize, count: usize) -
         }),
         check: Box::new(move || {
             let crossings = Crossings { lines: &lines.lines, positions: &lines.positions, shapes: &lines.shapes };
-            let due = peer::classify(&lines.sheet, crossings, [count; 3]).unwrap();
+            let due = peer::classify(&lines.sheet, crossings, [count; 5]).unwrap();
             for way in [LIBRARY, WORDS, WALK] {
-                let (mut wall_lines, mut starts, mut ends) = (vec![0; count / 2], vec![0; count / 2], vec![0; count / 2]);
-                assert_eq!(way(&lines, &mut wall_lines, &mut starts, &mut ends), due.len());
+                let mut room = Room::of(count / 2);
+                assert_eq!(way(&lines, &mut room.lent()), due.len());
                 for (k, wall) in due.iter().enumerate() {
-                    assert_eq!((wall_lines[k], starts[k], ends[k]), (wall.line, wall.start, wall.end));
+                    assert_eq!((room.lines[k], room.starts[k], room.ends[k]), (wall.line, wall.start, wall.end));
+                    assert_eq!((room.start_shapes[k], room.end_shapes[k]), (wall.start_shape, wall.end_shape));
                 }
             }
         }),

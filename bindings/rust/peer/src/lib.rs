@@ -55,11 +55,11 @@ pub fn run(bytes: &[u8], toggles: &[u16], rooms: [usize; 3]) -> Result<Ran, Refu
     Ok(toggles::run(&dwarf, toggles))
 }
 
-/// The job of classifying lines: line, start, end are its answer lists.
-pub fn classify(bytes: &[u8], crossings: Crossings, rooms: [usize; 3]) -> Result<Vec<Wall>, Refused> {
+/// The job of classifying lines: line, start, end, start shape, end shape are its answer lists.
+pub fn classify(bytes: &[u8], crossings: Crossings, rooms: [usize; 5]) -> Result<Vec<Wall>, Refused> {
     let (sheet, _) = contracted(bytes)?;
     let judged = lines::judge(sheet.names.len(), crossings)?;
-    enough(rooms, [judged.len() / 2; 3])?;
+    enough(rooms, [judged.len() / 2; 5])?;
     Ok(lines::walls(&sheet.formula, sheet.names.len(), &judged))
 }
 
@@ -74,7 +74,7 @@ fn contracted(bytes: &[u8]) -> Result<(Sheet, Dwarf), Refused> {
 }
 
 /// The answer lists are long enough, judged in their order.
-fn enough(rooms: [usize; 3], needed: [usize; 3]) -> Result<(), Refused> {
+fn enough<const LISTS: usize>(rooms: [usize; LISTS], needed: [usize; LISTS]) -> Result<(), Refused> {
     match rooms.iter().zip(needed).find(|(room, need)| **room < *need) {
         Some((_, need)) => refuse(9, need),
         None => Ok(()),

@@ -23,6 +23,8 @@ pub struct Wall {
     pub line: u32,
     pub start: i32,
     pub end: i32,
+    pub start_shape: u16,
+    pub end_shape: u16,
 }
 
 /// 13, then 10 and 11 item by item, then 12.
@@ -54,24 +56,45 @@ pub fn judge(names: usize, lists: Crossings) -> Result<Vec<Crossing>, Refused> {
     Ok(all)
 }
 
+/// A position of a line: the lowest shape whose state differs before and after it, and whether there is metal after it.
+struct Position {
+    at: i32,
+    changed: Option<u16>,
+    metal: bool,
+}
+
+fn positions(formula: &Formula, names: usize, line: &[Crossing]) -> Vec<Position> {
+    let mut inside = vec![false; names];
+    let mut all = Vec::new();
+    for together in line.chunk_by(|a, b| a.position == b.position) {
+        let before = inside.clone();
+        together.iter().for_each(|crossing| inside[usize::from(crossing.shape)] ^= true);
+        let changed = (0..names).find(|shape| before[*shape] != inside[*shape]).map(|shape| shape as u16);
+        all.push(Position { at: together[0].position, changed, metal: formula.inside(&inside) });
+    }
+    all
+}
+
 /// "A wall is a longest stretch of positive length inside": the stretches between neighbouring positions that are inside, joined where
-/// they touch.
+/// they touch. "Each wall gains the shape at its start and at its end."
 pub fn walls(formula: &Formula, names: usize, crossings: &[Crossing]) -> Vec<Wall> {
-    let mut walls: Vec<Wall> = Vec::new();
+    let mut walls = Vec::new();
     for line in crossings.chunk_by(|a, b| a.line == b.line) {
-        let mut inside = vec![false; names];
-        let together: Vec<&[Crossing]> = line.chunk_by(|a, b| a.position == b.position).collect();
-        for neighbours in together.windows(2) {
-            neighbours[0].iter().for_each(|crossing| inside[usize::from(crossing.shape)] ^= true);
-            if !formula.inside(&inside) {
-                continue;
-            }
-            let stretch = Wall { line: line[0].line, start: neighbours[0][0].position, end: neighbours[1][0].position };
-            match walls.last_mut() {
-                Some(before) if before.line == stretch.line && before.end == stretch.start => before.end = stretch.end,
-                _ => walls.push(stretch),
+        let all = positions(formula, names, line);
+        let mut joined: Vec<(&Position, &Position)> = Vec::new();
+        for neighbours in all.windows(2).filter(|neighbours| neighbours[0].metal) {
+            match joined.last_mut() {
+                Some(before) if before.1.at == neighbours[0].at => before.1 = &neighbours[1],
+                _ => joined.push((&neighbours[0], &neighbours[1])),
             }
         }
+        walls.extend(joined.into_iter().map(|(start, end)| Wall {
+            line: line[0].line,
+            start: start.at,
+            end: end.at,
+            start_shape: start.changed.expect("metal begins where a state changes"),
+            end_shape: end.changed.expect("metal ends where a state changes"),
+        }));
     }
     walls
 }

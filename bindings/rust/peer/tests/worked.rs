@@ -12,6 +12,7 @@ const INTERSECTION: u16 = 0xFFF1;
 const DIFFERENCE: u16 = 0xFFF2;
 const EXCLUSIVE: u16 = 0xFFF3;
 const ROOM: [usize; 3] = [4000; 3];
+const WALL_ROOM: [usize; 5] = [usize::MAX; 5];
 
 fn refused<T>(number: u8, place: usize) -> Result<T, Refused> {
     Err(Refused { number, place })
@@ -32,7 +33,7 @@ fn ran(roots: &[u8], counts: &[u32], labels: &[u8]) -> Result<Ran, Refused> {
 /// The walls of one line, from positions and shapes.
 fn walls(sheet: &[u8], crossings: &[(i32, u16)]) -> Result<Vec<(i32, i32)>, Refused> {
     let (positions, shapes): (Vec<i32>, Vec<u16>) = crossings.iter().copied().unzip();
-    let found = classify(sheet, Crossings { lines: &vec![7; crossings.len()], positions: &positions, shapes: &shapes }, ROOM)?;
+    let found = classify(sheet, Crossings { lines: &vec![7; crossings.len()], positions: &positions, shapes: &shapes }, WALL_ROOM)?;
     assert!(found.iter().all(|wall| wall.line == 7));
     Ok(found.into_iter().map(|wall| (wall.start, wall.end)).collect())
 }
@@ -109,8 +110,30 @@ fn walls_of_lines() {
 #[test]
 fn walls_do_not_join_across_lines() {
     let lists = Crossings { lines: &[1, 1, 2, 2], positions: &[0, 5, 5, 9], shapes: &[0; 4] };
-    let due = [Wall { line: 1, start: 0, end: 5 }, Wall { line: 2, start: 5, end: 9 }];
-    assert_eq!(classify(&sheet(&["A"], &[0]), lists, ROOM).unwrap(), due);
+    let due = [
+        Wall { line: 1, start: 0, end: 5, start_shape: 0, end_shape: 0 },
+        Wall { line: 2, start: 5, end: 9, start_shape: 0, end_shape: 0 },
+    ];
+    assert_eq!(classify(&sheet(&["A"], &[0]), lists, WALL_ROOM).unwrap(), due);
+}
+
+/// Where several cross at one position, the lowest number whose state differs before and after.
+#[test]
+fn the_shapes_that_bound_a_wall() {
+    let shapes = |sheet: &[u8], crossings: &[(i32, u16)]| -> Vec<(u16, u16)> {
+        let (positions, shapes): (Vec<i32>, Vec<u16>) = crossings.iter().copied().unzip();
+        let lists = Crossings { lines: &vec![7; crossings.len()], positions: &positions, shapes: &shapes };
+        classify(sheet, lists, WALL_ROOM).unwrap().into_iter().map(|wall| (wall.start_shape, wall.end_shape)).collect()
+    };
+    let of = |codes: &[u16]| sheet(&["A", "B", "C"], codes);
+    assert_eq!(shapes(&of(&[0, 1, DIFFERENCE]), &[(0, 0), (40, 1), (60, 1), (100, 0)]), [(0, 1), (1, 0)]);
+    // joined stretches name the two ends alone
+    assert_eq!(shapes(&of(&[0, 1, UNION]), &[(0, 0), (50, 0), (50, 1), (90, 1)]), [(0, 1)]);
+    // in any order
+    assert_eq!(shapes(&of(&[0]), &[(0, 2), (0, 1), (0, 0), (9, 1), (9, 2), (9, 0)]), [(0, 0)]);
+    // crossed twice is not changed; a shape at no leaf is
+    assert_eq!(shapes(&of(&[1]), &[(0, 1), (0, 0), (0, 0), (9, 2), (9, 0), (9, 1), (9, 0), (20, 2)]), [(1, 1)]);
+    assert_eq!(shapes(&of(&[1]), &[(0, 1), (0, 0), (9, 1), (20, 0)]), [(0, 1)]);
 }
 
 #[test]
@@ -170,7 +193,7 @@ fn refusals_of_reading() {
 #[test]
 fn refusals_in_their_order() {
     let one = sheet(&["A"], &[0]);
-    let lists = |lines, positions, shapes| classify(&one, Crossings { lines, positions, shapes }, [0; 3]);
+    let lists = |lines, positions, shapes| classify(&one, Crossings { lines, positions, shapes }, [0; 5]);
     assert_eq!(lists(&[0], &[0], &[]), refused(13, 0));
     assert_eq!(lists(&[5, 4], &[0, 0], &[0, 1]), refused(10, 1));
     assert_eq!(lists(&[5, 4, 4], &[0, 0, 0], &[0, 0, 1]), refused(11, 1));
@@ -184,7 +207,7 @@ fn refusals_in_their_order() {
     // 12 names the last entry, of any shape, on the first such line
     let two = sheet(&["A", "B"], &[0, 1, UNION]);
     let lists = Crossings { lines: &[1, 1, 1, 2, 2, 2, 2], positions: &[0; 7], shapes: &[0, 1, 1, 0, 1, 1, 1] };
-    assert_eq!(classify(&two, lists, ROOM), refused(12, 2));
+    assert_eq!(classify(&two, lists, WALL_ROOM), refused(12, 2));
 }
 
 /// The rake table is the operation itself, with 1 and with 0 on the open side; and the labels give the formula's value.

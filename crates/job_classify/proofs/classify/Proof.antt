@@ -1,5 +1,5 @@
 -- `job_classify::classify` meets its promise: a refused sheet ends it, and an accepted one's lines are classified.
-use Rattle.job_classify.proofs.ClassifyLaws.{sheet-refused, few-names, few-codes, lines-walls, lines-refused}
+use Rattle.job_classify.proofs.ClassifyLaws.{sheet-refused, few-codes, lines-walls, lines-refused}
 use borrow.Author.Needs.{needs}
 use Rattle.job_classify.proofs.classify.Statement.{statement}
 use Rattle.job_classify.proofs.classify.Tie as tie
@@ -14,7 +14,7 @@ enum-known-names : tie.Need-enum-known-names
 enum-known-names c = search needs
 
 classify-requires : tie.Need-classify-requires
-classify-requires c κs = search (few-names, few-codes, needs)
+classify-requires c κs = search (few-codes, needs)
 
 enum-known-walls : tie.Need-enum-known-walls
 enum-known-walls c = search needs
@@ -34,17 +34,29 @@ same-length-2 c = search needs
 same-length-3 : tie.Need-same-length-3
 same-length-3 c = search needs
 
-returns-2 : tie.Need-returns-2
-returns-2 c = search (lines-walls, needs)
-
 same-length-4 : tie.Need-same-length-4
 same-length-4 c = search needs
 
 same-length-5 : tie.Need-same-length-5
 same-length-5 c = search needs
 
+returns-2 : tie.Need-returns-2
+returns-2 c = search (lines-walls, needs)
+
 same-length-6 : tie.Need-same-length-6
 same-length-6 c = search needs
+
+same-length-7 : tie.Need-same-length-7
+same-length-7 c = search needs
+
+same-length-8 : tie.Need-same-length-8
+same-length-8 c = search needs
+
+same-length-9 : tie.Need-same-length-9
+same-length-9 c = search needs
+
+same-length-10 : tie.Need-same-length-10
+same-length-10 c = search needs
 
 returns-3 : tie.Need-returns-3
 returns-3 c = search (lines-refused, needs)
@@ -63,8 +75,12 @@ classify-spec =
     same-length
     same-length-2
     same-length-3
-    returns-2
     same-length-4
     same-length-5
+    returns-2
     same-length-6
+    same-length-7
+    same-length-8
+    same-length-9
+    same-length-10
     returns-3)

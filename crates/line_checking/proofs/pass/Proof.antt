@@ -21,23 +21,23 @@ unfolding due
 loop-holds c = let s = c .before .before in
     (record { positions = s .pre .0; shapes = s .pre .1; within = omega arith; order = refl }, record { held = held-none; begun = λ h. absurd (h refl); rest = rw (none-inside 256) })
 
-mul-wide : tie.Need-mul-wide Inv-loop μ-loop
-mul-wide c = search needs
+mul-shape-number : tie.Need-mul-shape-number Inv-loop μ-loop
+mul-shape-number c = search needs
 
-shared-slice-read-wide : tie.Need-shared-slice-read-wide Inv-loop μ-loop
-shared-slice-read-wide c = search needs
+shared-slice-read-shape-number : tie.Need-shared-slice-read-shape-number Inv-loop μ-loop
+shared-slice-read-shape-number c = search needs
 
-wide-requires : tie.Need-wide-requires Inv-loop μ-loop
-wide-requires c κs = search needs
+shape-number-requires : tie.Need-shape-number-requires Inv-loop μ-loop
+shape-number-requires c κs = search needs
 
 returns : tie.Need-returns Inv-loop μ-loop
-returns c = rw (risen-10 (c .before .before .before .before .loop .inv .0) (c .before .before .before .loop-test .taken) (c .before .wide .ensures) (omega arith))
+returns c = rw (risen-10 (c .before .before .before .before .loop .inv .0) (c .before .before .before .loop-test .taken) (c .before .shape-number .ensures) (omega arith))
 
 shown-requires : tie.Need-shown-requires Inv-loop μ-loop
 shown-requires c κs = search needs
 
 returns-2 : tie.Need-returns-2 Inv-loop μ-loop
-returns-2 c = rw (risen-11 (c .before .before .before .before .before .before .loop .inv .0) (c .before .before .before .before .before .loop-test .taken) (c .before .before .before .wide .ensures) (omega arith) (c .before .shown .ensures) (c .if2 .taken))
+returns-2 c = rw (risen-11 (c .before .before .before .before .before .before .loop .inv .0) (c .before .before .before .before .before .loop-test .taken) (c .before .before .before .shape-number .ensures) (omega arith) (c .before .shown .ensures) (c .if2 .taken))
 
 pass-uneven-requires : tie.Need-pass-uneven-requires Inv-loop μ-loop
 pass-uneven-requires c κs = let l = c .before .before .before .before .before .before .before .loop in
@@ -59,7 +59,7 @@ loop-less c = search needs
 loop-again : tie.Need-loop-again Inv-loop μ-loop
 loop-again c = let l = c .before .before .before .before .before .before .before .before .before .loop in
     let h = c .before .before .before .before .before .before .before .before .loop-test .taken in
-    (risen-on (l .inv .0) h (c .before .before .before .before .before .before .wide .ensures) (c .before .before .before .before .before .if1 .left) (c .before .before .before .before .shown .ensures) (c .before .before .before .if2 .left), kept-on (l .inv .0) (l .inv .1) h (c .before .before .before .before .shown .ensures) (c .before .before .before .if2 .left) (c .before .before .if3 .left) (c .before .before .before .before .before .before .wide .ensures) (c .toggle .ensures))
+    (risen-on (l .inv .0) h (c .before .before .before .before .before .before .shape-number .ensures) (c .before .before .before .before .before .if1 .left) (c .before .before .before .before .shown .ensures) (c .before .before .before .if2 .left), kept-on (l .inv .0) (l .inv .1) h (c .before .before .before .before .shown .ensures) (c .before .before .before .if2 .left) (c .before .before .if3 .left) (c .before .before .before .before .before .before .shape-number .ensures) (c .toggle .ensures))
 
 returns-4 : tie.Need-returns-4 Inv-loop μ-loop
 returns-4 c = asked-fine (c .before .before .loop .inv .0) (c .before .before .loop .inv .1) (c .before .before .before .before .before .pre .2) (c .before .loop-test .left) (c .if4 .taken)
@@ -77,9 +77,9 @@ pass-spec =
     Inv-loop
     μ-loop
     loop-holds
-    mul-wide
-    shared-slice-read-wide
-    wide-requires
+    mul-shape-number
+    shared-slice-read-shape-number
+    shape-number-requires
     returns
     shown-requires
     returns-2

@@ -17,23 +17,23 @@ loop-holds : tie.Need-loop-holds Inv-loop μ-loop
 loop-holds c = let s = c .before .before in
     record { positions = s .pre .0; shapes = s .pre .1; within = s .pre .3; order = refl }
 
-mul-wide : tie.Need-mul-wide Inv-loop μ-loop
-mul-wide c = search needs
+mul-shape-number : tie.Need-mul-shape-number Inv-loop μ-loop
+mul-shape-number c = search needs
 
-shared-slice-read-wide : tie.Need-shared-slice-read-wide Inv-loop μ-loop
-shared-slice-read-wide c = search needs
+shared-slice-read-shape-number : tie.Need-shared-slice-read-shape-number Inv-loop μ-loop
+shared-slice-read-shape-number c = search needs
 
-wide-requires : tie.Need-wide-requires Inv-loop μ-loop
-wide-requires c κs = search needs
+shape-number-requires : tie.Need-shape-number-requires Inv-loop μ-loop
+shape-number-requires c κs = search needs
 
 returns : tie.Need-returns Inv-loop μ-loop
-returns c = rw (risen-10 (c .before .before .before .before .loop .inv) (c .before .before .before .loop-test .taken) (c .before .wide .ensures) (c .if1 .taken))
+returns c = rw (risen-10 (c .before .before .before .before .loop .inv) (c .before .before .before .loop-test .taken) (c .before .shape-number .ensures) (c .if1 .taken))
 
 shown-requires : tie.Need-shown-requires Inv-loop μ-loop
 shown-requires c κs = search needs
 
 returns-2 : tie.Need-returns-2 Inv-loop μ-loop
-returns-2 c = rw (risen-11 (c .before .before .before .before .before .before .loop .inv) (c .before .before .before .before .before .loop-test .taken) (c .before .before .before .wide .ensures) (c .before .before .if1 .left) (c .before .shown .ensures) (c .if2 .taken))
+returns-2 c = rw (risen-11 (c .before .before .before .before .before .before .loop .inv) (c .before .before .before .before .before .loop-test .taken) (c .before .before .before .shape-number .ensures) (c .before .before .if1 .left) (c .before .shown .ensures) (c .if2 .taken))
 
 add-i : tie.Need-add-i Inv-loop μ-loop
 add-i c = search needs
@@ -42,7 +42,7 @@ loop-less : tie.Need-loop-less Inv-loop μ-loop
 loop-less c = search needs
 
 loop-again : tie.Need-loop-again Inv-loop μ-loop
-loop-again c = risen-on (c .before .before .before .before .before .before .loop .inv) (c .before .before .before .before .before .loop-test .taken) (c .before .before .before .wide .ensures) (c .before .before .if1 .left) (c .before .shown .ensures) (c .if2 .left)
+loop-again c = risen-on (c .before .before .before .before .before .before .loop .inv) (c .before .before .before .before .before .loop-test .taken) (c .before .before .before .shape-number .ensures) (c .before .before .if1 .left) (c .before .shown .ensures) (c .if2 .left)
 
 sub-t13 : tie.Need-sub-t13 Inv-loop μ-loop
 sub-t13 c = search needs
@@ -57,9 +57,9 @@ pass-uneven-spec =
     Inv-loop
     μ-loop
     loop-holds
-    mul-wide
-    shared-slice-read-wide
-    wide-requires
+    mul-shape-number
+    shared-slice-read-shape-number
+    shape-number-requires
     returns
     shown-requires
     returns-2

@@ -1,9 +1,9 @@
--- Below the lowest bit that differs, all bits are what is open.
-use Prim.Native.Nat.{_/_, _^_, _+_, _<_}
+-- The lowest bit that differs: below it all bits are what there is before them, and it is something else.
+use Prim.Native.Nat.{_/_, _^_}
 use native.Mathlib.Omega.{arith}
 use borrow.Author.Needs.{needs}
-use lib.Count.{trailingZeros, trailing-le}
-use Rattle.line_sweeping.proofs.BitLaws.{zeros-off}
+use lib.Count.{trailing-le}
+use Rattle.line_sweeping.proofs.BitLaws.{next-unlike}
 use Rattle.line_sweeping.proofs.change.Statement.{statement}
 use Rattle.line_sweeping.proofs.change.Tie as tie
 
@@ -20,14 +20,7 @@ add-result : tie.Need-add-result
 add-result c = omega (arith, c .wide-count .ensures, trailing-le 64 (c .before .differing .result / 2 ^ (c .before .before .args .j)), c .before .before .pre)
 
 returns : tie.Need-returns
-returns c = let d = c .before .differing .result in
-    let j = c .before .before .args .j in
-    record {
-      rises = omega arith;
-      alike = λ b lo hi top.
-          let below : b < trailingZeros 64 (d / 2 ^ j) + j = omega (arith, c .wide-count .ensures) in
-          c .before .differing .ensures b top (zeros-off 64 d j b lo below);
-    }
+returns c = next-unlike _ _ _ _ _ (c .before .differing .ensures) (c .wide-count .ensures)
 
 pub change-spec : {M : Type 1} → statement M
 change-spec =

@@ -1,66 +1,66 @@
--- Word by word over a block's row.
-use Prim.Native.Nat.{_+_, _-_, _*_, _≤_, _<_}
-use native.Mathlib.Omega.{arith}
-use mathlib.Core.Path.{_≡_}
-use Rattle.line_strips.specs.Strips.{cell}
-use Rattle.line_sweeping.proofs.PassLaws.{room-same, swept-none, swept-word, swept-end}
-use Rattle.line_sweeping.specs.Steps.{Swept}
+-- From one column that differs to the next: those found and those still to find are all.
+use Prim.Native.Nat.{_-_}
+use borrow.Author.Needs.{needs}
+use Rattle.line_sweeping.proofs.ChangeLaws.{Going, going-start, going-end, going-word, going-rest, going-reached, going-on}
 use Rattle.line_sweeping.proofs.sweep.Statement.{statement}
 use Rattle.line_sweeping.proofs.sweep.Tie as tie
 
 abbrev Inv-loop : tie.InvT-loop
-Inv-loop line at wl₀ ws₀ we₀ a e row r₀ k₀ i₀ wl ws we r k i = (a ≤ i) × (i ≤ e) × (i < e → i ≡ a + 64 * k) × Swept line at (cell row) a e wl₀ ws₀ we₀ r₀ wl ws we r i
+Inv-loop line at a e metal cols₀ row m f₀ j₀ cols f j = Going line at row a e metal cols f j
 
 abbrev μ-loop : tie.MeasureT-loop
-μ-loop line at wl₀ ws₀ we₀ a e row r₀ k₀ i₀ wl ws we r k i = e - i
+μ-loop line at a e metal cols₀ row m f₀ j₀ cols f j = e - a - j
+
+sub-m : tie.Need-sub-m Inv-loop μ-loop
+sub-m c = search needs
 
 loop-holds : tie.Need-loop-holds Inv-loop μ-loop
-loop-holds c = let s = c .before .before in (omega arith, s .pre .0, (λ h. omega arith), swept-none _ _ _ _ _ _ _ _ _ (s .pre .4))
+loop-holds c = search going-start
 
-word-end-requires : tie.Need-word-end-requires Inv-loop μ-loop
-word-end-requires c κs = omega (arith, c .before .loop .inv .0, c .before .loop .inv .1)
+mul-change : tie.Need-mul-change Inv-loop μ-loop
+mul-change c = search needs
 
-mul-w : tie.Need-mul-w Inv-loop μ-loop
-mul-w c = let s = c .before .before .before .before .before in omega (arith, s .pre .2, c .before .before .loop .inv .2 (omega (arith, c .word-end .ensures)), c .word-end .ensures)
+array-read-change : tie.Need-array-read-change Inv-loop μ-loop
+array-read-change c = search needs
 
-array-read-w : tie.Need-array-read-w Inv-loop μ-loop
-array-read-w c = let s = c .before .before .before .before .before in omega (arith, s .pre .2, c .before .before .loop .inv .2 (omega (arith, c .word-end .ensures)), c .word-end .ensures)
+change-requires : tie.Need-change-requires Inv-loop μ-loop
+change-requires c κs = search needs
 
-sweep-word-requires : tie.Need-sweep-word-requires Inv-loop μ-loop
-sweep-word-requires c κs = let s = c .before .before .before .before .before .before .before .before in
-    let l = c .before .before .before .before .before .loop in
-    let b = c .before .before .before .word-end .ensures in
-    (omega (arith, b .0), omega (arith, b .1, s .pre .1), b .2, s .pre .3, l .inv .3 .within, room-same _ _ _ _ _ _ _ (l .inv .3 .same) (s .pre .5))
+mul-j : tie.Need-mul-j Inv-loop μ-loop
+mul-j c = search needs
 
-add-k : tie.Need-add-k Inv-loop μ-loop
-add-k c = let s = c .before .before .before .before .before .before .before .before .before .before .before .before .before in
-    let b = c .before .before .before .before .before .before .before .before .word-end .ensures in
-    omega (arith, s .pre .2, c .before .before .before .before .before .before .before .before .before .before .loop .inv .2 (omega (arith, b)), b)
+add-j : tie.Need-add-j Inv-loop μ-loop
+add-j c = search needs
 
 loop-less : tie.Need-loop-less Inv-loop μ-loop
-loop-less c = let b = c .before .before .before .before .before .before .before .before .word-end .ensures in omega (arith, b .0, b .1)
+loop-less c = search needs
 
 loop-again : tie.Need-loop-again Inv-loop μ-loop
-loop-again c = let l = c .before .before .before .before .before .before .before .before .before .before .loop in
-    let b = c .before .before .before .before .before .before .before .before .word-end .ensures in
-    let at = l .inv .2 (omega (arith, b)) in (
-      omega (arith, l .inv .0, b .0),
-      b .1,
-      (λ h. omega (arith, b .3 h, at)),
-      swept-word _ _ _ _ _ _ _ _ _ _ _ _ _ _ _ _ _ _ _ _ (l .inv .3) (c .before .before .before .before .sweep-word .ensures) at (b .1) (b .2),
-    )
+loop-again c = search (going-word, going-on)
 
-same-length : tie.Need-same-length Inv-loop μ-loop
-same-length c = c .before .loop .inv .3 .same .lines
+mul-c : tie.Need-mul-c Inv-loop μ-loop
+mul-c c = search needs
 
-same-length-2 : tie.Need-same-length-2 Inv-loop μ-loop
-same-length-2 c = c .before .loop .inv .3 .same .starts
-
-same-length-3 : tie.Need-same-length-3 Inv-loop μ-loop
-same-length-3 c = c .before .loop .inv .3 .same .ends
+add-c : tie.Need-add-c Inv-loop μ-loop
+add-c c = search needs
 
 returns : tie.Need-returns Inv-loop μ-loop
-returns c = swept-end _ _ _ _ _ _ _ _ _ _ _ _ _ _ (c .before .loop .inv .3) (c .before .loop .inv .1) (c .loop-test .left)
+returns c = search going-rest
+
+step-requires : tie.Need-step-requires Inv-loop μ-loop
+step-requires c κs = search (going-reached, needs)
+
+add-j-2 : tie.Need-add-j-2 Inv-loop μ-loop
+add-j-2 c = search needs
+
+loop-less-2 : tie.Need-loop-less-2 Inv-loop μ-loop
+loop-less-2 c = search needs
+
+loop-again-2 : tie.Need-loop-again-2 Inv-loop μ-loop
+loop-again-2 c = search (going-word, going-on)
+
+returns-2 : tie.Need-returns-2 Inv-loop μ-loop
+returns-2 c = search going-end
 
 pub sweep-spec : {M : Type 1} → statement M
 sweep-spec =
@@ -68,15 +68,20 @@ sweep-spec =
     (tie.spec
     Inv-loop
     μ-loop
+    sub-m
     loop-holds
-    word-end-requires
-    mul-w
-    array-read-w
-    sweep-word-requires
-    add-k
+    mul-change
+    array-read-change
+    change-requires
+    mul-j
+    add-j
     loop-less
     loop-again
-    same-length
-    same-length-2
-    same-length-3
-    returns)
+    mul-c
+    add-c
+    returns
+    step-requires
+    add-j-2
+    loop-less-2
+    loop-again-2
+    returns-2)

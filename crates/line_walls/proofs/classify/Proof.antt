@@ -1,9 +1,6 @@
 -- Each refusal writes nothing; else the lists are judged good and have room, and the walls are written.
-use denote.Ref.{now}
+use Rattle.line_walls.proofs.JobLaws.{refused-judged, refused-room, accepted-lists, walls-given}
 use borrow.Author.Needs.{needs}
-use Rattle.lines.proofs.Judgement.{judged-lengths}
-use Rattle.line_walls.proofs.Evenness.{judged-out}
-use Rattle.line_walls.proofs.JobLaws.{told, half-room, judged-below, classified-judged, classified-roomy, classified-walls}
 use Rattle.line_walls.proofs.classify.Statement.{statement}
 use Rattle.line_walls.proofs.classify.Tie as tie
 
@@ -14,8 +11,7 @@ enum-known-v : tie.Need-enum-known-v
 enum-known-v c = search needs
 
 returns : tie.Need-returns
-returns c = let s = c .before .before .before .before .before .before .before .args in
-    λ f q o. classified-judged (s .names) (now (s .line)) (now (s .at)) (now (s .shape)) f _ _ _ _ _ (told _ _ _ (c .before .before .before .judge .ensures) (c .before .v .given .1))
+returns c = search refused-judged
 
 enum-told : tie.Need-enum-told
 enum-told c = search needs
@@ -23,21 +19,18 @@ enum-told c = search needs
 room-requires : tie.Need-room-requires
 room-requires c κs = search needs
 
-enum-known-w : tie.Need-enum-known-w
-enum-known-w c = search needs
+enum-known-room : tie.Need-enum-known-room
+enum-known-room c = search needs
 
 returns-2 : tie.Need-returns-2
-returns-2 c = let s = c .before .before .before .before .before .before .before .before .before .before .args in
-    λ f q o. classified-roomy (s .names) (now (s .line)) (now (s .at)) (now (s .shape)) f _ _ _ _ _ (told _ _ _ (c .before .before .before .before .before .before .judge .ensures) (c .before .before .before .before .enum-told .given .1)) (told _ _ _ (c .before .before .before .room .ensures) (c .before .w .given .1))
+returns-2 c = search refused-room
 
 enum-told-2 : tie.Need-enum-told-2
 enum-told-2 c = search needs
 
 write-requires : tie.Need-write-requires
-write-requires c κs = let s = c .before .before .before .before .before .before .before .before .before .before .before .before .args in
-    let j = told _ _ _ (c .before .before .before .before .before .before .before .before .judge .ensures) (c .before .before .before .before .before .before .enum-told .given .1) in
-    let l = judged-lengths (s .names) (now (s .line)) (now (s .at)) (now (s .shape)) j in
-    (c .before .before .before .before .before .before .before .before .before .before .before .before .pre, (l .0, l .1, judged-below (s .names) (now (s .line)) (now (s .at)) (now (s .shape)) j, judged-out (s .names) (now (s .line)) (now (s .at)) (now (s .shape)) (c .before .before .before .before .before .before .before .before .before .before .before .before .pre .2) j, half-room _ _ _ _ (told _ _ _ (c .before .before .before .before .before .room .ensures) (c .before .before .before .enum-told2 .given .1))))
+write-requires c κs = let s = c .before .before .before .before .before .before .before .before .before .before .before .before .before .before .before .before in
+    (s .pre, accepted-lists (s .pre) _ _ _ _ _ (c .before .before .before .before .before .before .before .before .before .before .judge .ensures) (c .before .before .before .before .before .before .before .before .enum-told .given .1) _ (c .before .before .before .before .before .before .before .room .ensures) (c .before .before .before .before .before .enum-told2 .given .1))
 
 same-length : tie.Need-same-length
 same-length c = search needs
@@ -48,9 +41,14 @@ same-length-2 c = search needs
 same-length-3 : tie.Need-same-length-3
 same-length-3 c = search needs
 
+same-length-4 : tie.Need-same-length-4
+same-length-4 c = search needs
+
+same-length-5 : tie.Need-same-length-5
+same-length-5 c = search needs
+
 returns-3 : tie.Need-returns-3
-returns-3 c = let s = c .before .before .before .before .before .before .before .before .before .before .before .before .before .before .before .before .before .args in
-    λ f q o. classified-walls (s .names) (now (s .line)) (now (s .at)) (now (s .shape)) f _ _ _ _ _ _ _ (told _ _ _ (c .before .before .before .before .before .before .before .before .before .before .before .before .before .judge .ensures) (c .before .before .before .before .before .before .before .before .before .before .before .enum-told .given .1)) (told _ _ _ (c .before .before .before .before .before .before .before .before .before .before .room .ensures) (c .before .before .before .before .before .before .before .before .enum-told2 .given .1)) (c .before .before .before .before .write .ensures f q o)
+returns-3 c = search walls-given
 
 pub classify-spec : {M : Type 1} → statement M
 classify-spec =
@@ -61,11 +59,13 @@ classify-spec =
     returns
     enum-told
     room-requires
-    enum-known-w
+    enum-known-room
     returns-2
     enum-told-2
     write-requires
     same-length
     same-length-2
     same-length-3
+    same-length-4
+    same-length-5
     returns-3)

@@ -16,8 +16,8 @@ pub use walls::{by_walk, by_words};
 pub type Refused = (u8, usize);
 
 /// Are three answer lists long enough?
-fn enough(rooms: [usize; 3], needed: [usize; 3]) -> Result<(), Refused> {
-    for k in 0..3 {
+fn enough<const LISTS: usize>(rooms: [usize; LISTS], needed: [usize; LISTS]) -> Result<(), Refused> {
+    for k in 0..LISTS {
         if rooms[k] < needed[k] {
             return Err((9, needed[k]));
         }

@@ -122,9 +122,10 @@ fn walls(sheet_path: &str, crossings_path: &str) -> Result<String, Stop> {
         lists::crossings(&crossings, &Shapes::of(&names)).map_err(|wrong| Stop::File(shown(crossings_path), wrong))?;
     let walls = kressedach::classify(&sheet, &list.entries)
         .map_err(|refusal| Stop::Refused(refusal, words::of_crossings(&sheet, &names, &list, refusal, &shown(crossings_path))))?;
-    let mut text = String::from("line,start,end\n");
+    let name = |shape: u16| csv::quoted(names.get(usize::from(shape)).copied().unwrap_or_default());
+    let mut text = String::from("line,start,end,start_shape,end_shape\n");
     for wall in walls {
-        let _ = writeln!(text, "{},{},{}", wall.line, wall.start, wall.end);
+        let _ = writeln!(text, "{},{},{},{},{}", wall.line, wall.start, wall.end, name(wall.start_shape), name(wall.end_shape));
     }
     Ok(text)
 }

@@ -1,0 +1,2 @@
+mod GroupLaws
+mod TallyLaws

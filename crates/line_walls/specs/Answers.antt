@@ -1,0 +1,19 @@
+-- The promise of the line job: the answer and each lent list, for success and refusal.
+use Prim.Native.Nat.{ℕ}
+use mathlib.Core.Path.{_≡_}
+use mathlib.Core.List.{List}
+use lib.ListN.{length}
+use Rattle.outcome.specs.Outcome.{Outcome, given, refused, part}
+use Rattle.lines.specs.Lines.{AnswerLists, Wall}
+use Rattle.lines.specs.Given.{WallLists}
+use Rattle.line_walls.specs.declared.LinesAnswer.{LinesAnswer}
+use Rattle.line_walls.specs.declared.LinesAnswer.the-variants.{Walls, Refused}
+
+-- The answer in the paper's values: the number of walls, or the refusal's number and place.
+abbrev pub answered : LinesAnswer → Outcome ℕ
+answered (Walls count) = given count
+answered (Refused number place) = refused number place
+
+pub record LinesAnswered (o : Outcome (List Wall)) (lent : AnswerLists) (r : LinesAnswer) (after : AnswerLists) : Type 0 where
+  pub answer : answered r ≡ part length o
+  pub lists : WallLists o lent after
