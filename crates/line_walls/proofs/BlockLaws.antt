@@ -13,22 +13,27 @@ use Rattle.formula.specs.Flips.{after}
 use Rattle.lines.specs.Lines.{CrossingLists, crossingLists, entries, AnswerLists, Wall, shapeAt, wallsFrom, walls}
 use Rattle.line_strips.specs.Strips.{wide, columns, cell, Stand}
 use Rattle.line_strips.proofs.Blocks.{stand-zeros}
-use Rattle.line_words.specs.Blocks.{mostWaiting}
-use Rattle.line_words.proofs.Waits.{most-codes}
+use Rattle.line_words.specs.Stretches.{Workable, StandFor}
+use Rattle.line_words.specs.declared.Arranged.{Arranged}
 use Rattle.line_sweeping.specs.Changes.{endsIn, changesFrom, Sweepable, Changes}
 use Rattle.line_sweeping.proofs.ChangeLaws.{changes-listed}
-use Rattle.line_walls.specs.Walls.{edgeOf, openOf, spent, wallsAt, SameLengths, Delivering, Delivered, BlockEnd, BlockReady, BlockChanges, FewCodes, AcceptedLists, Deep, Written}
+use Rattle.line_walls.specs.Walls.{edgeOf, openOf, spent, wallsAt, SameLengths, Delivering, Delivered, BlockEnd, BlockReady, BlockChanges, FewCodes, WellArranged, AcceptedLists, Written, WallsWritten}
 use Rattle.line_walls.specs.declared.Course.{Course}
 use Rattle.line_walls.proofs.ListLaws.{drop-more, same-none, same-more, room-same, PutAll, all-none, all-more, all-written}
 use Rattle.line_walls.proofs.WallLaws.{metalOf, wallsOn, walls-end, walls-block}
 
--- ---- the two stacks
+-- ---- the formula arranged
 
-pub few-deep : {codes : List ℕ} {n m : ℕ} {st : List ℕ} → m ≡ mostWaiting 0 (take n codes) → m ≤ 32 → length st ≡ 256 → Deep codes n st
-few-deep is few long = record { deep = omega arith }
+module _ {stretches links : List ℕ} {arranged : Arranged} {names : ℕ} where
+  pub few-rows : {codes : List ℕ} {n : ℕ} {waiting : List ℕ} → FewCodes codes n names → Workable stretches links arranged → arranged .rows ≤ 16 → length waiting ≡ 128 → WellArranged stretches links arranged names waiting
+  few-rows ok w few long = record { workable = w; few-names = ok .few-names; enough = omega (arith, few, long) }
 
-pub all-deep : {codes : List ℕ} {n names : ℕ} {st : List ℕ} → FewCodes codes n names → length st ≡ 16384 → Deep codes n st
-all-deep {codes} {n} ok long = record { deep = omega (arith, ok .few-codes, most-codes codes n) }
+  pub all-rows : {codes : List ℕ} {n : ℕ} {waiting : List ℕ} → FewCodes codes n names → Workable stretches links arranged → length waiting ≡ 5456 → WellArranged stretches links arranged names waiting
+  all-rows ok w long = record { workable = w; few-names = ok .few-names; enough = omega (arith, w .enough, long) }
+
+  pub written-codes : {codes : List ℕ} {c : CrossingLists} {lent : AnswerLists} {k : ℕ} {after′ : AnswerLists} → StandFor codes stretches links arranged → WallsWritten stretches links arranged names c lent k after′
+      → (f : Formula) → codes ≡ postfix f → Over names f → Written (walls f (entries c)) lent k after′
+  written-codes stand w f q o = w .written f (rw q at stand) o
 
 -- ---- what the loop keeps: the first a crossings are done
 
@@ -37,18 +42,17 @@ pub record Passed (f : Formula) (c : CrossingLists) (lent : AnswerLists) (a : �
   pub rest : drop (r .count) (walls f (entries c)) ≡ wallsFrom (inside f) (shapeAt (entries c)) (after outside (take a (c .shapes))) (openOf r) (drop a (entries c))
   pub put : PutAll (walls f (entries c)) lent (r .count) now
 
-pub record Going (codes : List ℕ) (n names : ℕ) (st₀ : List ℕ) (c : CrossingLists) (lent : AnswerLists) (st rows cols : List ℕ) (a : ℕ) (r : Course) (now : AnswerLists) : Type 0 where
-  pub coded : FewCodes codes n names
-  pub deep : mostWaiting 0 (take n codes) * wide ≤ length st
+pub record Going (stretches links : List ℕ) (arranged : Arranged) (names : ℕ) (waiting₀ : List ℕ) (c : CrossingLists) (lent : AnswerLists) (waiting rows cols : List ℕ) (a : ℕ) (r : Course) (now : AnswerLists) : Type 0 where
+  pub well : WellArranged stretches links arranged names waiting
   pub ok : AcceptedLists names c lent
   pub within : a ≤ length (c .lines)
   pub long : length rows ≡ 256 * wide
   pub sized : length cols ≡ columns
-  pub stack : length st ≡ length st₀
+  pub kept : length waiting ≡ length waiting₀
   pub before : spent r ≤ a
   pub same : SameLengths lent now
   pub stand : a < length (c .lines) → Stand names rows (columns - 1) (take a (c .shapes))
-  pub passed : (f : Formula) → take n codes ≡ postfix f → Over names f → Passed f c lent a r now
+  pub passed : (f : Formula) → StandFor (postfix f) stretches links arranged → Over names f → Passed f c lent a r now
 
 metal-open : (r : Course) → metalOf (openOf r) ≡ r .metal
 metal-open r = by (r .metal)
@@ -57,37 +61,35 @@ metal-open r = by (r .metal)
     by true = refl
     by false = refl
 
-pub block-sweepable : {codes : List ℕ} {n names : ℕ} {st : List ℕ} {ls : List ℕ} {ps : List ℤ} {ss : List ℕ} {a e : ℕ} {rows cols : List ℕ} → BlockReady codes n names st (crossingLists ls ps ss) a e rows cols → Sweepable ls ps a e cols
+pub block-sweepable : {stretches links : List ℕ} {arranged : Arranged} {names : ℕ} {waiting : List ℕ} {ls : List ℕ} {ps : List ℤ} {ss : List ℕ} {a e : ℕ} {rows cols : List ℕ} → BlockReady stretches links arranged names waiting (crossingLists ls ps ss) a e rows cols → Sweepable ls ps a e cols
 block-sweepable g = record { ordered = omega (arith, g .end .some); inside = g .end .inside; narrow = g .end .narrow; long = g .ascending .positions; sized = g .sized }
 
-pub going-start : {codes : List ℕ} {n names : ℕ} {st : List ℕ} {c : CrossingLists} {lent : AnswerLists} {r : Course} → FewCodes codes n names → Deep codes n st → AcceptedLists names c lent → r .metal ≡ false → r .count ≡ 0
-    → Going codes n names st c lent st (replicate (256 * wide) 0) (replicate columns 0) 0 r lent
+pub going-start : {stretches links : List ℕ} {arranged : Arranged} {names : ℕ} {waiting : List ℕ} {c : CrossingLists} {lent : AnswerLists} {r : Course} → WellArranged stretches links arranged names waiting → AcceptedLists names c lent → r .metal ≡ false → r .count ≡ 0
+    → Going stretches links arranged names waiting c lent waiting (replicate (256 * wide) 0) (replicate columns 0) 0 r lent
 unfolding after
-going-start {r = r} coded deep ok air none-yet =
+going-start {r = r} well ok air none-yet =
     record {
-      coded = coded;
-      deep = deep .deep;
+      well = well;
       ok = ok;
       within = omega arith;
       long = refl;
       sized = refl;
-      stack = refl;
+      kept = refl;
       before = rw (air, none-yet) (omega arith);
       same = same-none;
       stand = λ h. stand-zeros _ (256 * wide) (columns - 1);
       passed = λ f q o. record { rest = rw (air, none-yet); put = rw none-yet all-none };
     }
 
-module _ {codes : List ℕ} {n names : ℕ} {st₀ : List ℕ} {c : CrossingLists} {lent : AnswerLists} {st rows cols : List ℕ} {a : ℕ} {r : Course} {now : AnswerLists} (g : Going codes n names st₀ c lent st rows cols a r now) where
-  pub going-end : length (c .lines) ≤ a → (f : Formula) → take n codes ≡ postfix f → Over names f → Written (walls f (entries c)) lent (r .count) now
-  going-end h f q o = let p = g .passed f q o in all-written (p .put) (p .rest ∙ walls-end c (g .ok .ascending) (inside f) a (openOf r) h)
+module _ {stretches links : List ℕ} {arranged : Arranged} {names : ℕ} {waiting₀ : List ℕ} {c : CrossingLists} {lent : AnswerLists} {waiting rows cols : List ℕ} {a : ℕ} {r : Course} {now : AnswerLists} (g : Going stretches links arranged names waiting₀ c lent waiting rows cols a r now) where
+  pub going-end : length (c .lines) ≤ a → WallsWritten stretches links arranged names c lent (r .count) now
+  going-end h = record { written = λ f q o. let p = g .passed f q o in all-written (p .put) (p .rest ∙ walls-end c (g .ok .ascending) (inside f) a (openOf r) h) }
 
   module _ {e : ℕ} where
-    pub going-ready : BlockEnd a (length (c .lines)) e → BlockReady codes n names st c a e rows cols
+    pub going-ready : BlockEnd a (length (c .lines)) e → BlockReady stretches links arranged names waiting c a e rows cols
     going-ready end =
         record {
-          coded = g .coded;
-          deep = record { deep = g .deep };
+          well = g .well;
           ascending = g .ok .ascending;
           below = g .ok .below;
           even = g .ok .even;
@@ -97,7 +99,7 @@ module _ {codes : List ℕ} {n names : ℕ} {st₀ : List ℕ} {c : CrossingList
           sized = g .sized;
         }
 
-    module _ {st′ rows′ cols′ : List ℕ} {m : ℕ} (b : BlockChanges codes n names st c a e (r .metal) st′ rows′ cols′ m) where
+    module _ {waiting′ rows′ cols′ : List ℕ} {m : ℕ} (b : BlockChanges stretches links arranged names waiting c a e (r .metal) waiting′ rows′ cols′ m) where
       pub going-delivering : Delivering c a cols′ m r now
       going-delivering =
           let s = b .changes in
@@ -113,16 +115,15 @@ module _ {codes : List ℕ} {n names : ℕ} {st₀ : List ℕ} {c : CrossingList
             room = room-same (g .same) (g .ok .room);
           }
 
-      pub going-on : {r′ : Course} {after′ : AnswerLists} → Delivered c a cols′ m r now r′ after′ → Going codes n names st₀ c lent st′ rows′ cols′ e r′ after′
+      pub going-on : {r′ : Course} {after′ : AnswerLists} → Delivered c a cols′ m r now r′ after′ → Going stretches links arranged names waiting₀ c lent waiting′ rows′ cols′ e r′ after′
       going-on {r′ = r′} {after′ = after′} d =
           record {
-            coded = g .coded;
-            deep = omega (arith, g .deep, b .stack);
+            well = record { workable = g .well .workable; few-names = g .well .few-names; enough = omega (arith, g .well .enough, b .same) };
             ok = g .ok;
             within = b .end .inside;
             long = b .long;
             sized = s .sized;
-            stack = b .stack ∙ g .stack;
+            kept = b .same ∙ g .kept;
             before = omega (arith, d .more, g .before, s .few, b .end .some);
             same = same-more (g .same) (d .same);
             stand = λ h. b .block .next (b .end .full h);
@@ -138,7 +139,7 @@ module _ {codes : List ℕ} {n names : ℕ} {st₀ : List ℕ} {c : CrossingList
           s : Changes (c .lines) (c .positions) row a e (r .metal) cols′ m
           s = b .changes
 
-          on : (f : Formula) → take n codes ≡ postfix f → Over names f → Passed f c lent e r′ after′
+          on : (f : Formula) → StandFor (postfix f) stretches links arranged → Over names f → Passed f c lent e r′ after′
           on f q o =
               let p = g .passed f q o in
               let all : List Wall = walls f (entries c) in

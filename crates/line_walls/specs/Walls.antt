@@ -8,10 +8,13 @@ use lib.IntN.{pos}
 use lib.ListN.{length, getD, take}
 use lib.Seq.{sets}
 use Rattle.outcome.specs.Lent.{filled}
-use Rattle.lines.specs.Lines.{CrossingLists, entries, AnswerLists, Wall, Edge, edgeAt, shapeAt}
+use Rattle.formula.specs.Formula.{Formula, postfix, Over}
+use Rattle.lines.specs.Lines.{CrossingLists, entries, AnswerLists, Wall, Edge, edgeAt, shapeAt, walls}
 use Rattle.lines.specs.Steps.{groupEndsAt, Ascending}
 use Rattle.line_strips.specs.Strips.{wide, columns, Below, Even, Stand}
-use Rattle.line_words.specs.Blocks.{mostWaiting, Block}
+use Rattle.line_words.specs.Stretches.{Workable, StandFor}
+use Rattle.line_words.specs.Blocks.{Block}
+use Rattle.line_words.specs.declared.Arranged.{Arranged}
 use Rattle.line_sweeping.specs.Changes.{Changes}
 use Rattle.line_shapes.specs.Groups.{GroupEnd}
 use Rattle.line_walls.specs.declared.Spot.{Spot}
@@ -156,14 +159,15 @@ pub record FewCodes (codes : List ℕ) (n names : ℕ) : Type 0 where
   pub few-codes : n ≤ 2048
   pub few-names : names ≤ 256
 
--- the stack of rows is deep enough
-pub record Deep (codes : List ℕ) (n : ℕ) (st : List ℕ) : Type 0 where
-  pub deep : mostWaiting 0 (take n codes) * wide ≤ length st
+-- the formula arranged, with rows enough for the results that wait
+pub record WellArranged (stretches links : List ℕ) (arranged : Arranged) (names : ℕ) (waiting : List ℕ) : Type 0 where
+  pub workable : Workable stretches links arranged
+  pub few-names : names ≤ 256
+  pub enough : arranged .rows * wide ≤ length waiting
 
 -- the shapes' rows stand for the crossings before a
-pub record BlockReady (codes : List ℕ) (n names : ℕ) (st : List ℕ) (c : CrossingLists) (a e : ℕ) (rows cols : List ℕ) : Type 0 where
-  pub coded : FewCodes codes n names
-  pub deep : Deep codes n st
+pub record BlockReady (stretches links : List ℕ) (arranged : Arranged) (names : ℕ) (waiting : List ℕ) (c : CrossingLists) (a e : ℕ) (rows cols : List ℕ) : Type 0 where
+  pub well : WellArranged stretches links arranged names waiting
   pub ascending : Ascending c
   pub below : Below names (c .shapes)
   pub even : Even (c .lines) (c .shapes)
@@ -173,16 +177,20 @@ pub record BlockReady (codes : List ℕ) (n names : ℕ) (st : List ℕ) (c : Cr
   pub sized : length cols ≡ columns
 
 -- metal changes at the columns listed, by the row of what the formula says after each crossing; a full block leaves the shapes' rows to the next
-pub record BlockChanges (codes : List ℕ) (n names : ℕ) (st : List ℕ) (c : CrossingLists) (a e : ℕ) (metal : Bool) (st′ rows cols : List ℕ) (m : ℕ) : Type 0 where
+pub record BlockChanges (stretches links : List ℕ) (arranged : Arranged) (names : ℕ) (waiting : List ℕ) (c : CrossingLists) (a e : ℕ) (metal : Bool) (waiting′ rows cols : List ℕ) (m : ℕ) : Type 0 where
   pub end : BlockEnd a (length (c .lines)) e
   pub row : List ℕ
-  pub block : Block (take n codes) names (c .shapes) a e rows row
+  pub block : Block stretches links arranged names (c .shapes) a e rows row
   pub changes : Changes (c .lines) (c .positions) row a e metal cols m
   pub long : length rows ≡ 256 * wide
-  pub stack : length st′ ≡ length st
+  pub same : length waiting′ ≡ length waiting
 
 pub record AcceptedLists (names : ℕ) (c : CrossingLists) (lent : AnswerLists) : Type 0 where
   pub ascending : Ascending c
   pub below : Below names (c .shapes)
   pub even : Even (c .lines) (c .shapes)
   pub room : HalfRoom (length (c .lines)) lent
+
+-- the walls of whatever formula the stretches stand for
+pub record WallsWritten (stretches links : List ℕ) (arranged : Arranged) (names : ℕ) (c : CrossingLists) (lent : AnswerLists) (k : ℕ) (after : AnswerLists) : Type 0 where
+  pub written : (f : Formula) → StandFor (postfix f) stretches links arranged → Over names f → Written (walls f (entries c)) lent k after

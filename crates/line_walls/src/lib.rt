@@ -1,14 +1,12 @@
 // The line job for a formula in an array of codes: crossings judged, then their walls written.
 ghost use mathlib.Core.Path.{_≡_};
 ghost use mathlib.Core.Bool.{false};
-ghost use Prim.Native.Nat.{_+_, _*_, _<_, _≤_};
-ghost use lib.ListN.{getD, length, take};
+ghost use Prim.Native.Nat.{_+_, _<_};
+ghost use lib.ListN.{getD, take};
 ghost use Rattle.formula.specs.Formula.{Formula, postfix, Over};
 ghost use Rattle.lines.specs.Lines.{crossingLists, entries, answerLists, walls, classified};
-ghost use Rattle.line_strips.specs.Strips.{wide, columns};
-ghost use Rattle.line_words.specs.Blocks.{mostWaiting};
 ghost use Rattle.line_shapes.specs.Groups.{GroupEnd};
-ghost use Rattle.line_walls.specs.Walls.{wallOf, AtEdge, RoomAt, Put, Turning, Changed, Column, Delivering, Delivered, BlockEnd, BlockReady, BlockChanges, FewCodes, AcceptedLists, Deep, Written};
+ghost use Rattle.line_walls.specs.Walls.{wallOf, AtEdge, RoomAt, Put, Turning, Changed, Column, Delivering, Delivered, BlockEnd, BlockReady, BlockChanges, FewCodes, WellArranged, AcceptedLists, Written, WallsWritten};
 ghost use Rattle.line_walls.specs.Answers.{LinesAnswered};
 
 const COLUMNS: usize = line_sweeping::COLUMNS;
@@ -178,11 +176,12 @@ fn in_air() -> Course
 
 // The columns where metal changes, of the block of the crossings from a to e; how many.
 fn changes(
-    codes: &[u16; 2048],
-    n: usize,
+    stretches: &[u64; 1024],
+    links: &[u32],
+    arranged: line_words::Arranged,
     names: usize,
     shapes: &mut [u64; SHAPES],
-    st: &mut [u64],
+    waiting: &mut [u64],
     line: &[u32],
     at: &[i32],
     shape: &[u16],
@@ -191,19 +190,31 @@ fn changes(
     metal: bool,
     cols: &mut [u16; COLUMNS],
 ) -> usize
-    requires { ⌜ BlockReady (now codes) n names (now st) (crossingLists (now line) (now at) (now shape)) a e (now shapes) (now cols) ⌝ }
-    ensures { λ m. ⌜ BlockChanges (now (codes .entry)) n names (now (st .entry)) (crossingLists (now (line .entry)) (now (at .entry)) (now (shape .entry))) a e metal (now (st .exit)) (now (shapes .exit)) (now (cols .exit)) m ⌝ }
+    requires { ⌜ BlockReady (now stretches) (now links) arranged names (now waiting) (crossingLists (now line) (now at) (now shape)) a e (now shapes) (now cols) ⌝ }
+    ensures { λ m. ⌜ BlockChanges (now (stretches .entry)) (now (links .entry)) arranged names (now (waiting .entry)) (crossingLists (now (line .entry)) (now (at .entry)) (now (shape .entry))) a e metal (now (waiting .exit)) (now (shapes .exit)) (now (cols .exit)) m ⌝ }
 {
-    let row = line_words::block(codes, n, names, shapes, st, line, shape, a, e);
+    let row = line_words::block(
+        stretches,
+        links,
+        arranged,
+        names,
+        shapes,
+        waiting,
+        line,
+        shape,
+        a,
+        e,
+    );
     line_sweeping::sweep(row, line, at, a, e, metal, cols)
 }
 
-// The walls of accepted lists, block by block, with a stack that is deep enough; how many.
+// The walls of accepted lists, block by block, with rows enough for the results that wait; how many.
 fn blocks(
-    codes: &[u16; 2048],
-    n: usize,
+    stretches: &[u64; 1024],
+    links: &[u32],
+    arranged: line_words::Arranged,
     names: usize,
-    st: &mut [u64],
+    waiting: &mut [u64],
     line: &[u32],
     at: &[i32],
     shape: &[u16],
@@ -213,8 +224,8 @@ fn blocks(
     wf: &mut [u16],
     wt: &mut [u16],
 ) -> usize
-    requires { ⌜ FewCodes (now codes) n names × Deep (now codes) n (now st) × AcceptedLists names (crossingLists (now line) (now at) (now shape)) (answerLists (now wl) (now ws) (now we) (now wf) (now wt)) ⌝ }
-    ensures { λ r. ⌜ ((f : Formula) → take n (now (codes .entry)) ≡ postfix f → Over names f → Written (walls f (entries (crossingLists (now (line .entry)) (now (at .entry)) (now (shape .entry))))) (answerLists (now (wl .entry)) (now (ws .entry)) (now (we .entry)) (now (wf .entry)) (now (wt .entry))) r (answerLists (now (wl .exit)) (now (ws .exit)) (now (we .exit)) (now (wf .exit)) (now (wt .exit)))) ⌝ }
+    requires { ⌜ WellArranged (now stretches) (now links) arranged names (now waiting) × AcceptedLists names (crossingLists (now line) (now at) (now shape)) (answerLists (now wl) (now ws) (now we) (now wf) (now wt)) ⌝ }
+    ensures { λ r. ⌜ WallsWritten (now (stretches .entry)) (now (links .entry)) arranged names (crossingLists (now (line .entry)) (now (at .entry)) (now (shape .entry))) (answerLists (now (wl .entry)) (now (ws .entry)) (now (we .entry)) (now (wf .entry)) (now (wt .entry))) r (answerLists (now (wl .exit)) (now (ws .exit)) (now (we .exit)) (now (wf .exit)) (now (wt .exit))) ⌝ }
 {
     let mut shapes = [0u64; SHAPES];
     let mut cols = [0u16; COLUMNS];
@@ -223,11 +234,12 @@ fn blocks(
     while a < line.len() {
         let e = block_end(a, line.len());
         let m = changes(
-            codes,
-            n,
+            stretches,
+            links,
+            arranged,
             names,
             &mut shapes,
-            st,
+            waiting,
             line,
             at,
             shape,
@@ -242,7 +254,7 @@ fn blocks(
     r.count
 }
 
-// The walls of accepted lists; how many. Only a formula that needs a deep stack pays for clearing one.
+// The walls of accepted lists; how many. Only a formula whose results wait in many rows pays for clearing them.
 fn write(
     codes: &[u16; 2048],
     n: usize,
@@ -259,13 +271,17 @@ fn write(
     requires { ⌜ FewCodes (now codes) n names × AcceptedLists names (crossingLists (now line) (now at) (now shape)) (answerLists (now wl) (now ws) (now we) (now wf) (now wt)) ⌝ }
     ensures { λ r. ⌜ ((f : Formula) → take n (now (codes .entry)) ≡ postfix f → Over names f → Written (walls f (entries (crossingLists (now (line .entry)) (now (at .entry)) (now (shape .entry))))) (answerLists (now (wl .entry)) (now (ws .entry)) (now (we .entry)) (now (wf .entry)) (now (wt .entry))) r (answerLists (now (wl .exit)) (now (ws .exit)) (now (we .exit)) (now (wf .exit)) (now (wt .exit)))) ⌝ }
 {
-    if line_words::most_waiting(codes, n) <= 32 {
-        let mut st = [0u64; 256];
+    let mut stretches = [0u64; 1024];
+    let mut links = [0u32; 1024];
+    let arranged = line_words::arrange(codes, n, &mut stretches, &mut links);
+    if arranged.rows <= 16 {
+        let mut waiting = [0u64; 128];
         return blocks(
-            codes,
-            n,
+            &stretches,
+            &links,
+            arranged,
             names,
-            &mut st,
+            &mut waiting,
             line,
             at,
             shape,
@@ -276,12 +292,13 @@ fn write(
             wt,
         );
     }
-    let mut st = [0u64; 16384];
+    let mut waiting = [0u64; 5456];
     blocks(
-        codes,
-        n,
+        &stretches,
+        &links,
+        arranged,
         names,
-        &mut st,
+        &mut waiting,
         line,
         at,
         shape,

@@ -27,7 +27,11 @@ const NODES: usize = kressedach::MOST_NODES;
 /// A sheet of so many leaves. Each shape stands at one leaf while there are names; in `ninety`, the first stands at ninety more or less.
 fn sheet(formula: &str, leaves: usize) -> (Vec<u8>, usize) {
     let dice = &mut Dice::of(11, leaves as u64);
-    let form = if formula == "chain" { Form::LeftChain } else { Form::Balanced };
+    let form = match formula {
+        "chain" => Form::LeftChain,
+        "split" => Form::Any,
+        _ => Form::Balanced,
+    };
     let count = leaves.min(256);
     let mut codes = make::codes(dice, count, leaves, form);
     let (mut leaf, every) = (0, leaves as f64 / 90.0);
@@ -53,7 +57,7 @@ pub fn all(crossings: usize) -> Vec<Row> {
         let sizes = &SIZES[if formula == "ninety" { 2 } else { 0 }..];
         rows.extend(sizes.iter().map(|leaves| run(formula, *leaves, crossings / 10)));
     }
-    for formula in ["chain", "balanced", "ninety"] {
+    for formula in ["chain", "balanced", "split", "ninety"] {
         let sizes = &SIZES[if formula == "ninety" { 2 } else { 0 }..];
         for (leaves, a_line) in sizes.iter().flat_map(|leaves| [2, 10, 200].map(|a_line| (*leaves, a_line))) {
             rows.push(classify(formula, leaves, a_line, crossings));

@@ -8,10 +8,10 @@ use Rattle.line_walls.proofs.blocks.Statement.{statement}
 use Rattle.line_walls.proofs.blocks.Tie as tie
 
 abbrev Inv-loop : tie.InvT-loop
-Inv-loop codes n names st₀ line at shape wl₀ ws₀ we₀ wf₀ wt₀ shapes₀ cols₀ r₀ a₀ st wl ws we wf wt shapes cols r a = Going codes n names st₀ (crossingLists line at shape) (answerLists wl₀ ws₀ we₀ wf₀ wt₀) st shapes cols a r (answerLists wl ws we wf wt)
+Inv-loop stretches links arranged names waiting₀ line at shape wl₀ ws₀ we₀ wf₀ wt₀ shapes₀ cols₀ r₀ a₀ waiting wl ws we wf wt shapes cols r a = Going stretches links arranged names waiting₀ (crossingLists line at shape) (answerLists wl₀ ws₀ we₀ wf₀ wt₀) waiting shapes cols a r (answerLists wl ws we wf wt)
 
 abbrev μ-loop : tie.MeasureT-loop
-μ-loop codes n names st₀ line at shape wl₀ ws₀ we₀ wf₀ wt₀ shapes₀ cols₀ r₀ a₀ st wl ws we wf wt shapes cols r a = length line - a
+μ-loop stretches links arranged names waiting₀ line at shape wl₀ ws₀ we₀ wf₀ wt₀ shapes₀ cols₀ r₀ a₀ waiting wl ws we wf wt shapes cols r a = length line - a
 
 in-air-requires : tie.Need-in-air-requires Inv-loop μ-loop
 in-air-requires c κs = search needs

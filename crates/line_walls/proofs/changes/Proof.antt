@@ -5,7 +5,7 @@ use Rattle.line_walls.proofs.changes.Statement.{statement}
 use Rattle.line_walls.proofs.changes.Tie as tie
 
 block-requires : tie.Need-block-requires
-block-requires c κs = ((search needs, search needs, search needs), ((search needs, search needs, search needs, search needs, search needs), (search needs, search needs, search needs, search needs)))
+block-requires c κs = (search needs, ((search needs, search needs, search needs, search needs), (search needs, search needs, search needs, search needs)))
 
 sweep-requires : tie.Need-sweep-requires
 sweep-requires c κs = search block-sweepable

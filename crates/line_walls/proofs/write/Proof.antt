@@ -1,17 +1,20 @@
--- Both stacks are deep enough.
-use Rattle.line_walls.proofs.BlockLaws.{few-deep, all-deep}
+-- The rows reserved are enough, for few results and for as many as can wait.
+use Rattle.line_walls.proofs.BlockLaws.{few-rows, all-rows, written-codes}
 use borrow.Author.Needs.{needs}
 use Rattle.line_walls.proofs.write.Statement.{statement}
 use Rattle.line_walls.proofs.write.Tie as tie
 
-most-waiting-requires : tie.Need-most-waiting-requires
-most-waiting-requires c κs = search needs
+arrange-requires : tie.Need-arrange-requires
+arrange-requires c κs = search needs
 
 slice-aggregate-blocks : tie.Need-slice-aggregate-blocks
 slice-aggregate-blocks c = search needs
 
+slice-aggregate-blocks-2 : tie.Need-slice-aggregate-blocks-2
+slice-aggregate-blocks-2 c = search needs
+
 blocks-requires : tie.Need-blocks-requires
-blocks-requires c κs = (search needs, search few-deep, search needs)
+blocks-requires c κs = (search few-rows, search needs)
 
 same-length : tie.Need-same-length
 same-length c = search needs
@@ -29,13 +32,16 @@ same-length-5 : tie.Need-same-length-5
 same-length-5 c = search needs
 
 returns : tie.Need-returns
-returns c = search needs
+returns c = search written-codes
 
-slice-aggregate-blocks-2 : tie.Need-slice-aggregate-blocks-2
-slice-aggregate-blocks-2 c = search needs
+slice-aggregate-blocks-3 : tie.Need-slice-aggregate-blocks-3
+slice-aggregate-blocks-3 c = search needs
+
+slice-aggregate-blocks-4 : tie.Need-slice-aggregate-blocks-4
+slice-aggregate-blocks-4 c = search needs
 
 blocks-requires-2 : tie.Need-blocks-requires-2
-blocks-requires-2 c κs = (search needs, search all-deep, search needs)
+blocks-requires-2 c κs = (search all-rows, search needs)
 
 same-length-6 : tie.Need-same-length-6
 same-length-6 c = search needs
@@ -53,14 +59,15 @@ same-length-10 : tie.Need-same-length-10
 same-length-10 c = search needs
 
 returns-2 : tie.Need-returns-2
-returns-2 c = search needs
+returns-2 c = search written-codes
 
 pub write-spec : {M : Type 1} → statement M
 write-spec =
     tie.close
     (tie.spec
-    most-waiting-requires
+    arrange-requires
     slice-aggregate-blocks
+    slice-aggregate-blocks-2
     blocks-requires
     same-length
     same-length-2
@@ -68,7 +75,8 @@ write-spec =
     same-length-4
     same-length-5
     returns
-    slice-aggregate-blocks-2
+    slice-aggregate-blocks-3
+    slice-aggregate-blocks-4
     blocks-requires-2
     same-length-6
     same-length-7
