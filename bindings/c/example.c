@@ -6,12 +6,20 @@
 #define LENGTH(array) (sizeof(array) / sizeof *(array))
 #define LIST(array) (array), LENGTH(array)
 
+/* A customer's sheet alone, and one beside a fittings sheet, as the arguments that a call begins with. */
+#define ALONE(sheet) false, NULL, 0, LIST(sheet)
+#define BESIDE(fittings, sheet) true, LIST(fittings), LIST(sheet)
+
 static const uint8_t sheet[] = {
     1, 0, 2, 0, 1,                    /* edition 1 */
     2, 0, 5, 'B', 'l', 'o', 'c', 'k', /* shape 0 */
     2, 0, 4, 'B', 'o', 'r', 'e',      /* shape 1 */
     3, 0, 6, 0, 0, 0, 1, 0xFF, 0xF2,  /* Block Bore difference */
 };
+
+/* A fittings sheet, and a sheet beside it: Plate or Lug. */
+static const uint8_t fittings[] = {1, 0, 2, 0, 1, 2, 0, 3, 'L', 'u', 'g'};
+static const uint8_t plate[] = {1, 0, 2, 0, 1, 2, 0, 5, 'P', 'l', 'a', 't', 'e', 3, 0, 6, 0, 1, 0, 0, 0xFF, 0xF0};
 
 static int failures;
 
@@ -23,23 +31,23 @@ static void expect(int holds, const char *what) {
 }
 
 static void read_sheet(void) {
-    struct kressedach_read_report r = kressedach_read(LIST(sheet));
+    struct kressedach_read_report r = kressedach_read(ALONE(sheet));
     printf("read: %zu names, %zu leaves, formula at %zu to %zu\n", r.names, r.leaves, r.first, r.past);
     expect(r.number == KRESSEDACH_GIVEN && r.place == 0, "the sheet is read");
     expect(r.names == 2 && r.leaves == 2 && r.first == 23 && r.past == 29, "what it holds");
 
-    r = kressedach_read(sheet, sizeof sheet - 1);
+    r = kressedach_read(false, NULL, 0, sheet, sizeof sheet - 1);
     printf("without its last byte: refused %u at %zu\n", r.number, r.place);
     expect(r.number == KRESSEDACH_ENDS_TOO_SOON && r.place == 28 && r.names == 0, "a sheet that ends too soon");
 
-    r = kressedach_read(NULL, 0);
+    r = kressedach_read(false, NULL, 0, NULL, 0);
     expect(r.number == KRESSEDACH_ENDS_TOO_SOON && r.place == 0, "no bytes at all");
 }
 
 static void build_tree(void) {
     uint16_t kinds[KRESSEDACH_MOST_NODES], firsts[KRESSEDACH_MOST_NODES], seconds[KRESSEDACH_MOST_NODES];
     kinds[3] = 9;
-    struct kressedach_build_report r = kressedach_build(LIST(sheet), LIST(kinds), LIST(firsts), LIST(seconds));
+    struct kressedach_build_report r = kressedach_build(ALONE(sheet), LIST(kinds), LIST(firsts), LIST(seconds));
     printf("build: %zu leaves, %zu nodes, %zu rounds, height %zu\n", r.leaves, r.nodes, r.rounds, r.height);
     for (size_t k = 0; k < r.nodes; k++) {
         printf("  %u %u %u\n", kinds[k], firsts[k], seconds[k]);
@@ -48,7 +56,7 @@ static void build_tree(void) {
     expect(kinds[2] == 3 && firsts[2] == 0 && seconds[2] == 1 && seconds[1] == KRESSEDACH_NONE, "the root is a difference");
     expect(kinds[3] == 9, "entries past the last one stay");
 
-    r = kressedach_build(LIST(sheet), kinds, 3, firsts, 2, seconds, 3);
+    r = kressedach_build(ALONE(sheet), kinds, 3, firsts, 2, seconds, 3);
     printf("with a short list: refused %u, %zu entries are needed\n", r.number, r.place);
     expect(r.number == KRESSEDACH_LIST_TOO_SHORT && r.place == 3 && r.nodes == 0, "a list that is too short");
 }
@@ -57,7 +65,7 @@ static void run_toggles(void) {
     static const uint16_t toggles[] = {0, 1, 1, 0};
     uint8_t roots[LENGTH(toggles)], labels[KRESSEDACH_MOST_NODES];
     uint32_t counts[LENGTH(toggles)];
-    struct kressedach_run_report r = kressedach_run(LIST(sheet), LIST(toggles), LIST(roots), LIST(counts), LIST(labels));
+    struct kressedach_run_report r = kressedach_run(ALONE(sheet), LIST(toggles), LIST(roots), LIST(counts), LIST(labels));
     printf("run: roots %u %u %u %u\n", roots[0], roots[1], roots[2], roots[3]);
     expect(r.number == KRESSEDACH_GIVEN && r.nodes == 3, "the toggles are run");
     expect(roots[0] == 1 && roots[1] == 0 && roots[2] == 1 && roots[3] == 0, "in the block, in the bore, back, out");
@@ -71,7 +79,7 @@ static void classify_lines(void) {
     uint32_t wall_lines[LENGTH(lines) / 2];
     int32_t starts[LENGTH(lines) / 2], ends[LENGTH(lines) / 2];
     uint16_t start_shapes[LENGTH(lines) / 2], end_shapes[LENGTH(lines) / 2];
-    struct kressedach_classify_report r = kressedach_classify(LIST(sheet), LIST(lines), LIST(positions), LIST(shapes), LIST(wall_lines),
+    struct kressedach_classify_report r = kressedach_classify(ALONE(sheet), LIST(lines), LIST(positions), LIST(shapes), LIST(wall_lines),
                                                               LIST(starts), LIST(ends), LIST(start_shapes), LIST(end_shapes));
     for (size_t k = 0; k < r.walls; k++) {
         printf("wall: line %lu, %ld at shape %u to %ld at shape %u\n", (unsigned long)wall_lines[k], (long)starts[k], start_shapes[k],
@@ -81,16 +89,40 @@ static void classify_lines(void) {
     expect(starts[0] == 0 && ends[0] == 40 && starts[1] == 60 && ends[1] == 100, "beside the bore, on both sides");
     expect(start_shapes[0] == 0 && end_shapes[0] == 1 && start_shapes[1] == 1 && end_shapes[1] == 0, "from block to bore, from bore to block");
 
-    r = kressedach_classify(LIST(sheet), lines, 3, positions, 3, shapes, 3, wall_lines, 2, starts, 2, ends, 2, start_shapes, 2, end_shapes, 2);
+    r = kressedach_classify(ALONE(sheet), lines, 3, positions, 3, shapes, 3, wall_lines, 2, starts, 2, ends, 2, start_shapes, 2, end_shapes,
+                            2);
     printf("without the last crossing: refused %u at %zu\n", r.number, r.place);
     expect(r.number == KRESSEDACH_ODD && r.place == 2 && r.walls == 0, "the block is not left");
 
-    r = kressedach_classify(LIST(sheet), NULL, 0, NULL, 0, NULL, 0, NULL, 0, NULL, 0, NULL, 0, NULL, 0, NULL, 0);
+    r = kressedach_classify(ALONE(sheet), NULL, 0, NULL, 0, NULL, 0, NULL, 0, NULL, 0, NULL, 0, NULL, 0, NULL, 0);
     expect(r.number == KRESSEDACH_GIVEN && r.walls == 0, "no crossings, no walls");
+}
+
+static void read_pair(void) {
+    struct kressedach_read_report r = kressedach_read(BESIDE(fittings, plate));
+    printf("beside a fittings sheet: %zu names\n", r.names);
+    expect(r.number == KRESSEDACH_GIVEN && r.sheet == KRESSEDACH_NO_SHEET && r.names == 2 && r.leaves == 2, "the pair is read");
+
+    struct kressedach_name_report n = kressedach_name(BESIDE(fittings, plate), 1);
+    printf("shape 1: bytes %zu to %zu of sheet %u\n", n.first, n.past, n.sheet);
+    expect(n.number == KRESSEDACH_GIVEN && n.sheet == KRESSEDACH_CUSTOMERS_SHEET && n.first == 8 && n.past == 13, "the plate's name");
+    n = kressedach_name(BESIDE(fittings, plate), 2);
+    expect(n.number == KRESSEDACH_NO_SUCH_SHAPE && n.sheet == KRESSEDACH_NO_SHEET && n.place == 0, "no third name");
+
+    r = kressedach_read(BESIDE(plate, plate));
+    printf("a sheet with a formula as fittings: refused %u at %zu of sheet %u\n", r.number, r.place, r.sheet);
+    expect(r.number == KRESSEDACH_TAG_OUT_OF_PLACE && r.sheet == KRESSEDACH_FITTINGS_SHEET && r.place == 13, "fittings have no formula");
+
+    r = kressedach_read(BESIDE(fittings, fittings));
+    expect(r.number == KRESSEDACH_FITTINGS_NAME && r.sheet == KRESSEDACH_CUSTOMERS_SHEET && r.place == 5, "a name that a fitting has");
+
+    r = kressedach_read(true, NULL, 0, LIST(plate));
+    expect(r.number == KRESSEDACH_ENDS_TOO_SOON && r.sheet == KRESSEDACH_FITTINGS_SHEET, "an empty fittings sheet is an input");
 }
 
 int main(void) {
     read_sheet();
+    read_pair();
     build_tree();
     run_toggles();
     classify_lines();

@@ -5,8 +5,13 @@
  * at once. Of the C library it needs memcpy, memmove and memset at most. Its working memory is on the stack, which the proofs do not
  * count: 512 kilobytes are enough.
  *
- * Each function answers a struct. Where `number` is 0, the job is done: `place` is 0 and the rest is the answer. Else `number` and
- * `place` are the refusal's, as the table of document 01 has them, and the rest is 0.
+ * Each function takes the sheets of a call: the customer's, `sheet`, alone where `fitted` is false; else beside a fittings sheet,
+ * `fittings`, whose shapes are numbered first. Where `fitted` is false, `fittings` is not looked at, and may have no bytes; where it is
+ * true, an empty fittings sheet is refused as any other that ends too soon.
+ *
+ * Each function answers a struct. Where `number` is 0, the job is done: `sheet` and `place` are 0 (but kressedach_name says in `sheet`
+ * which sheet holds the name), and the rest is the answer. Else `number` and `place` are the refusal's, as the tables of documents 01
+ * and 02 have them, `sheet` says which sheet the place is in, and the rest is 0.
  *
  * A refusal writes nothing to any list. Entries of a list past the last one given stay as they were.
  *
@@ -25,6 +30,7 @@
 #ifndef KRESSEDACH_H
 #define KRESSEDACH_H
 
+#include <stdbool.h>
 #include <stddef.h>
 #include <stdint.h>
 
@@ -47,7 +53,15 @@ enum kressedach_number {
     KRESSEDACH_NO_SUCH_SHAPE = 10, /* the index in the list */
     KRESSEDACH_FALLS = 11,         /* the index */
     KRESSEDACH_ODD = 12,           /* the index of the last entry on the first line where a shape is crossed an odd number of times */
-    KRESSEDACH_LENGTHS_DIFFER = 13 /* 0 */
+    KRESSEDACH_LENGTHS_DIFFER = 13, /* 0 */
+    KRESSEDACH_FITTINGS_NAME = 17  /* a customer's name equal to a fitting's: the tag's offset */
+};
+
+/* Which sheet the place of a refusal is in. */
+enum kressedach_sheet {
+    KRESSEDACH_NO_SHEET = 0,       /* given, or refused for no sheet */
+    KRESSEDACH_FITTINGS_SHEET = 1, /* 1 to 6, in the fittings sheet */
+    KRESSEDACH_CUSTOMERS_SHEET = 2 /* 1 to 7 and 17, in the customer's sheet, also where it is alone */
 };
 
 /* No contracted tree has more nodes: room for so many entries is enough for any sheet. */
@@ -58,21 +72,43 @@ enum kressedach_number {
 
 struct kressedach_read_report {
     uint8_t number;
+    uint8_t sheet;
     size_t place;
-    size_t names;  /* how many names; shapes are numbered from 0 */
+    size_t names;  /* how many names, of both sheets; shapes are numbered from 0 */
     size_t leaves; /* how many leaves the formula has */
     size_t first;  /* the offset of the formula's first byte */
     size_t past;   /* the offset past its last */
 };
 
-/* Reads a sheet. Refusals: 1 to 7.
+/* Reads the sheets. Refusals: 1 to 7 and 17.
  *
- * The caller keeps: sheet_length bytes at sheet. Nothing is written.
+ * The caller keeps: fittings_length bytes at fittings, sheet_length bytes at sheet. Nothing is written.
  */
-struct kressedach_read_report kressedach_read(const uint8_t *sheet, size_t sheet_length);
+struct kressedach_read_report kressedach_read(bool fitted,
+                                              const uint8_t *fittings, size_t fittings_length,
+                                              const uint8_t *sheet, size_t sheet_length);
+
+struct kressedach_name_report {
+    uint8_t number;
+    uint8_t sheet; /* given: the sheet that holds the name, 1 or 2 */
+    size_t place;
+    size_t first; /* the offset of the name's first byte in that sheet */
+    size_t past;  /* the offset past its last */
+};
+
+/* Asks where the name of a shape stands, as it is in whichever of the two sheets holds it. Refusals: 1 to 7 and 17, then 10 at place 0
+ * for a number past the joined names.
+ *
+ * The caller keeps: fittings_length bytes at fittings, sheet_length bytes at sheet. Nothing is written.
+ */
+struct kressedach_name_report kressedach_name(bool fitted,
+                                              const uint8_t *fittings, size_t fittings_length,
+                                              const uint8_t *sheet, size_t sheet_length,
+                                              size_t shape);
 
 struct kressedach_build_report {
     uint8_t number;
+    uint8_t sheet;
     size_t place;
     size_t leaves; /* the leaves are the first nodes, from left to right */
     size_t nodes;  /* how many entries were given in each list */
@@ -80,31 +116,36 @@ struct kressedach_build_report {
     size_t height;
 };
 
-/* Builds the contracted ("dwarf") tree: a record of kind, first, second for each node, the root last. Refusals: 1 to 7, 8, then 9 for
- * kinds, firsts, seconds in this order.
+/* Builds the contracted ("dwarf") tree: a record of kind, first, second for each node, the root last. Refusals: 1 to 7 and 17, 8, then
+ * 9 for kinds, firsts, seconds in this order.
  *
- * The caller keeps: sheet_length bytes at sheet; kinds_length, firsts_length and seconds_length entries at kinds, firsts and seconds.
- * The last three are written: none of them overlaps another list. Each needs an entry a node.
+ * The caller keeps: fittings_length bytes at fittings, sheet_length bytes at sheet; kinds_length, firsts_length and seconds_length
+ * entries at kinds, firsts and seconds. The last three are written: none of them overlaps another list. Each needs an entry a node.
  */
-struct kressedach_build_report kressedach_build(const uint8_t *sheet, size_t sheet_length,
+struct kressedach_build_report kressedach_build(bool fitted,
+                                                const uint8_t *fittings, size_t fittings_length,
+                                                const uint8_t *sheet, size_t sheet_length,
                                                 uint16_t *kinds, size_t kinds_length,
                                                 uint16_t *firsts, size_t firsts_length,
                                                 uint16_t *seconds, size_t seconds_length);
 
 struct kressedach_run_report {
     uint8_t number;
+    uint8_t sheet;
     size_t place;
     size_t nodes; /* how many labels were given; roots and counts have an entry a toggle */
 };
 
 /* Runs toggles, which are shape numbers, with every shape outside at first: a root bit and a count of reworked labels for each toggle,
- * and each node's label after the last. Refusals: 1 to 7, 8, 10, then 9 for roots, counts, labels in this order.
+ * and each node's label after the last. Refusals: 1 to 7 and 17, 8, 10, then 9 for roots, counts, labels in this order.
  *
- * The caller keeps: sheet_length bytes at sheet, toggles_length entries at toggles; roots_length, counts_length and labels_length
- * entries at roots, counts and labels. The last three are written: none of them overlaps another list. Roots and counts need an entry
- * a toggle, labels one a node.
+ * The caller keeps: fittings_length bytes at fittings, sheet_length bytes at sheet, toggles_length entries at toggles; roots_length,
+ * counts_length and labels_length entries at roots, counts and labels. The last three are written: none of them overlaps another list.
+ * Roots and counts need an entry a toggle, labels one a node.
  */
-struct kressedach_run_report kressedach_run(const uint8_t *sheet, size_t sheet_length,
+struct kressedach_run_report kressedach_run(bool fitted,
+                                            const uint8_t *fittings, size_t fittings_length,
+                                            const uint8_t *sheet, size_t sheet_length,
                                             const uint16_t *toggles, size_t toggles_length,
                                             uint8_t *roots, size_t roots_length,
                                             uint32_t *counts, size_t counts_length,
@@ -112,21 +153,24 @@ struct kressedach_run_report kressedach_run(const uint8_t *sheet, size_t sheet_l
 
 struct kressedach_classify_report {
     uint8_t number;
+    uint8_t sheet;
     size_t place;
     size_t walls; /* how many entries were given in each list */
 };
 
 /* Finds the walls of lines. A crossing is a line number, a position in micrometres and a shape number, at one index of three lists;
  * line numbers never fall, and positions never fall within a line. A wall is a longest stretch of positive length inside; the shape at
- * its start and the one at its end is the lowest number whose state differs before and after that position. Refusals: 1 to 7, 8, 13,
- * then 10 and 11 crossing by crossing, 12, then 9 for wall_lines, starts, ends, start_shapes, end_shapes in this order.
+ * its start and the one at its end is the lowest number whose state differs before and after that position. Refusals: 1 to 7 and 17, 8,
+ * 13, then 10 and 11 crossing by crossing, 12, then 9 for wall_lines, starts, ends, start_shapes, end_shapes in this order.
  *
- * The caller keeps: sheet_length bytes at sheet; lines_length, positions_length and shapes_length entries at lines, positions and
- * shapes; wall_lines_length, starts_length, ends_length, start_shapes_length and end_shapes_length entries at wall_lines, starts, ends,
- * start_shapes and end_shapes. The last five are written: none of them overlaps another list. Each needs half as many entries as there
- * are crossings, rounded down.
+ * The caller keeps: fittings_length bytes at fittings, sheet_length bytes at sheet; lines_length, positions_length and shapes_length
+ * entries at lines, positions and shapes; wall_lines_length, starts_length, ends_length, start_shapes_length and end_shapes_length
+ * entries at wall_lines, starts, ends, start_shapes and end_shapes. The last five are written: none of them overlaps another list. Each
+ * needs half as many entries as there are crossings, rounded down.
  */
-struct kressedach_classify_report kressedach_classify(const uint8_t *sheet, size_t sheet_length,
+struct kressedach_classify_report kressedach_classify(bool fitted,
+                                                      const uint8_t *fittings, size_t fittings_length,
+                                                      const uint8_t *sheet, size_t sheet_length,
                                                       const uint32_t *lines, size_t lines_length,
                                                       const int32_t *positions, size_t positions_length,
                                                       const uint16_t *shapes, size_t shapes_length,

@@ -11,9 +11,20 @@
 #[repr(C)]
 pub struct ReadReport {
     pub number: u8,
+    pub sheet: u8,
     pub place: usize,
     pub names: usize,
     pub leaves: usize,
+    pub first: usize,
+    pub past: usize,
+}
+
+/// What asking for a name answers.
+#[repr(C)]
+pub struct NameReport {
+    pub number: u8,
+    pub sheet: u8,
+    pub place: usize,
     pub first: usize,
     pub past: usize,
 }
@@ -22,6 +33,7 @@ pub struct ReadReport {
 #[repr(C)]
 pub struct BuildReport {
     pub number: u8,
+    pub sheet: u8,
     pub place: usize,
     pub leaves: usize,
     pub nodes: usize,
@@ -33,6 +45,7 @@ pub struct BuildReport {
 #[repr(C)]
 pub struct RunReport {
     pub number: u8,
+    pub sheet: u8,
     pub place: usize,
     pub nodes: usize,
 }
@@ -41,14 +54,27 @@ pub struct RunReport {
 #[repr(C)]
 pub struct ClassifyReport {
     pub number: u8,
+    pub sheet: u8,
     pub place: usize,
     pub walls: usize,
 }
 
 extern "C" {
-    pub fn kressedach_read(sheet: *const u8, sheet_length: usize) -> ReadReport;
+    pub fn kressedach_read(fitted: bool, fittings: *const u8, fittings_length: usize, sheet: *const u8, sheet_length: usize) -> ReadReport;
+
+    pub fn kressedach_name(
+        fitted: bool,
+        fittings: *const u8,
+        fittings_length: usize,
+        sheet: *const u8,
+        sheet_length: usize,
+        shape: usize,
+    ) -> NameReport;
 
     pub fn kressedach_build(
+        fitted: bool,
+        fittings: *const u8,
+        fittings_length: usize,
         sheet: *const u8,
         sheet_length: usize,
         kinds: *mut u16,
@@ -60,6 +86,9 @@ extern "C" {
     ) -> BuildReport;
 
     pub fn kressedach_run(
+        fitted: bool,
+        fittings: *const u8,
+        fittings_length: usize,
         sheet: *const u8,
         sheet_length: usize,
         toggles: *const u16,
@@ -73,6 +102,9 @@ extern "C" {
     ) -> RunReport;
 
     pub fn kressedach_classify(
+        fitted: bool,
+        fittings: *const u8,
+        fittings_length: usize,
         sheet: *const u8,
         sheet_length: usize,
         lines: *const u32,

@@ -4,20 +4,57 @@
 mod ffi;
 mod refusal;
 
-pub use refusal::Refusal;
+pub use refusal::{Refusal, Which};
 use std::ops::Range;
 
 /// No dwarf tree has more nodes than this: three times 1024 leaves, less 3.
 pub const MOST_NODES: usize = 3069;
 
-/// What a sheet holds.
+/// The sheets of a call: the customer's, alone or beside a fittings sheet.
+///
+/// A customer's sheet alone needs no more than a reference to its bytes: every job takes what turns into `Sheets`.
+///
+/// ```
+/// use kressedach::Sheets;
+/// let fittings = b"\x01\0\x02\0\x01\x02\0\x03lug"; // a header and names, no formula
+/// let sheet = b"\x01\0\x02\0\x01\x02\0\x05block\x03\0\x06\0\0\0\x01\xFF\xF0"; // the lug is shape 0, the block shape 1
+/// assert_eq!(kressedach::read(Sheets::beside(fittings, sheet))?.names, 2);
+/// # Ok::<(), kressedach::Refusal>(())
+/// ```
+#[derive(Debug, Clone, Copy, PartialEq, Eq, Hash)]
+pub struct Sheets<'a> {
+    /// The fittings sheet, whose shapes are numbered first. An empty one is none of the absent ones: it is refused.
+    pub fittings: Option<&'a [u8]>,
+    /// The customer's sheet.
+    pub customers: &'a [u8],
+}
+
+impl<'a> Sheets<'a> {
+    /// A fittings sheet, and the customer's beside it.
+    pub fn beside(fittings: &'a [u8], customers: &'a [u8]) -> Sheets<'a> {
+        Sheets { fittings: Some(fittings), customers }
+    }
+
+    /// As the library takes them: whether there is a fittings sheet, its bytes or none, the customer's.
+    fn parts(self) -> (bool, &'a [u8], &'a [u8]) {
+        (self.fittings.is_some(), self.fittings.unwrap_or_default(), self.customers)
+    }
+}
+
+impl<'a, T: AsRef<[u8]> + ?Sized> From<&'a T> for Sheets<'a> {
+    fn from(customers: &'a T) -> Sheets<'a> {
+        Sheets { fittings: None, customers: customers.as_ref() }
+    }
+}
+
+/// What the sheets hold.
 #[derive(Debug, Clone, PartialEq, Eq, Hash)]
 pub struct Read {
-    /// How many shapes have a name. Shapes are numbered from 0.
+    /// How many shapes have a name, those of both sheets together. Shapes are numbered from 0, the fittings' first.
     pub names: usize,
     /// How many leaves the formula has.
     pub leaves: usize,
-    /// Where the formula's codes stand in the sheet.
+    /// Where the formula's codes stand in the customer's sheet.
     pub formula: Range<usize>,
 }
 
@@ -101,14 +138,19 @@ pub struct Wall {
 }
 
 /// An answer, unless there is a number of a refusal.
-fn unless_refused<T>(number: u8, place: usize, answer: T) -> Result<T, Refusal> {
+fn unless_refused<T>(number: u8, sheet: u8, place: usize, answer: T) -> Result<T, Refusal> {
+    let sheet = match sheet {
+        1 => Some(Which::Fittings),
+        2 => Some(Which::Customers),
+        _ => None,
+    };
     match number {
         0 => Ok(answer),
-        number => Err(Refusal { number, place }),
+        number => Err(Refusal { number, sheet, place }),
     }
 }
 
-/// Reads a sheet, or says why it is none.
+/// Reads the sheets of a call, or says why one of them is none.
 ///
 /// ```
 /// // the names A, B, C, and the formula A B C union difference: A less (B or C)
@@ -121,17 +163,18 @@ fn unless_refused<T>(number: u8, place: usize, answer: T) -> Result<T, Refusal> 
 ///
 /// # Errors
 ///
-/// 1 to 7, the first that is met in document 01's order of reading.
+/// 1 to 7 and 17, the first that is met in document 01's order of reading, in the fittings sheet first.
 #[inline]
-pub fn read(sheet: &[u8]) -> Result<Read, Refusal> {
+pub fn read<'a>(sheets: impl Into<Sheets<'a>>) -> Result<Read, Refusal> {
+    let (fitted, fittings, sheet) = sheets.into().parts();
     // SAFETY: a slice is a pointer to that many bytes, which nobody writes while it is borrowed.
-    let r = unsafe { ffi::kressedach_read(sheet.as_ptr(), sheet.len()) };
-    unless_refused(r.number, r.place, Read { names: r.names, leaves: r.leaves, formula: r.first..r.past })
+    let r = unsafe { ffi::kressedach_read(fitted, fittings.as_ptr(), fittings.len(), sheet.as_ptr(), sheet.len()) };
+    unless_refused(r.number, r.sheet, r.place, Read { names: r.names, leaves: r.leaves, formula: r.first..r.past })
 }
 
-/// The names of a sheet's shapes, in the order of their numbers. They are equal when all their letters are.
+/// The names of the sheets' shapes, in the order of their numbers: the fittings' first. They are equal when all their letters are.
 ///
-/// The sheet is read by the proved reader; picking the names out of an accepted sheet is plain Rust.
+/// The sheets are read by the proved reader; picking the names out of accepted sheets is plain Rust.
 ///
 /// ```
 /// let sheet = b"\x01\0\x02\0\x01\x02\0\x04Port\x02\0\x04PORT\x03\0\x06\0\0\0\x01\xFF\xF2";
@@ -140,24 +183,51 @@ pub fn read(sheet: &[u8]) -> Result<Read, Refusal> {
 /// assert_eq!(names.iter().position(|name| *name == "PORT"), Some(1));
 ///
 /// let refusal = kressedach::names(b"\x01\0\x02\0\x01\x02\0\x04Port\x02\0\x04Port").unwrap_err();
-/// assert_eq!(refusal.to_string(), "refused 5 at byte 12: a name that is taken already");
+/// assert_eq!(refusal.to_string(), "refused 5 at byte 12 of the customer's sheet: a name that is taken already");
 /// # Ok::<(), kressedach::Refusal>(())
 /// ```
 ///
 /// # Errors
 ///
 /// As [`read`].
-pub fn names(sheet: &[u8]) -> Result<Vec<&str>, Refusal> {
-    let count = read(sheet)?.names;
+pub fn names<'a>(sheets: impl Into<Sheets<'a>>) -> Result<Vec<&'a str>, Refusal> {
+    let sheets = sheets.into();
+    let count = read(sheets)?.names;
     let mut names = Vec::with_capacity(count);
-    // after the header, each name is a field: its tag, two bytes of length, its letters
-    let mut rest = sheet.get(5..).unwrap_or_default();
-    while let (true, [_, high, low, after @ ..]) = (names.len() < count, rest) {
-        let (name, next) = after.split_at_checked(usize::from(u16::from_be_bytes([*high, *low]))).unwrap_or_default();
-        names.push(std::str::from_utf8(name).unwrap_or_default());
-        rest = next;
+    for sheet in sheets.fittings.into_iter().chain([sheets.customers]) {
+        // after the header, each name is a field: its tag, two bytes of length, its letters; the formula has another tag
+        let mut rest = sheet.get(5..).unwrap_or_default();
+        while let [2, high, low, after @ ..] = rest {
+            let (name, next) = after.split_at_checked(usize::from(u16::from_be_bytes([*high, *low]))).unwrap_or_default();
+            names.push(std::str::from_utf8(name).unwrap_or_default());
+            rest = next;
+        }
     }
     Ok(names)
+}
+
+/// The name of a shape: its bytes as they stand in whichever of the two sheets holds it, by the proved look-up.
+///
+/// ```
+/// use kressedach::{name, Sheets};
+/// let fittings = b"\x01\0\x02\0\x01\x02\0\x03lug";
+/// let sheet = b"\x01\0\x02\0\x01\x02\0\x05block\x03\0\x06\0\0\0\x01\xFF\xF0";
+/// let sheets = Sheets::beside(fittings, sheet);
+/// assert_eq!((name(sheets, 0)?, name(sheets, 1)?), (&b"lug"[..], &b"block"[..]));
+/// assert_eq!(name(sheets, 2).unwrap_err().to_string(), "refused 10 at entry 0: a shape number that no name has");
+/// # Ok::<(), kressedach::Refusal>(())
+/// ```
+///
+/// # Errors
+///
+/// 1 to 7 and 17 as [`read`], then 10, place 0.
+pub fn name<'a>(sheets: impl Into<Sheets<'a>>, shape: usize) -> Result<&'a [u8], Refusal> {
+    let sheets = sheets.into();
+    let (fitted, fittings, sheet) = sheets.parts();
+    // SAFETY: a slice is a pointer to that many bytes, which nobody writes while it is borrowed.
+    let r = unsafe { ffi::kressedach_name(fitted, fittings.as_ptr(), fittings.len(), sheet.as_ptr(), sheet.len(), shape) };
+    let holds = if r.sheet == 1 { fittings } else { sheet };
+    unless_refused(r.number, r.sheet, r.place, holds.get(r.first..r.past).unwrap_or_default())
 }
 
 /// Builds the dwarf tree of a sheet.
@@ -175,10 +245,10 @@ pub fn names(sheet: &[u8]) -> Result<Vec<&str>, Refusal> {
 ///
 /// # Errors
 ///
-/// 1 to 7 as [`read`], then 8.
-pub fn build(sheet: &[u8]) -> Result<Dwarf, Refusal> {
+/// 1 to 7 and 17 as [`read`], then 8.
+pub fn build<'a>(sheets: impl Into<Sheets<'a>>) -> Result<Dwarf, Refusal> {
     let [mut kinds, mut firsts, mut seconds] = [[0; MOST_NODES]; 3];
-    let size = build_into(sheet, &mut kinds, &mut firsts, &mut seconds)?;
+    let size = build_into(sheets, &mut kinds, &mut firsts, &mut seconds)?;
     let records = kinds.into_iter().zip(firsts).zip(seconds);
     Ok(Dwarf { size, nodes: records.map(|((kind, first), second)| Node { kind, first, second }).take(size.nodes).collect() })
 }
@@ -201,12 +271,16 @@ pub fn build(sheet: &[u8]) -> Result<Dwarf, Refusal> {
 ///
 /// # Errors
 ///
-/// 1 to 7 as [`read`], 8, then 9 for kinds, firsts, seconds in this order.
+/// 1 to 7 and 17 as [`read`], 8, then 9 for kinds, firsts, seconds in this order.
 #[inline]
-pub fn build_into(sheet: &[u8], kinds: &mut [u16], firsts: &mut [u16], seconds: &mut [u16]) -> Result<Size, Refusal> {
+pub fn build_into<'a>(sheets: impl Into<Sheets<'a>>, kinds: &mut [u16], firsts: &mut [u16], seconds: &mut [u16]) -> Result<Size, Refusal> {
+    let (fitted, fittings, sheet) = sheets.into().parts();
     // SAFETY: slices are pointers to that many entries; those that are written are borrowed by nobody else.
     let r = unsafe {
         ffi::kressedach_build(
+            fitted,
+            fittings.as_ptr(),
+            fittings.len(),
             sheet.as_ptr(),
             sheet.len(),
             kinds.as_mut_ptr(),
@@ -217,7 +291,7 @@ pub fn build_into(sheet: &[u8], kinds: &mut [u16], firsts: &mut [u16], seconds: 
             seconds.len(),
         )
     };
-    unless_refused(r.number, r.place, Size { leaves: r.leaves, nodes: r.nodes, rounds: r.rounds, height: r.height })
+    unless_refused(r.number, r.sheet, r.place, Size { leaves: r.leaves, nodes: r.nodes, rounds: r.rounds, height: r.height })
 }
 
 /// Runs toggles: every shape is outside at first, and each toggle takes one shape to its other side.
@@ -233,10 +307,10 @@ pub fn build_into(sheet: &[u8], kinds: &mut [u16], firsts: &mut [u16], seconds: 
 ///
 /// # Errors
 ///
-/// 1 to 7 as [`read`], 8, then 10.
-pub fn run(sheet: &[u8], toggles: &[u16]) -> Result<Ran, Refusal> {
+/// 1 to 7 and 17 as [`read`], 8, then 10.
+pub fn run<'a>(sheets: impl Into<Sheets<'a>>, toggles: &[u16]) -> Result<Ran, Refusal> {
     let (mut roots, mut counts, mut labels) = (vec![0; toggles.len()], vec![0; toggles.len()], vec![0; MOST_NODES]);
-    let nodes = run_into(sheet, toggles, &mut roots, &mut counts, &mut labels)?;
+    let nodes = run_into(sheets, toggles, &mut roots, &mut counts, &mut labels)?;
     labels.truncate(nodes);
     Ok(Ran { roots: roots.into_iter().map(|root| root == 1).collect(), counts, labels })
 }
@@ -254,12 +328,22 @@ pub fn run(sheet: &[u8], toggles: &[u16]) -> Result<Ran, Refusal> {
 ///
 /// # Errors
 ///
-/// 1 to 7 as [`read`], 8, 10, then 9 for roots, counts, labels in this order.
+/// 1 to 7 and 17 as [`read`], 8, 10, then 9 for roots, counts, labels in this order.
 #[inline]
-pub fn run_into(sheet: &[u8], toggles: &[u16], roots: &mut [u8], counts: &mut [u32], labels: &mut [u8]) -> Result<usize, Refusal> {
+pub fn run_into<'a>(
+    sheets: impl Into<Sheets<'a>>,
+    toggles: &[u16],
+    roots: &mut [u8],
+    counts: &mut [u32],
+    labels: &mut [u8],
+) -> Result<usize, Refusal> {
+    let (fitted, fittings, sheet) = sheets.into().parts();
     // SAFETY: slices are pointers to that many entries; those that are written are borrowed by nobody else.
     let r = unsafe {
         ffi::kressedach_run(
+            fitted,
+            fittings.as_ptr(),
+            fittings.len(),
             sheet.as_ptr(),
             sheet.len(),
             toggles.as_ptr(),
@@ -272,7 +356,7 @@ pub fn run_into(sheet: &[u8], toggles: &[u16], roots: &mut [u8], counts: &mut [u
             labels.len(),
         )
     };
-    unless_refused(r.number, r.place, r.nodes)
+    unless_refused(r.number, r.sheet, r.place, r.nodes)
 }
 
 /// The walls of the lines that these crossings make.
@@ -295,8 +379,8 @@ pub fn run_into(sheet: &[u8], toggles: &[u16], roots: &mut [u8], counts: &mut [u
 ///
 /// # Errors
 ///
-/// 1 to 7 as [`read`], 8, then 10 and 11 crossing by crossing, then 12.
-pub fn classify(sheet: &[u8], crossings: &[Crossing]) -> Result<Vec<Wall>, Refusal> {
+/// 1 to 7 and 17 as [`read`], 8, then 10 and 11 crossing by crossing, then 12.
+pub fn classify<'a>(sheets: impl Into<Sheets<'a>>, crossings: &[Crossing]) -> Result<Vec<Wall>, Refusal> {
     let lines: Vec<u32> = crossings.iter().map(|crossing| crossing.line).collect();
     let positions: Vec<i32> = crossings.iter().map(|crossing| crossing.position).collect();
     let shapes: Vec<u16> = crossings.iter().map(|crossing| crossing.shape).collect();
@@ -308,7 +392,7 @@ pub fn classify(sheet: &[u8], crossings: &[Crossing]) -> Result<Vec<Wall>, Refus
         start_shapes: &mut vec![0; room],
         end_shapes: &mut vec![0; room],
     };
-    let count = classify_into(sheet, &lines, &positions, &shapes, &mut walls)?;
+    let count = classify_into(sheets, &lines, &positions, &shapes, &mut walls)?;
     let wall = |k: usize| Wall {
         line: walls.lines[k],
         start: walls.starts[k],
@@ -354,12 +438,22 @@ pub struct WallLists<'a> {
 ///
 /// # Errors
 ///
-/// 1 to 7 as [`read`], 8, 13, then 10 and 11 crossing by crossing, 12, then 9 for the lists of `walls` in their order.
+/// 1 to 7 and 17 as [`read`], 8, 13, then 10 and 11 crossing by crossing, 12, then 9 for the lists of `walls` in their order.
 #[inline]
-pub fn classify_into(sheet: &[u8], lines: &[u32], positions: &[i32], shapes: &[u16], walls: &mut WallLists) -> Result<usize, Refusal> {
+pub fn classify_into<'a>(
+    sheets: impl Into<Sheets<'a>>,
+    lines: &[u32],
+    positions: &[i32],
+    shapes: &[u16],
+    walls: &mut WallLists,
+) -> Result<usize, Refusal> {
+    let (fitted, fittings, sheet) = sheets.into().parts();
     // SAFETY: slices are pointers to that many entries; those that are written are borrowed by nobody else.
     let r = unsafe {
         ffi::kressedach_classify(
+            fitted,
+            fittings.as_ptr(),
+            fittings.len(),
             sheet.as_ptr(),
             sheet.len(),
             lines.as_ptr(),
@@ -380,5 +474,5 @@ pub fn classify_into(sheet: &[u8], lines: &[u32], positions: &[i32], shapes: &[u
             walls.end_shapes.len(),
         )
     };
-    unless_refused(r.number, r.place, r.walls)
+    unless_refused(r.number, r.sheet, r.place, r.walls)
 }

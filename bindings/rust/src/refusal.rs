@@ -1,6 +1,15 @@
 use std::error::Error;
 use std::fmt;
 
+/// Which of a call's two sheets.
+#[derive(Debug, Clone, Copy, PartialEq, Eq, Hash)]
+pub enum Which {
+    /// The fittings sheet.
+    Fittings,
+    /// The customer's sheet, also where it is alone.
+    Customers,
+}
+
 /// Why a job gave no answer: a number of document 01's table, and the place that it fixes.
 ///
 /// A refusal prints as a sentence that a person can act on:
@@ -8,13 +17,15 @@ use std::fmt;
 /// ```
 /// let refusal = kressedach::read(b"\x01\x00\x02\x00\x07").unwrap_err();
 /// assert_eq!((refusal.number, refusal.place), (3, 0));
-/// assert_eq!(refusal.to_string(), "refused 3 at byte 0: the header's length or edition is wrong");
+/// assert_eq!(refusal.to_string(), "refused 3 at byte 0 of the customer's sheet: the header's length or edition is wrong");
 /// ```
 #[derive(Debug, Clone, Copy, PartialEq, Eq, Hash)]
 pub struct Refusal {
-    /// The reason, 1 to 13.
+    /// The reason, 1 to 13 or 17.
     pub number: u8,
-    /// Where: a byte of the sheet for 1 to 7, the length needed for 9, an entry of the list for 10 to 12, and 0 for 8 and 13.
+    /// The sheet that the place is in, for 1 to 7 and 17.
+    pub sheet: Option<Which>,
+    /// Where: a byte of that sheet for 1 to 7 and 17, the length needed for 9, an entry of the list for 10 to 12, and 0 for 8 and 13.
     pub place: usize,
 }
 
@@ -39,6 +50,7 @@ impl Refusal {
             11 => "a line number falls, or a position falls within its line",
             12 => "a shape is crossed an odd number of times on the line that ends here",
             13 => "the three crossing lists differ in length",
+            17 => "a name that a fitting has",
             _ => "unknown",
         }
     }
@@ -46,17 +58,20 @@ impl Refusal {
     /// The place in words, or nothing where the number has no place.
     ///
     /// ```
-    /// use kressedach::Refusal;
-    /// assert_eq!(Refusal { number: 5, place: 23 }.place_in_words().as_deref(), Some("at byte 23"));
-    /// assert_eq!(Refusal { number: 9, place: 6 }.place_in_words().as_deref(), Some("for want of 6 entries"));
-    /// assert_eq!(Refusal { number: 10, place: 4 }.place_in_words().as_deref(), Some("at entry 4"));
-    /// assert_eq!(Refusal { number: 13, place: 0 }.place_in_words(), None);
+    /// use kressedach::{Refusal, Which};
+    /// let of = |number, sheet, place| Refusal { number, sheet, place }.place_in_words();
+    /// assert_eq!(of(5, Some(Which::Customers), 23).as_deref(), Some("at byte 23 of the customer's sheet"));
+    /// assert_eq!(of(5, Some(Which::Fittings), 23).as_deref(), Some("at byte 23 of the fittings sheet"));
+    /// assert_eq!(of(9, None, 6).as_deref(), Some("for want of 6 entries"));
+    /// assert_eq!(of(10, None, 4).as_deref(), Some("at entry 4"));
+    /// assert_eq!(of(13, None, 0), None);
     /// ```
     pub fn place_in_words(&self) -> Option<String> {
-        match self.number {
-            1..=7 => Some(format!("at byte {}", self.place)),
-            9 => Some(format!("for want of {} entries", self.place)),
-            10..=12 => Some(format!("at entry {}", self.place)),
+        match (self.sheet, self.number) {
+            (Some(Which::Fittings), _) => Some(format!("at byte {} of the fittings sheet", self.place)),
+            (Some(Which::Customers), _) => Some(format!("at byte {} of the customer's sheet", self.place)),
+            (None, 9) => Some(format!("for want of {} entries", self.place)),
+            (None, 10..=12) => Some(format!("at entry {}", self.place)),
             _ => None,
         }
     }

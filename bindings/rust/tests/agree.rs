@@ -3,24 +3,49 @@
 //! Answers and refusals are compared, and every answer list from end to end, with entries before and after it that were not lent.
 //! `KRESSEDACH_CASES` and `KRESSEDACH_SEED` say how many cases and from which seed. A difference prints its case whole.
 
-use kressedach::WallLists;
+use kressedach::{WallLists, Which};
 use peer::lines::{Crossing, Crossings};
 use peer::make::{self, Dice, Form};
 use peer::{say, Refused};
 use std::fmt::{self, Debug};
 use std::time::Instant;
 
+/// The sheets of a call: a customer's, and a fittings sheet where there is one.
+#[derive(Clone)]
+struct Given {
+    fittings: Option<Vec<u8>>,
+    own: Vec<u8>,
+}
+
+impl Given {
+    fn alone(own: Vec<u8>) -> Given {
+        Given { fittings: None, own }
+    }
+
+    fn ours(&self) -> kressedach::Sheets<'_> {
+        kressedach::Sheets { fittings: self.fittings.as_deref(), customers: &self.own }
+    }
+
+    fn theirs(&self) -> peer::sheet::Sheets<'_> {
+        peer::sheet::Sheets { fittings: self.fittings.as_deref(), own: &self.own }
+    }
+}
+
 /// One call of the library. A room is the length of an answer list.
 enum Case {
-    Read { sheet: Vec<u8> },
-    Build { sheet: Vec<u8>, rooms: [usize; 3] },
-    Run { sheet: Vec<u8>, toggles: Vec<u16>, rooms: [usize; 3] },
-    Classify { sheet: Vec<u8>, lines: Vec<u32>, positions: Vec<i32>, shapes: Vec<u16>, rooms: [usize; 5] },
+    Read { sheet: Given },
+    Build { sheet: Given, rooms: [usize; 3] },
+    Run { sheet: Given, toggles: Vec<u16>, rooms: [usize; 3] },
+    Classify { sheet: Given, lines: Vec<u32>, positions: Vec<i32>, shapes: Vec<u16>, rooms: [usize; 5] },
 }
 
 impl Debug for Case {
     fn fmt(&self, f: &mut fmt::Formatter) -> fmt::Result {
-        let hex = |sheet: &[u8]| sheet.iter().map(|byte| format!("{byte:02X}")).collect::<String>();
+        let digits = |sheet: &[u8]| sheet.iter().map(|byte| format!("{byte:02X}")).collect::<String>();
+        let hex = |sheet: &Given| match &sheet.fittings {
+            Some(fittings) => format!("{} beside {}", digits(&sheet.own), digits(fittings)),
+            None => digits(&sheet.own),
+        };
         match self {
             Case::Read { sheet } => write!(f, "read, sheet {}", hex(sheet)),
             Case::Build { sheet, rooms } => write!(f, "build, rooms {rooms:?}, sheet {}", hex(sheet)),
@@ -65,24 +90,33 @@ impl<T: Copy + PartialEq + Debug> Lent<T> {
 }
 
 fn same<T: PartialEq + Debug>(got: Result<T, kressedach::Refusal>, due: Result<T, &Refused>) -> Result<u8, String> {
-    let (got, due) = (got.map_err(|refusal| (refusal.number, refusal.place)), due.map_err(|refused| (refused.number, refused.place)));
+    let which = |sheet: Option<Which>| sheet.map_or(0, |which| if which == Which::Fittings { 1 } else { 2 });
+    let got = got.map_err(|refusal| (refusal.number, which(refusal.sheet), refusal.place));
+    let due = due.map_err(|refused| (refused.number, refused.sheet, refused.place));
     if got != due {
         return Err(format!("the answer is {got:?}, due is {due:?}"));
     }
-    Ok(due.map_or_else(|(number, _)| number, |_| 0))
+    Ok(due.map_or_else(|(number, _, _)| number, |_| 0))
 }
 
 /// Calls the library and the plain implementation. Gives the refusal's number, 0 for none, or in what they differ.
 fn compare(case: &Case) -> Result<u8, String> {
     match case {
         Case::Read { sheet } => {
-            let got = kressedach::read(sheet).map(|r| (r.names, r.leaves, r.formula.start, r.formula.end));
-            same(got, peer::read(sheet).as_ref().map(|s| (s.names.len(), s.leaves, s.first, s.past)))
+            let got = kressedach::read(sheet.ours()).map(|r| (r.names, r.leaves, r.formula.start, r.formula.end));
+            let due = peer::read(sheet.theirs());
+            // some names, and numbers past the last
+            let names = due.as_ref().map_or(0, |s| s.names.len());
+            for shape in [0, 1, names / 2, names.saturating_sub(1), names, 65535] {
+                let due = peer::name(sheet.theirs(), shape);
+                same(kressedach::name(sheet.ours(), shape).map(<[u8]>::to_vec), due.as_ref().map(Clone::clone))?;
+            }
+            same(got, due.as_ref().map(|s| (s.names.len(), s.leaves, s.first, s.past)))
         }
         Case::Build { sheet, rooms } => {
             let [mut kinds, mut firsts, mut seconds] = rooms.map(|room| Lent::new(room, |k| k as u16));
-            let got = kressedach::build_into(sheet, kinds.list(), firsts.list(), seconds.list());
-            let due = peer::build(sheet, *rooms);
+            let got = kressedach::build_into(sheet.ours(), kinds.list(), firsts.list(), seconds.list());
+            let due = peer::build(sheet.theirs(), *rooms);
             let size = due.as_ref().map(|dwarf| (dwarf.leaves, dwarf.records.len(), dwarf.rounds, dwarf.height()));
             let number = same(got.map(|size| (size.leaves, size.nodes, size.rounds, size.height)), size)?;
             let records = || due.iter().flat_map(|dwarf| &dwarf.records);
@@ -94,8 +128,8 @@ fn compare(case: &Case) -> Result<u8, String> {
         Case::Run { sheet, toggles, rooms } => {
             let (mut roots, mut labels) = (Lent::new(rooms[0], |k| k as u8), Lent::new(rooms[2], |k| k as u8));
             let mut counts = Lent::new(rooms[1], |k| k as u32);
-            let got = kressedach::run_into(sheet, toggles, roots.list(), counts.list(), labels.list());
-            let due = peer::run(sheet, toggles, *rooms);
+            let got = kressedach::run_into(sheet.ours(), toggles, roots.list(), counts.list(), labels.list());
+            let due = peer::run(sheet.theirs(), toggles, *rooms);
             let number = same(got, due.as_ref().map(|ran| ran.labels.len()))?;
             roots.check("roots", due.iter().flat_map(|ran| ran.roots.iter().copied()))?;
             counts.check("counts", due.iter().flat_map(|ran| ran.counts.iter().copied()))?;
@@ -113,8 +147,8 @@ fn compare(case: &Case) -> Result<u8, String> {
                 start_shapes: start_shapes.list(),
                 end_shapes: end_shapes.list(),
             };
-            let got = kressedach::classify_into(sheet, lines, positions, shapes, &mut lists);
-            let due = peer::classify(sheet, Crossings { lines, positions, shapes }, *rooms);
+            let got = kressedach::classify_into(sheet.ours(), lines, positions, shapes, &mut lists);
+            let due = peer::classify(sheet.theirs(), Crossings { lines, positions, shapes }, *rooms);
             let number = same(got, due.as_ref().map(|walls| walls.len()))?;
             wall_lines.check("wall_lines", due.iter().flatten().map(|wall| wall.line))?;
             starts.check("starts", due.iter().flatten().map(|wall| wall.start))?;
@@ -139,19 +173,33 @@ fn rooms<const LISTS: usize>(dice: &mut Dice, needed: [usize; LISTS]) -> [usize;
     })
 }
 
-/// Mostly a good sheet, and its number of names.
-fn mostly_good_sheet(dice: &mut Dice) -> (Vec<u8>, usize) {
-    if dice.once_in(6) {
-        let sheet = make::any_sheet(dice);
-        let names = peer::read(&sheet).map_or(1, |sheet| sheet.names.len());
-        return (sheet, names);
+/// The sheets of a call, one time in three with a fittings sheet.
+fn any_given(dice: &mut Dice) -> Given {
+    if dice.once_in(3) {
+        let (fittings, own) = make::any_pair(dice);
+        return Given { fittings: Some(fittings), own };
     }
-    make::good_sheet(dice)
+    Given::alone(make::any_sheet(dice))
 }
 
-/// How many dwarf nodes a sheet has; of a refused one, anything.
-fn nodes(sheet: &[u8]) -> usize {
-    peer::build(sheet, [usize::MAX; 3]).map_or(5, |dwarf| dwarf.records.len())
+/// Mostly good sheets, and their number of names.
+fn mostly_good(dice: &mut Dice) -> (Given, usize) {
+    if dice.once_in(6) {
+        let sheet = any_given(dice);
+        let names = peer::read(sheet.theirs()).map_or(1, |sheet| sheet.names.len());
+        return (sheet, names);
+    }
+    if dice.once_in(3) {
+        let (fittings, own, names) = make::good_pair(dice);
+        return (Given { fittings: Some(fittings), own }, names);
+    }
+    let (own, names) = make::good_sheet(dice);
+    (Given::alone(own), names)
+}
+
+/// How many dwarf nodes the sheets have; of refused ones, anything.
+fn nodes(sheet: &Given) -> usize {
+    peer::build(sheet.theirs(), [usize::MAX; 3]).map_or(5, |dwarf| dwarf.records.len())
 }
 
 fn lists(all: &[Crossing]) -> (Vec<u32>, Vec<i32>, Vec<u16>) {
@@ -160,9 +208,9 @@ fn lists(all: &[Crossing]) -> (Vec<u32>, Vec<i32>, Vec<u16>) {
 
 fn make_case(dice: &mut Dice, job: u64) -> Case {
     if job == 0 {
-        return Case::Read { sheet: make::any_sheet(dice) };
+        return Case::Read { sheet: any_given(dice) };
     }
-    let (sheet, names) = mostly_good_sheet(dice);
+    let (sheet, names) = mostly_good(dice);
     match job {
         1 => {
             let rooms = rooms(dice, [nodes(&sheet); 3]);
@@ -206,10 +254,10 @@ const JOBS: [&str; 4] = ["read", "build", "run", "classify"];
 
 /// The refusals that each job can give. 8 is in the table, and it is proved that no formula of a sheet gets it.
 const CAN: [&[usize]; 4] = [
-    &[0, 1, 2, 3, 4, 5, 6, 7],
-    &[0, 1, 2, 3, 4, 5, 6, 7, 9],
-    &[0, 1, 2, 3, 4, 5, 6, 7, 9, 10],
-    &[0, 1, 2, 3, 4, 5, 6, 7, 9, 10, 11, 12, 13],
+    &[0, 1, 2, 3, 4, 5, 6, 7, 17],
+    &[0, 1, 2, 3, 4, 5, 6, 7, 9, 17],
+    &[0, 1, 2, 3, 4, 5, 6, 7, 9, 10, 17],
+    &[0, 1, 2, 3, 4, 5, 6, 7, 9, 10, 11, 12, 13, 17],
 ];
 
 #[test]
@@ -217,7 +265,7 @@ fn the_two_agree_on_cases_from_a_seed() {
     let seed = from_env("KRESSEDACH_SEED", 1);
     let cases = from_env("KRESSEDACH_CASES", 120_000);
     let began = Instant::now();
-    let mut seen = [[0u64; 14]; 4];
+    let mut seen = [[0u64; 18]; 4];
     for number in 0..cases {
         let job = number % 4;
         let case = make_case(&mut Dice::of(seed, number), job);
@@ -226,7 +274,7 @@ fn the_two_agree_on_cases_from_a_seed() {
             Err(difference) => panic!("seed {seed}, case {number}: {difference}\n{case:?}"),
         }
     }
-    say(format!("{cases} cases from seed {seed} agree, in {:.1} s; given, then refused 1 to 13:", began.elapsed().as_secs_f64()));
+    say(format!("{cases} cases from seed {seed} agree, in {:.1} s; given, then refused 1 to 17:", began.elapsed().as_secs_f64()));
     for job in 0..4 {
         say(format!("  {:<8} {:?}", JOBS[job], seen[job]));
         // the cases are worth something: whatever a job can answer comes up
@@ -243,12 +291,32 @@ fn assert_same(case: Case) -> u8 {
 fn the_worked_sheet_damaged_everywhere() {
     let sheet = make::sheet(&["A", "B", "C"], &[0, 1, 2, 0xFFF0, 0xFFF2]);
     for at in 0..sheet.len() {
-        assert_same(Case::Read { sheet: sheet[..at].to_vec() });
+        assert_same(Case::Read { sheet: Given::alone(sheet[..at].to_vec()) });
         for byte in 0..=255 {
             let mut sheet = sheet.clone();
             sheet[at] = byte;
-            assert_same(Case::Build { sheet: sheet.clone(), rooms: [6; 3] });
-            assert_same(Case::Read { sheet });
+            assert_same(Case::Build { sheet: Given::alone(sheet.clone()), rooms: [6; 3] });
+            assert_same(Case::Read { sheet: Given::alone(sheet) });
+        }
+    }
+}
+
+/// Every cut and every changed byte of both sheets of a small pair.
+#[test]
+fn a_pair_damaged_everywhere() {
+    let (fittings, own) = (make::fittings(&["A", "B"]), make::sheet(&["C"], &[0, 1, 2, 0xFFF0, 0xFFF2]));
+    let read = |fittings: &[u8], own: &[u8]| {
+        assert_same(Case::Read { sheet: Given { fittings: Some(fittings.to_vec()), own: own.to_vec() } });
+    };
+    for (first, sheet) in [(true, &fittings), (false, &own)] {
+        let with = |sheet: &[u8]| if first { read(sheet, &own) } else { read(&fittings, sheet) };
+        for at in 0..sheet.len() {
+            with(&sheet[..at]);
+            for byte in 0..=255 {
+                let mut sheet = sheet.clone();
+                sheet[at] = byte;
+                with(&sheet);
+            }
         }
     }
 }
@@ -261,6 +329,7 @@ fn largest_sheets() -> Vec<Case> {
         let names = make::names(dice, 256, 32);
         let sheet = make::sheet(&names, &make::codes(dice, 256, 1024, form));
         assert_eq!(sheet.len(), 13_062);
+        let sheet = Given::alone(sheet);
         cases.push(Case::Read { sheet: sheet.clone() });
         cases.push(Case::Build { sheet: sheet.clone(), rooms: [3069; 3] });
         let toggles: Vec<u16> = (0..256).chain((0..256).rev()).chain((0..2000).map(|_| dice.below(256) as u16)).collect();
@@ -284,15 +353,15 @@ fn a_small_stack_is_enough() {
     let calls = || {
         for case in largest_sheets() {
             match case {
-                Case::Read { sheet } => drop(kressedach::read(&sheet).unwrap()),
-                Case::Build { sheet, .. } => drop(kressedach::build(&sheet).unwrap()),
-                Case::Run { sheet, toggles, .. } => drop(kressedach::run(&sheet, &toggles).unwrap()),
+                Case::Read { sheet } => drop(kressedach::read(sheet.ours()).unwrap()),
+                Case::Build { sheet, .. } => drop(kressedach::build(sheet.ours()).unwrap()),
+                Case::Run { sheet, toggles, .. } => drop(kressedach::run(sheet.ours(), &toggles).unwrap()),
                 Case::Classify { sheet, lines, positions, shapes, .. } => {
                     let all = lines.iter().zip(&positions).zip(&shapes);
                     let all: Vec<_> = all
                         .map(|((line, position), shape)| kressedach::Crossing { line: *line, position: *position, shape: *shape })
                         .collect();
-                    drop(kressedach::classify(&sheet, &all).unwrap());
+                    drop(kressedach::classify(sheet.ours(), &all).unwrap());
                 }
             }
         }
@@ -304,7 +373,7 @@ fn a_small_stack_is_enough() {
 #[test]
 fn long_lists() {
     const LONG: usize = 1_000_000;
-    let sheet = make::sheet(&["A", "B", "C"], &[0, 1, 2, 0xFFF0, 0xFFF2]);
+    let sheet = Given::alone(make::sheet(&["A", "B", "C"], &[0, 1, 2, 0xFFF0, 0xFFF2]));
     let toggles: Vec<u16> = (0..LONG).map(|k| (k * k / 7 % 3) as u16).collect();
     assert_eq!(assert_same(Case::Run { sheet: sheet.clone(), toggles, rooms: [LONG, LONG, 6] }), 0);
     type Entry = fn(usize) -> (u32, i32, u16);

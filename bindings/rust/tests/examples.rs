@@ -1,5 +1,6 @@
 //! What `examples/README.md` says is so: its sheets are the files, and its commands print what stands under them.
 
+use kressedach::Sheets;
 use std::path::Path;
 use std::process::Command;
 
@@ -26,19 +27,35 @@ fn bytes(line: &str) -> Vec<u8> {
     (0..digits.len()).step_by(2).map(|k| u8::from_str_radix(&digits[k..k + 2], 16).unwrap()).collect()
 }
 
+/// The bytes of a sheet that the page writes out, and the file that has them.
+fn sheet_file(name: &str, lines: &[String]) -> Vec<u8> {
+    let due: Vec<u8> = lines.iter().flat_map(|line| bytes(line)).collect();
+    let path = Path::new(EXAMPLES).join(name);
+    if std::env::var_os("KRESSEDACH_WRITE_EXAMPLES").is_some() {
+        std::fs::write(&path, &due).unwrap();
+    }
+    assert_eq!(std::fs::read(&path).unwrap(), due, "{name}");
+    due
+}
+
 #[test]
 fn the_sheets_are_as_written() {
     let sheets = blocks("sheet");
-    assert_eq!(sheets.len(), 2);
-    for (name, lines) in sheets {
-        let due: Vec<u8> = lines.iter().flat_map(|line| bytes(line)).collect();
-        let path = Path::new(EXAMPLES).join(&name);
-        if std::env::var_os("KRESSEDACH_WRITE_EXAMPLES").is_some() {
-            std::fs::write(&path, &due).unwrap();
+    assert_eq!(sheets.len(), 4);
+    for (heading, lines) in &sheets {
+        let (name, fittings) = heading.split_once(" beside ").unwrap_or((heading, ""));
+        let own = sheet_file(name, lines);
+        let named: Vec<&String> = lines.iter().filter(|line| line.contains("shape ")).collect();
+        let beside = sheets.iter().find(|(heading, _)| heading == fittings).map(|(name, lines)| (sheet_file(name, lines), lines));
+        // a fittings sheet is read beside the sheet that names it
+        if heading == "fittings.sheet" {
+            continue;
         }
-        assert_eq!(std::fs::read(&path).unwrap(), due, "{name}");
-        for (shape, text) in kressedach::names(&due).unwrap().iter().enumerate() {
-            assert!(lines[1 + shape].ends_with(&format!("shape {shape}: {text}")), "{name}: {text}");
+        let fitted: Vec<&String> = beside.iter().flat_map(|(_, lines)| lines.iter().filter(|line| line.contains("shape "))).collect();
+        let names = kressedach::names(Sheets { fittings: beside.as_ref().map(|(bytes, _)| &bytes[..]), customers: &own }).unwrap();
+        assert_eq!(names.len(), fitted.len() + named.len());
+        for (shape, (text, line)) in names.iter().zip(fitted.into_iter().chain(named)).enumerate() {
+            assert!(line.ends_with(&format!("shape {shape}: {text}")), "{name}: {text}");
         }
     }
 }
@@ -57,5 +74,5 @@ fn the_commands_print_as_written() {
             commands += 1;
         }
     }
-    assert_eq!(commands, 9);
+    assert_eq!(commands, 13);
 }

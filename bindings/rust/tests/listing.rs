@@ -8,6 +8,7 @@
 //! `KRESSEDACH_LISTING` names.
 
 use peer::formula::{Formula, Op};
+use peer::sheet::Sheets;
 use peer::{make, say};
 use std::io::Write;
 use std::path::PathBuf;
@@ -136,7 +137,7 @@ fn of_the_largest_formulas() {
     let dice = &mut make::Dice::of(3, 0);
     let mut of = |form| {
         let sheet = make::sheet(&["A"], &make::codes(dice, 1, 1024, form));
-        (peer::read(&sheet).unwrap().formula.height(), listed(&sheet)[3])
+        (peer::read(Sheets::alone(&sheet)).unwrap().formula.height(), listed(&sheet)[3])
     };
     assert_eq!(of(make::Form::LeftChain), (1023, 11));
     assert_eq!(of(make::Form::RightChain), (1023, 11));
@@ -166,7 +167,7 @@ fn how_many_bytes_it_needs() {
         let mut bytes = make::any_sheet(dice);
         let tail = dice.below(20_000);
         bytes.extend((0..tail).map(|_| dice.below(256) as u8));
-        match peer::build(&bytes, [3072; 3]) {
+        match peer::build(Sheets::alone(&bytes), [3072; 3]) {
             Ok(dwarf) => assert_eq!(listed(&bytes)[1], dwarf.records.len()),
             Err(no) => assert_eq!(listing(&bytes), format!("refused {} {}\n", no.number, no.place)),
         }

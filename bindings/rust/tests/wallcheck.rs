@@ -1,6 +1,6 @@
 //! The command's answers, words and exit status.
 
-use peer::make::sheet;
+use peer::make::{fittings, sheet};
 use std::io::Write;
 use std::path::PathBuf;
 use std::process::{Command, Stdio};
@@ -97,20 +97,45 @@ fn names_of_digits_commas_and_quotation_marks() {
 #[test]
 fn refused_sheets() {
     let twice = sheet(&["Port", "PORT", "Port"], &[0]);
-    let taken = "refused 5 at byte 19: a name that is taken already\n  the name there is \"Port\"";
+    let taken = "refused 5 at byte 19 of the customer's sheet: a name that is taken already\n  the name there is \"Port\"";
     assert_eq!(wallcheck(&["read", "-"], &twice), refused(taken));
     assert_eq!(wallcheck(&["list", "-"], &twice), refused(taken));
-    let spaced = "refused 4 at byte 5: a name has a wrong length, or a byte that is not 0x21 to 0x7E\n  the name there is \"a\\x20b\"";
+    let spaced = "refused 4 at byte 5 of the customer's sheet: a name has a wrong length, or a byte that is not 0x21 to 0x7E\n  the name there is \"a\\x20b\"";
     assert_eq!(wallcheck(&["read", "-"], &sheet(&["a b"], &[0])), refused(spaced));
     let long = wallcheck(&["read", "-"], &sheet(&["N".repeat(33)], &[0])).2;
     assert!(long.ends_with("the name there has 33 bytes; 1 to 32 are allowed\n"), "{long}");
-    let code = "refused 7 at byte 12: the formula is wrong\n  the code there is 0xFFF4";
+    let code = "refused 7 at byte 12 of the customer's sheet: the formula is wrong\n  the code there is 0xFFF4";
     assert_eq!(wallcheck(&["read", "-"], &sheet(&["A"], &[0xFFF4])), refused(code));
-    let end = "refused 7 at byte 9: the formula is wrong\n  its end leaves more than one operand";
+    let end = "refused 7 at byte 9 of the customer's sheet: the formula is wrong\n  its end leaves more than one operand";
     assert_eq!(wallcheck(&["list", "-"], &sheet(&["A"], &[0, 0])), refused(end));
-    assert_eq!(wallcheck(&["read", "-"], b""), refused("refused 1 at byte 0: the sheet ends too soon"));
-    let tag = "refused 2 at byte 0: a tag that is unknown or out of place\n  the tag there is 35";
+    assert_eq!(wallcheck(&["read", "-"], b""), refused("refused 1 at byte 0 of the customer's sheet: the sheet ends too soon"));
+    let tag = "refused 2 at byte 0 of the customer's sheet: a tag that is unknown or out of place\n  the tag there is 35";
     assert_eq!(wallcheck(&["read", "-"], b"# a text"), refused(tag));
+}
+
+/// Every command takes a fittings sheet, and a refusal says which sheet it is about.
+#[test]
+fn beside_a_fittings_sheet() {
+    let lugs = file("lugs.sheet", &fittings(&["Lug"]));
+    let own = sheet(&["Plate"], &[1, 0, 0xFFF0]);
+    assert_eq!(wallcheck(&["--fittings", &lugs, "read", "-"], &own), answered("names,leaves,first,past\n2,2,16,22\n"));
+    assert_eq!(wallcheck(&["read", "--names", "-", "--fittings", &lugs], &own), answered("shape,name\n0,Lug\n1,Plate\n"));
+    let size = wallcheck(&["list", "--size", "--fittings", &lugs, "-"], &own);
+    assert_eq!(size, answered("leaves,nodes,rounds,height\n2,3,1,1\n"));
+    let path = file("plate.sheet", &own);
+    let ran = wallcheck(&["run", "--fittings", &lugs, &path, "-"], b"name\nLug\nPlate\nLug\n");
+    assert_eq!(ran, answered("toggle,shape,name,root,count\n0,0,Lug,1,1\n1,1,Plate,1,1\n2,0,Lug,1,1\n"));
+    let walls = wallcheck(&["walls", "--fittings", &lugs, &path, "-"], b"line,position,name\n1,0,Lug\n1,5,Plate\n1,7,Lug\n1,9,Plate\n");
+    assert_eq!(walls, answered("line,start,end,start_shape,end_shape\n1,0,9,Lug,Plate\n"));
+
+    let equal = "refused 17 at byte 5 of the customer's sheet: a name that a fitting has\n  the name there is \"Lug\"";
+    assert_eq!(wallcheck(&["read", "--fittings", &lugs, "-"], &sheet(&["Lug"], &[0])), refused(equal));
+    let empty = "refused 1 at byte 0 of the fittings sheet: the sheet ends too soon";
+    assert_eq!(wallcheck(&["read", "--fittings", "-", &path], b""), refused(empty));
+    let formula = "refused 2 at byte 13 of the fittings sheet: a tag that is unknown or out of place\n  the tag there is 3";
+    assert_eq!(wallcheck(&["read", "--fittings", "-", &path], &own), refused(formula));
+    assert_eq!(wallcheck(&["read", "--fittings", "-", "-"], b"").0, Some(2));
+    assert_eq!(wallcheck(&["read", &path, "--fittings"], b"").0, Some(2));
 }
 
 #[test]
@@ -133,7 +158,10 @@ fn refused_lists() {
     assert_eq!(walls("2,5,Port\n2,6,PORT\n2,7,Port\n3,1,Port\n"), refused(&format!("{odd}\n  {about}")));
     // the sheet comes first, whatever the list holds
     let damaged = file("damaged.sheet", &worked()[..29]);
-    assert_eq!(wallcheck(&["run", &damaged, "-"], b"nonsense"), refused("refused 1 at byte 29: the sheet ends too soon"));
+    assert_eq!(
+        wallcheck(&["run", &damaged, "-"], b"nonsense"),
+        refused("refused 1 at byte 29 of the customer's sheet: the sheet ends too soon")
+    );
 }
 
 #[test]
@@ -168,7 +196,7 @@ fn usage() {
     assert_eq!(said(&["read"]), usage("'read' takes one file: SHEET"));
     assert_eq!(said(&["run", "a"]), usage("'run' takes two files: SHEET TOGGLES"));
     assert_eq!(said(&["walls", "a", "b", "c"]), usage("'walls' takes two files: SHEET CROSSINGS"));
-    assert_eq!(said(&["walls", "-", "-"]), usage("only one of the two files can be standard input"));
+    assert_eq!(said(&["walls", "-", "-"]), usage("only one of the files can be standard input"));
     let (status, help, _) = said(&["--help"]);
     assert_eq!(status, Some(0));
     assert!(help.lines().all(|line| line.len() <= 80), "a line of the help is longer than a terminal");

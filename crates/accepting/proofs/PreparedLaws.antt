@@ -1,63 +1,79 @@
--- What is accepted and prepared, exit by exit: the reader's refusal, and the accepted sheet.
+-- What is accepted and prepared, exit by exit: the reader's refusal, and the accepted sheets.
 use Prim.Native.Nat.{ℕ, _≤_}
 use native.Mathlib.Omega.{arith}
-use mathlib.Core.Path.{_≡_, ap, _∙_}
+use mathlib.Core.Path.{_≡_, refl, ap, _∙_}
+use mathlib.Core.Bool.{Bool, true, false}
 use mathlib.Core.List.{List}
 use lib.ListN.{length}
-use Rattle.outcome.specs.Outcome.{refused}
+use Rattle.outcome.specs.Outcome.{refused, unfit}
 use Rattle.formula.specs.Formula.{Formula}
 use Rattle.formula.proofs.Laws.{over-more}
-use Rattle.sheet.specs.Sheet.{Sheet, between, codesOf}
+use Rattle.sheet.specs.Sheet.{Sheets, sheetsOf, ownSheet, Sheet, between, codesOf}
 use Rattle.sheet_codes.specs.Codes.{CodesFit, CodesStand}
 use Rattle.sheet_reading.specs.Reading.{told, answerOf}
 use Rattle.sheet_reading.specs.declared.ReadAnswer.{ReadAnswer}
 use Rattle.sheet_reading.specs.declared.ReadAnswer.the-variants as read
-use Rattle.sheet_reading.proofs.Settled.{read-refusal}
+use Rattle.sheet_reading.proofs.Settled.{read-refusal, read-unfit}
 use Rattle.sheet_reading.proofs.Told.{Known, read-known, known-facts, formula-ordered, formula-inside, formula-fits, formula-codes}
 use Rattle.tree_dwarf.specs.Dwarfed.{Plans, Planned, Dwarfed}
 use Rattle.tree_dwarf.specs.declared.Figures.{Figures}
 use Rattle.accepting.specs.Accepting.{accepted}
-use Rattle.accepting.proofs.Accepted.{accepted-given, accepted-refused}
+use Rattle.accepting.proofs.Accepted.{accepted-given, accepted-refused, accepted-unfit}
 use Rattle.accepting.specs.Prepared.{Coded, SaysCoded, Says}
 use Rattle.accepting.specs.declared.Acceptance.{Acceptance}
 use Rattle.accepting.specs.declared.Acceptance.the-variants as acceptance
 use Rattle.accepting.specs.declared.Prepared.the-variants as prepared
 
--- ---- a sheet accepted
-module _ (s : List ℕ) (a : ReadAnswer) (said : answerOf a ≡ told s) where
-  pub sheet-refused : (k p : ℕ) → a ≡ read.Refused k p → accepted s ≡ refused k p
-  sheet-refused k p is = accepted-refused s k p (read-refusal s a said k p is)
+-- ---- sheets accepted
+module _ (c : Sheets) (a : ReadAnswer) (said : answerOf a ≡ told c) where
+  pub sheet-refused : (k p : ℕ) → a ≡ read.Refused k p → accepted c ≡ refused k p
+  sheet-refused k p is = accepted-refused c k p (read-refusal c a said k p is)
+
+  pub sheet-unfit : (k p : ℕ) → a ≡ read.Unfit k p → accepted c ≡ unfit k p
+  sheet-unfit k p is = accepted-unfit c k p (read-unfit c a said k p is)
 
   module _ (n l first past : ℕ) (is : a ≡ read.Read n l first past) where
-    known : Known s n l first past
-    known = read-known s a said n l first past is
+    known : Known c n l first past
+    known = read-known c a said n l first past is
 
     pub ordered : first ≤ past
-    ordered = formula-ordered s n l first past known
+    ordered = formula-ordered c n l first past known
 
-    pub inside : past ≤ length s
-    inside = formula-inside s n l first past known
-
-    pub fit : (array : List ℕ) → length array ≡ 2048 → CodesFit (between s first past) array
-    fit = formula-fits s n l first past known
-
-    -- the codes put into the array are those of the sheet's formula
-    pub ready : (array : List ℕ) (count : ℕ) → CodesStand (codesOf (between s first past)) array count → SaysCoded s array (acceptance.Given n count)
+    -- the codes put into the array are those of the formula
+    ready : (array : List ℕ) (count : ℕ) → CodesStand (codesOf (between (ownSheet c) first past)) array count → SaysCoded c array (acceptance.Given n count)
     ready array count stand = (
       known .sheet,
       record {
-        is = accepted-given s (known .sheet) (known .read);
+        is = accepted-given c (known .sheet) (known .read);
         names-are = known .names-are;
-        few-codes = omega (arith, stand .all, ap length (formula-codes s n l first past known), known-facts s n l first past known .few-codes);
-        codes-are = stand .are ∙ formula-codes s n l first past known;
-        facts = known-facts s n l first past known;
+        few-codes = omega (arith, stand .all, ap length (formula-codes c n l first past known), known-facts c n l first past known .own .few-codes);
+        codes-are = stand .are ∙ formula-codes c n l first past known;
+        facts = known-facts c n l first past known;
       },
     )
 
+-- The customer's sheet is that of the flag's pair.
+own-of : (b : Bool) (f s : List ℕ) → ownSheet (sheetsOf b f s) ≡ s
+own-of true f s = refl
+own-of false f s = refl
+
+module _ (b : Bool) (f s : List ℕ) (a : ReadAnswer) (said : answerOf a ≡ told (sheetsOf b f s)) (n l first past : ℕ) (is : a ≡ read.Read n l first past) where
+  pub inside : past ≤ length s
+  inside = rw (own-of b f s) at (formula-inside (sheetsOf b f s) n l first past (known (sheetsOf b f s) a said n l first past is))
+
+  pub fit : (array : List ℕ) → length array ≡ 2048 → CodesFit (between s first past) array
+  fit array sized = rw (own-of b f s) at (formula-fits (sheetsOf b f s) n l first past (known (sheetsOf b f s) a said n l first past is) array sized)
+
+  pub coded-given : (array : List ℕ) (count : ℕ) → CodesStand (codesOf (between s first past)) array count → SaysCoded (sheetsOf b f s) array (acceptance.Given n count)
+  coded-given array count stand = ready (sheetsOf b f s) a said n l first past is array count (rw (own-of b f s) stand)
+
 -- ---- and prepared
-module _ (s codes : List ℕ) (r : Acceptance) (says : SaysCoded s codes r) where
+module _ (s : Sheets) (codes : List ℕ) (r : Acceptance) (says : SaysCoded s codes r) where
   pub code-refused : (number place : ℕ) → r ≡ acceptance.Refused number place → accepted s ≡ refused number place
   code-refused number place is = rw is at says
+
+  pub code-unfit : (number place : ℕ) → r ≡ acceptance.Unfit number place → accepted s ≡ unfit number place
+  code-unfit number place is = rw is at says
 
   module _ (names n : ℕ) (is : r ≡ acceptance.Given names n) where
     coded : (x : Sheet) × Coded s x names n codes
@@ -68,7 +84,7 @@ module _ (s codes : List ℕ) (r : Acceptance) (says : SaysCoded s codes r) wher
 
     plans : Plans (coded .0 .formula) codes n
     plans =
-        let a = coded .1 .facts in
+        let a = coded .1 .facts .own in
         record { over = over-more (coded .0 .formula) _ 256 (a .good-names .few) (a .over); codes-are = coded .1 .codes-are }
 
     pub planned : Planned codes n

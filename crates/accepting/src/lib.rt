@@ -1,25 +1,28 @@
-// What every job does first: the sheet is read and judged, its codes and its dwarf tree put into arrays.
+// What every job does first: the sheets are read and judged, the formula's codes and its dwarf tree put into arrays.
 use sheet_reading::ReadAnswer;
 use tree_dwarf::Figures;
 ghost use mathlib.Core.Path.{_≡_};
 ghost use lib.ListN.{length};
+ghost use Rattle.sheet.specs.Sheet.{sheetsOf};
 ghost use Rattle.tree_tokens.specs.Tokens.{Shelves};
 ghost use Rattle.accepting.specs.Prepared.{SaysCoded, Says};
 
-// What is accepted: the number of names and of codes; or the refusal of the sheet.
+// What is accepted: the number of names and of codes; or the refusal of the customer's sheet, or of the fittings sheet.
 pub enum Acceptance {
     Given { names: usize, codes: usize },
     Refused { number: u8, place: usize },
+    Unfit { number: u8, place: usize },
 }
 
-// A sheet's codes in an array. 8 needs no test: no formula of a sheet has a dwarf tree taller than 57.
-pub fn accept(sheet: &[u8], codes: &mut [u16; 2048]) -> Acceptance
+// The formula's codes in an array. 8 needs no test: no formula of a sheet has a dwarf tree taller than 57.
+pub fn accept(fitted: bool, fittings: &[u8], sheet: &[u8], codes: &mut [u16; 2048]) -> Acceptance
     requires { ⌜ length (now codes) ≡ 2048 ⌝ }
     ensures { λ _. ⌜ length (now (codes .exit)) ≡ 2048 ⌝ }
-    ensures { λ r. ⌜ SaysCoded (now (sheet .entry)) (now (codes .exit)) r ⌝ }
+    ensures { λ r. ⌜ SaysCoded (sheetsOf fitted (now (fittings .entry)) (now (sheet .entry))) (now (codes .exit)) r ⌝ }
 {
-    match sheet_reading::read_sheet(sheet) {
+    match sheet_reading::read_sheets(fitted, fittings, sheet) {
         ReadAnswer::Refused { number, place } => Acceptance::Refused { number, place },
+        ReadAnswer::Unfit { number, place } => Acceptance::Unfit { number, place },
         ReadAnswer::Read {
             names,
             leaves: _,
@@ -32,7 +35,7 @@ pub fn accept(sheet: &[u8], codes: &mut [u16; 2048]) -> Acceptance
     }
 }
 
-// What is prepared: the number of names, of codes, and what is built; or the refusal of the sheet.
+// What is prepared: the number of names, of codes, and what is built; or the refusal of the customer's sheet, or of the fittings sheet.
 pub enum Prepared {
     Ready {
         names: usize,
@@ -43,10 +46,16 @@ pub enum Prepared {
         number: u8,
         place: usize,
     },
+    Unfit {
+        number: u8,
+        place: usize,
+    },
 }
 
-// A sheet's codes and its dwarf tree in arrays.
+// The formula's codes and its dwarf tree in arrays.
 pub fn prepare(
+    fitted: bool,
+    fittings: &[u8],
     sheet: &[u8],
     codes: &mut [u16; 2048],
     kinds: &mut [u16; 3072],
@@ -55,10 +64,11 @@ pub fn prepare(
 ) -> Prepared
     requires { ⌜ (length (now codes) ≡ 2048) × Shelves (now kinds) (now firsts) (now seconds) ⌝ }
     ensures { λ _. ⌜ (length (now (codes .exit)) ≡ 2048) × Shelves (now (kinds .exit)) (now (firsts .exit)) (now (seconds .exit)) ⌝ }
-    ensures { λ r. ⌜ Says (now (sheet .entry)) (now (codes .exit)) (now (kinds .exit)) (now (firsts .exit)) (now (seconds .exit)) r ⌝ }
+    ensures { λ r. ⌜ Says (sheetsOf fitted (now (fittings .entry)) (now (sheet .entry))) (now (codes .exit)) (now (kinds .exit)) (now (firsts .exit)) (now (seconds .exit)) r ⌝ }
 {
-    match accept(sheet, codes) {
+    match accept(fitted, fittings, sheet, codes) {
         Acceptance::Refused { number, place } => Prepared::Refused { number, place },
+        Acceptance::Unfit { number, place } => Prepared::Unfit { number, place },
         Acceptance::Given { names, codes: n } => {
             let built = tree_dwarf::build_tree(codes, n, kinds, firsts, seconds);
             Prepared::Ready {

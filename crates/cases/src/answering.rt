@@ -27,9 +27,15 @@ use job_classify::ClassifyAnswer;
 use job_run::RunAnswer;
 use sheet_reading::ReadAnswer;
 
+// A refusal of the fittings sheet.
+fn unfit(number: u8, place: usize) {
+    say(b" fittings");
+    refused(number, place);
+}
+
 // Names, leaves, the formula's first offset and the one past its end.
 fn read(sheet: &[u8]) {
-    match sheet_reading::read_sheet(sheet) {
+    match sheet_reading::read_sheets(false, b"", sheet) {
         ReadAnswer::Read {
             names,
             leaves,
@@ -43,6 +49,7 @@ fn read(sheet: &[u8]) {
             next(past);
         }
         ReadAnswer::Refused { number, place } => refused(number, place),
+        ReadAnswer::Unfit { number, place } => unfit(number, place),
     }
 }
 
@@ -66,6 +73,10 @@ fn built(answer: BuildAnswer) -> usize {
             refused(number, place);
             0
         }
+        BuildAnswer::Unfit { number, place } => {
+            unfit(number, place);
+            0
+        }
     }
 }
 
@@ -80,6 +91,8 @@ fn build(sheet: &[u8], room: [usize; 8]) {
     let mut firsts = [99u16; 3072];
     let mut seconds = [99u16; 3072];
     let nodes = built(job_build::build(
+        false,
+        b"",
         sheet,
         lend_u16(&mut kinds, room[0]),
         lend_u16(&mut firsts, room[1]),
@@ -100,6 +113,10 @@ fn ran(answer: RunAnswer) -> usize {
             refused(number, place);
             0
         }
+        RunAnswer::Unfit { number, place } => {
+            unfit(number, place);
+            0
+        }
     }
 }
 
@@ -114,6 +131,8 @@ fn run(sheet: &[u8], toggles: &[u16], room: [usize; 8]) {
     let mut counts = [99u32; 3072];
     let mut labels = [99u8; 3072];
     let nodes = ran(job_run::run(
+        false,
+        b"",
         sheet,
         toggles,
         lend_u8(&mut roots, room[0]),
@@ -134,6 +153,10 @@ fn classified(answer: ClassifyAnswer) -> usize {
         }
         ClassifyAnswer::Refused { number, place } => {
             refused(number, place);
+            0
+        }
+        ClassifyAnswer::Unfit { number, place } => {
+            unfit(number, place);
             0
         }
     }
@@ -157,6 +180,8 @@ fn classify(sheet: &[u8], l: &[u32], p: &[i32], s: &[u16], room: [usize; 8]) {
     let mut start_shapes = [99u16; 3072];
     let mut end_shapes = [99u16; 3072];
     let n = classified(job_classify::classify(
+        false,
+        b"",
         sheet,
         l,
         p,

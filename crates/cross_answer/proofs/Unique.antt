@@ -7,7 +7,7 @@ use mathlib.Core.Logic.{_⊎_, inl, inr}
 use native.Mathlib.Omega.{arith}
 use lib.Dec.{leb}
 use lib.ListN.{length}
-use Rattle.outcome.specs.Outcome.{Outcome, given, refused, need, _>>_}
+use Rattle.outcome.specs.Outcome.{Outcome, given, refused, unfit, need, _>>_}
 use Rattle.outcome.proofs.Questions.{then-given, given-same}
 use Rattle.cross_cuts.specs.Cuts.{Cut, sound, startRow, crossings, faultless, roomy, answered}
 use Rattle.cross_answer.specs.Answer.{Counts, counts, crossedOf, Lists, Promise}
@@ -21,6 +21,7 @@ crossedOf-same r q h = sym (same r) ∙ ap back h ∙ same q
     back : Outcome Counts → CrossAnswer
     back (given (counts shapes crossings)) = Crossed shapes crossings
     back (refused number place) = Refused number place
+    back (unfit number place) = Refused number place
 
     same : (r : CrossAnswer) → back (crossedOf r) ≡ r
     same (Crossed shapes crossings) = refl
@@ -50,6 +51,7 @@ then-refused (refused i r) o k p e =
     let a : i ≡ k = cc in
     let b : r ≡ p = cc in
     inl (rw (a, b))
+then-refused (unfit i r) o k p e = let z : _≡_ {A = ℕ} 0 1 = cc in absurd (omega arith)
 
 faultless-refused : (number i : ℕ) (cuts : List Cut) (k p : ℕ) → faultless number i cuts ≡ refused k p → k ≡ number
 unfolding faultless

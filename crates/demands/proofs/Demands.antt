@@ -13,7 +13,7 @@ use Rattle.formula.specs.Formula.{Formula, inside}
 use Rattle.formula.specs.States.{outside, toggledBy}
 use Rattle.contraction.specs.Rounds.{dwarf}
 use Rattle.contraction.specs.Height.{height}
-use Rattle.sheet.specs.Sheet.{Sheet}
+use Rattle.sheet.specs.Sheet.{Sheets, Sheet}
 use Rattle.sheet.proofs.Guaranteed.{guaranteed}
 use Rattle.accepting.specs.Accepting.{accepted}
 use Rattle.accepting.proofs.Accepted.{accepted-read}
@@ -44,8 +44,8 @@ roots-at f done (t ∷ ts) zero h = refl
 roots-at f done (t ∷ ts) (suc i) h =
     roots-at f (done ++ (t ∷ [])) ts i (omega arith) ∙ ap (λ us. bit (inside f (toggledBy us))) (append-assoc done (t ∷ []) (take (suc i) ts))
 
--- The sheet s, accepted as x, and the toggles ts; the lists after the call.
-module _ (s : List ℕ) (x : Sheet) (is : accepted s ≡ given x) (ts rs cs ls : List ℕ) (nodes : ℕ) (rs′ cs′ ls′ : List ℕ)
+-- The sheets s, accepted as x, and the toggles ts; the lists after the call.
+module _ (s : Sheets) (x : Sheet) (is : accepted s ≡ given x) (ts rs cs ls : List ℕ) (nodes : ℕ) (rs′ cs′ ls′ : List ℕ)
     (ran : Ran (running s ts (length rs) (length cs) (length ls)) rs cs ls (run.Ran nodes) rs′ cs′ ls′) where
   abbrev job : Outcome Answers
   job = running s ts (length rs) (length cs) (length ls)
@@ -84,7 +84,7 @@ module _ (s : List ℕ) (x : Sheet) (is : accepted s ≡ given x) (ts rs cs ls :
       ap (λ l. getD l d 0) listed ∙ List·getD-append (labelsOf (toggledBy ts) (dwarf f)) _ 0 d (omega (arith, answered .1, length-labels (toggledBy ts) (dwarf f)))
 
 -- Two toggle lists in which each shape is toggled an odd number of times in both or an even number in both leave the same label at every node.
-pub same-oddness-same-labels : (s : List ℕ) (x : Sheet) → accepted s ≡ given x
+pub same-oddness-same-labels : (s : Sheets) (x : Sheet) → accepted s ≡ given x
     → (ts rs cs ls : List ℕ) (nodes : ℕ) (rs′ cs′ ls′ : List ℕ) → Ran (running s ts (length rs) (length cs) (length ls)) rs cs ls (run.Ran nodes) rs′ cs′ ls′
     → (us ps ds ms : List ℕ) (nodes₂ : ℕ) (ps′ ds′ ms′ : List ℕ) → Ran (running s us (length ps) (length ds) (length ms)) ps ds ms (run.Ran nodes₂) ps′ ds′ ms′
     → ((shape : ℕ) → toggledBy ts shape ≡ toggledBy us shape)
@@ -101,10 +101,10 @@ same-oddness-same-labels s x is ts rs cs ls nodes rs′ cs′ ls′ a us ps ds m
 
 -- ---- Demand 2, lines that are answered: the walls reported are the longest stretches of positive length inside, all of them, in rising order, each with the shapes that bound it
 
-module _ (s : List ℕ) (x : Sheet) (is : accepted s ≡ given x) (c : CrossingLists) (lent : AnswerLists) (ws : List Wall) (gives : classifying s c lent ≡ given ws) where
+module _ (s : Sheets) (x : Sheet) (is : accepted s ≡ given x) (c : CrossingLists) (lent : AnswerLists) (ws : List Wall) (gives : classifying s c lent ≡ given ws) where
   pub walls-right : Right (x .formula) (entries c) ws
   walls-right =
-      classified-right (x .formula) (length (x .names)) (guaranteed s x (accepted-read s x is .0) .good-names .few) c lent ws
+      classified-right (x .formula) (length (x .names)) (guaranteed s x (accepted-read s x is .0) .own .good-names .few) c lent ws
       (sym (classifying-accepted c lent s x is) ∙ gives)
 
   -- No other list is right.

@@ -9,7 +9,7 @@ use Rattle.formula.specs.Formula.{union, intersection, difference, exclusive, F
 use Rattle.formula.specs.States.{times}
 use Rattle.contraction.specs.Records.{number}
 use Rattle.contraction.specs.Rounds.{dwarf}
-use Rattle.sheet.specs.Sheet.{lengthAt, pastAt, bytesAt, allGood, same, taken, codesOf, allCodes, formulaOf, header, nameAt, formulaAt, fieldAt, fields, reading}
+use Rattle.sheet.specs.Sheet.{alone, lengthAt, pastAt, bytesAt, allGood, same, taken, codesOf, allCodes, formulaOf, header, nameAt, formulaAt, fieldAt, fields, own, reading}
 use Rattle.accepting.specs.Accepting.{accepted}
 use Rattle.toggles.specs.Toggles.{Answers, answers}
 use Rattle.lines.specs.Lines as lines
@@ -80,11 +80,11 @@ pub data Case : Type 0 where
 
 abbrev pub Holds : Case → Type 0
 Holds (bytes s b) = s ≡ b
-Holds (builds s n) = part summaryOf (building s room room room) ≡ given n
-Holds (lists s rs) = part (λ f. map (λ r. (number (r .kind), r .first, r .second)) (dwarf f)) (building s room room room) ≡ given rs
-Holds (runs s ts a) = running s ts room room room ≡ given a
+Holds (builds s n) = part summaryOf (building (alone s) room room room) ≡ given n
+Holds (lists s rs) = part (λ f. map (λ r. (number (r .kind), r .first, r .second)) (dwarf f)) (building (alone s) room room room) ≡ given rs
+Holds (runs s ts a) = running (alone s) ts room room room ≡ given a
 Holds (walls s xs ws) =
-    classifying s (crossingLists (map (λ x. 0) xs) (map (λ x. x .0) xs) (map (λ x. x .1) xs)) (answerLists lentNumbers lentPlaces lentPlaces lentNumbers lentNumbers)
+    classifying (alone s) (crossingLists (map (λ x. 0) xs) (map (λ x. x .0) xs) (map (λ x. x .1) xs)) (answerLists lentNumbers lentPlaces lentPlaces lentNumbers lentNumbers)
     ≡ given (map (λ w. record { line = 0; start = w .0 .0; end = w .1 .0; startShape = w .0 .1; endShape = w .1 .1 }) ws)
 
 abbrev pub All : List Case → Type 0
@@ -123,5 +123,5 @@ table =
     ∷ []
 
 pub table-holds : All table
-unfolding building giving running toggling classifying accepted reading fields fieldAt header nameAt formulaAt formulaOf allCodes codesOf taken same allGood bytesAt pastAt lengthAt times classified lines.judged ordered firstLine anyInside crossed anyOn lastOn lowestFrom shapeAt wallsFrom
+unfolding building giving running toggling classifying accepted reading own fields fieldAt header nameAt formulaAt formulaOf allCodes codesOf taken same allGood bytesAt pastAt lengthAt times classified lines.judged ordered firstLine anyInside crossed anyOn lastOn lowestFrom shapeAt wallsFrom
 table-holds = (refl, (refl, (refl, (refl, (refl, (refl, (refl, (refl, (refl, (refl, (refl, (refl, (refl, (refl, (refl, tt)))))))))))))))

@@ -1,14 +1,19 @@
 -- What is reported of an answer, by its case; and that the promises settle the reports.
-use Prim.Native.Nat.{ℕ}
+use Prim.Native.Nat.{ℕ, _≤_, _<_}
 use mathlib.Core.Path.{_≡_, sym, ap, _∙_}
 use mathlib.Core.List.{List}
 use lib.IntN.{ℤ}
-use Rattle.outcome.specs.Outcome.{Outcome, given, refused}
+use borrow.Author.Tests.{le-leb, lt-leb, eq-eqb, ne-eqb}
+use Rattle.outcome.specs.Outcome.{Outcome, given, refused, unfit}
 use Rattle.formula.specs.Formula.{Formula}
 use Rattle.sheet_reading.specs.Reading.{Numbers, numbers, answerOf}
 use Rattle.sheet_reading.specs.declared.ReadAnswer.{ReadAnswer}
 use Rattle.sheet_reading.specs.declared.ReadAnswer.the-variants as read
 use Rattle.lines.specs.Lines.{AnswerLists, Wall}
+use Rattle.job_name.specs.Naming.{Stand, stand}
+use Rattle.job_name.specs.Named.{placedOf}
+use Rattle.job_name.specs.declared.NameAnswer.{NameAnswer}
+use Rattle.job_name.specs.declared.NameAnswer.the-variants as name
 use Rattle.job_build.specs.Building.{Summary, summary}
 use Rattle.job_build.specs.Built.{builtOf, Built}
 use Rattle.toggles.specs.Toggles.{Answers}
@@ -20,14 +25,44 @@ use Rattle.job_run.specs.declared.RunAnswer.{RunAnswer}
 use Rattle.job_run.specs.declared.RunAnswer.the-variants as run
 use Rattle.job_classify.specs.declared.ClassifyAnswer.{ClassifyAnswer}
 use Rattle.job_classify.specs.declared.ClassifyAnswer.the-variants as classify
-use Rattle.host.specs.Report.{readReport, buildReport, runReport, classifyReport, BuildReported, RunReported, ClassifyReported}
+use Rattle.host.specs.Report.{sheetOf, readReport, nameReport, buildReport, runReport, classifyReport, BuildReported, RunReported, ClassifyReported}
+
+-- ---- sheetOf, by the number
+
+module _ {k : ℕ} where
+  pub sheet-low : k ≤ 7 → 2 ≡ sheetOf k
+  sheet-low h = rw (le-leb k 7 h)
+
+  pub sheet-17 : 7 < k → k ≡ 17 → 2 ≡ sheetOf k
+  sheet-17 h e = rw (lt-leb k 7 h, eq-eqb k 17 e)
+
+  pub sheet-none : 7 < k → (k ≡ 17 → ⊥) → 0 ≡ sheetOf k
+  sheet-none h e = rw (lt-leb k 7 h, ne-eqb k 17 e)
+
+-- ---- the reports
 
 module _ {o : Outcome Numbers} {a : ReadAnswer} (said : answerOf a ≡ o) where
   pub read-reported : {n l f e : ℕ} → a ≡ read.Read n l f e → readReport (given (numbers n l f e)) ≡ readReport o
   read-reported is = ap readReport (sym (ap answerOf is) ∙ said)
 
-  pub read-refused : {k p : ℕ} → a ≡ read.Refused k p → readReport (refused k p) ≡ readReport o
-  read-refused is = ap readReport (sym (ap answerOf is) ∙ said)
+  pub read-refused : {k p v : ℕ} → v ≡ sheetOf k → a ≡ read.Refused k p → record { number = k; sheet = v; place = p; names = 0; leaves = 0; first = 0; past = 0 } ≡ readReport o
+  read-refused in-sheet is = rw in-sheet (ap readReport (sym (ap answerOf is) ∙ said))
+
+  pub read-unfit : {k p : ℕ} → a ≡ read.Unfit k p → readReport (unfit k p) ≡ readReport o
+  read-unfit is = ap readReport (sym (ap answerOf is) ∙ said)
+
+module _ {o : Outcome Stand} {a : NameAnswer} (said : placedOf a ≡ o) where
+  pub name-fitting : {f e : ℕ} → a ≡ name.Fitting f e → nameReport (given (stand 1 f e)) ≡ nameReport o
+  name-fitting is = ap nameReport (sym (ap placedOf is) ∙ said)
+
+  pub name-own : {f e : ℕ} → a ≡ name.Own f e → nameReport (given (stand 2 f e)) ≡ nameReport o
+  name-own is = ap nameReport (sym (ap placedOf is) ∙ said)
+
+  pub name-refused : {k p v : ℕ} → v ≡ sheetOf k → a ≡ name.Refused k p → record { number = k; sheet = v; place = p; first = 0; past = 0 } ≡ nameReport o
+  name-refused in-sheet is = rw in-sheet (ap nameReport (sym (ap placedOf is) ∙ said))
+
+  pub name-unfit : {k p : ℕ} → a ≡ name.Unfit k p → nameReport (unfit k p) ≡ nameReport o
+  name-unfit is = ap nameReport (sym (ap placedOf is) ∙ said)
 
 module _ {o : Outcome Formula} {ks fs ss : List ℕ} {a : BuildAnswer} {ks′ fs′ ss′ : List ℕ} (built : Built o ks fs ss a ks′ fs′ ss′) where
   build-as : (v : Outcome Summary) → builtOf a ≡ v → BuildReported o ks fs ss (buildReport v) ks′ fs′ ss′
@@ -40,8 +75,12 @@ module _ {o : Outcome Formula} {ks fs ss : List ℕ} {a : BuildAnswer} {ks′ fs
   pub build-reported : {l n r h : ℕ} → a ≡ build.Built l n r h → BuildReported o ks fs ss (buildReport (given (summary l n r h))) ks′ fs′ ss′
   build-reported {l} {n} {r} {h} is = build-as (given (summary l n r h)) (ap builtOf is)
 
-  pub build-refused : {k p : ℕ} → a ≡ build.Refused k p → BuildReported o ks fs ss (buildReport (refused k p)) ks′ fs′ ss′
-  build-refused {k} {p} is = build-as (refused k p) (ap builtOf is)
+  pub build-refused : {k p v : ℕ} → v ≡ sheetOf k → a ≡ build.Refused k p
+      → BuildReported o ks fs ss (record { number = k; sheet = v; place = p; leaves = 0; nodes = 0; rounds = 0; height = 0 }) ks′ fs′ ss′
+  build-refused {k} {p} in-sheet is = rw in-sheet (build-as (refused k p) (ap builtOf is))
+
+  pub build-unfit : {k p : ℕ} → a ≡ build.Unfit k p → BuildReported o ks fs ss (buildReport (unfit k p)) ks′ fs′ ss′
+  build-unfit {k} {p} is = build-as (unfit k p) (ap builtOf is)
 
 module _ {o : Outcome Answers} {rs cs ls : List ℕ} {a : RunAnswer} {rs′ cs′ ls′ : List ℕ} (ran : Ran o rs cs ls a rs′ cs′ ls′) where
   run-as : (v : Outcome ℕ) → ranOf a ≡ v → RunReported o rs cs ls (runReport v) rs′ cs′ ls′
@@ -54,8 +93,12 @@ module _ {o : Outcome Answers} {rs cs ls : List ℕ} {a : RunAnswer} {rs′ cs�
   pub run-reported : {n : ℕ} → a ≡ run.Ran n → RunReported o rs cs ls (runReport (given n)) rs′ cs′ ls′
   run-reported {n} is = run-as (given n) (ap ranOf is)
 
-  pub run-refused : {k p : ℕ} → a ≡ run.Refused k p → RunReported o rs cs ls (runReport (refused k p)) rs′ cs′ ls′
-  run-refused {k} {p} is = run-as (refused k p) (ap ranOf is)
+  pub run-refused : {k p v : ℕ} → v ≡ sheetOf k → a ≡ run.Refused k p
+      → RunReported o rs cs ls (record { number = k; sheet = v; place = p; nodes = 0 }) rs′ cs′ ls′
+  run-refused {k} {p} in-sheet is = rw in-sheet (run-as (refused k p) (ap ranOf is))
+
+  pub run-unfit : {k p : ℕ} → a ≡ run.Unfit k p → RunReported o rs cs ls (runReport (unfit k p)) rs′ cs′ ls′
+  run-unfit {k} {p} is = run-as (unfit k p) (ap ranOf is)
 
 module _ {o : Outcome (List Wall)} {lent : AnswerLists} {a : ClassifyAnswer} {after : AnswerLists} (done : Classified o lent a after) where
   classify-as : (v : Outcome ℕ) → classifiedOf a ≡ v → ClassifyReported o lent (classifyReport v) after
@@ -68,5 +111,9 @@ module _ {o : Outcome (List Wall)} {lent : AnswerLists} {a : ClassifyAnswer} {af
   pub classify-reported : {n : ℕ} → a ≡ classify.Walls n → ClassifyReported o lent (classifyReport (given n)) after
   classify-reported {n} is = classify-as (given n) (ap classifiedOf is)
 
-  pub classify-refused : {k p : ℕ} → a ≡ classify.Refused k p → ClassifyReported o lent (classifyReport (refused k p)) after
-  classify-refused {k} {p} is = classify-as (refused k p) (ap classifiedOf is)
+  pub classify-refused : {k p v : ℕ} → v ≡ sheetOf k → a ≡ classify.Refused k p
+      → ClassifyReported o lent (record { number = k; sheet = v; place = p; walls = 0 }) after
+  classify-refused {k} {p} in-sheet is = rw in-sheet (classify-as (refused k p) (ap classifiedOf is))
+
+  pub classify-unfit : {k p : ℕ} → a ≡ classify.Unfit k p → ClassifyReported o lent (classifyReport (unfit k p)) after
+  classify-unfit {k} {p} is = classify-as (unfit k p) (ap classifiedOf is)

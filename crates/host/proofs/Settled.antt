@@ -5,15 +5,16 @@ use mathlib.Core.Path.{_≡_, refl, sym, _∙_}
 use mathlib.Core.List.{List}
 use lib.IntN.{ℤ}
 use lib.ListN.{length}
-use Rattle.outcome.specs.Outcome.{Outcome, given, refused, part}
+use Rattle.outcome.specs.Outcome.{Outcome, given, refused, unfit, part}
 use Rattle.outcome.specs.Numbered.{Numbered}
 use Rattle.outcome.proofs.NumberedLaws.{part-numbered}
 use Rattle.formula.specs.Formula.{Formula}
-use Rattle.sheet.specs.Sheet.{reading}
+use Rattle.sheet.specs.Sheet.{Sheets, reading}
 use Rattle.sheet_reading.specs.Reading.{Numbers, numbersOf, told}
 use Rattle.sheet.proofs.Numbered.{reading-numbered}
 use Rattle.lines.specs.Lines.{CrossingLists, AnswerLists, Wall}
 use Rattle.lines.proofs.GivenLaws.{lists-unique}
+use Rattle.job_name.specs.Naming.{placing}
 use Rattle.job_build.specs.Building.{Summary, summaryOf, building}
 use Rattle.job_build.proofs.Settled.{build-numbered}
 use Rattle.toggles.specs.Toggles.{Answers}
@@ -21,16 +22,20 @@ use Rattle.job_run.specs.Running.{running}
 use Rattle.job_run.proofs.Settled.{run-numbered}
 use Rattle.job_classify.specs.Classifying.{classifying}
 use Rattle.job_classify.proofs.Settled.{classify-numbered}
-use Rattle.host.specs.Report.{readReport, buildReport, runReport, classifyReport, BuildReported, RunReported, ClassifyReported}
+use Rattle.host.specs.Report.{readReport, nameReport, buildReport, runReport, classifyReport, BuildReported, RunReported, ClassifyReported}
 use Rattle.host.specs.declared.ReadReport.{ReadReport}
+use Rattle.host.specs.declared.NameReport.{NameReport}
 use Rattle.host.specs.declared.BuildReport.{BuildReport}
 use Rattle.host.specs.declared.RunReport.{RunReport}
 use Rattle.host.specs.declared.ClassifyReport.{ClassifyReport}
 
 -- ---- Two results that meet a promise are equal
 
-pub read-report-unique : (s : List ℕ) (r q : ReadReport) → r ≡ readReport (told s) → q ≡ readReport (told s) → r ≡ q
+pub read-report-unique : (s : Sheets) (r q : ReadReport) → r ≡ readReport (told s) → q ≡ readReport (told s) → r ≡ q
 read-report-unique s r q a b = a ∙ sym b
+
+pub name-report-unique : (s : Sheets) (k : ℕ) (r q : NameReport) → r ≡ nameReport (placing s k) → q ≡ nameReport (placing s k) → r ≡ q
+name-report-unique s k r q a b = a ∙ sym b
 
 pub build-report-unique : (o : Outcome Formula) (ks fs ss : List ℕ) (r q : BuildReport) (ks₁ fs₁ ss₁ ks₂ fs₂ ss₂ : List ℕ)
     → BuildReported o ks fs ss r ks₁ fs₁ ss₁ → BuildReported o ks fs ss q ks₂ fs₂ ss₂ → (r ≡ q) × (ks₁ ≡ ks₂) × (fs₁ ≡ fs₂) × (ss₁ ≡ ss₂)
@@ -57,24 +62,25 @@ classify-report-unique o lent r q after other a b = (a .report ∙ sym (b .repor
 
 module _ {A : Type 0} where
   -- told by the number of any report that gives a refusal's number as it is
-  told-given : (number : Outcome A → ℕ) → ((k p : ℕ) → number (refused k p) ≡ k) → (o : Outcome A) → Numbered o → number o ≡ 0 → (v : A) × (o ≡ given v)
-  told-given number is (given v) h zero = (v, refl)
-  told-given number is (refused k p) h zero = absurd (omega (arith, h .above-0 k p refl, is k p))
+  told-given : (number : Outcome A → ℕ) → ((k p : ℕ) → number (refused k p) ≡ k) → ((k p : ℕ) → number (unfit k p) ≡ k) → (o : Outcome A) → Numbered o → number o ≡ 0 → (v : A) × (o ≡ given v)
+  told-given number is fits (given v) h zero = (v, refl)
+  told-given number is fits (refused k p) h zero = absurd (omega (arith, h .above-0 k p refl, is k p))
+  told-given number is fits (unfit k p) h zero = absurd (omega (arith, h .unfit-above-0 k p refl, fits k p))
 
-pub read-given : (s : List ℕ) → readReport (told s) .number ≡ 0 → (v : Numbers) × (told s ≡ given v)
+pub read-given : (s : Sheets) → readReport (told s) .number ≡ 0 → (v : Numbers) × (told s ≡ given v)
 unfolding told
-read-given s = told-given (λ o. readReport o .number) (λ k p. refl) (told s) (part-numbered numbersOf (reading s) (reading-numbered s))
+read-given s = told-given (λ o. readReport o .number) (λ k p. refl) (λ k p. refl) (told s) (part-numbered numbersOf (reading s) (reading-numbered s))
 
-pub build-given : (s : List ℕ) (a b c : ℕ) → buildReport (part summaryOf (building s a b c)) .number ≡ 0 → (v : Summary) × (part summaryOf (building s a b c) ≡ given v)
+pub build-given : (s : Sheets) (a b c : ℕ) → buildReport (part summaryOf (building s a b c)) .number ≡ 0 → (v : Summary) × (part summaryOf (building s a b c) ≡ given v)
 build-given s a b c =
-    told-given (λ o. buildReport o .number) (λ k p. refl) (part summaryOf (building s a b c)) (part-numbered summaryOf (building s a b c) (build-numbered s a b c))
+    told-given (λ o. buildReport o .number) (λ k p. refl) (λ k p. refl) (part summaryOf (building s a b c)) (part-numbered summaryOf (building s a b c) (build-numbered s a b c))
 
-pub run-given : (s ts : List ℕ) (a b c : ℕ) → runReport (part (λ v. length (v .final)) (running s ts a b c)) .number ≡ 0 → (v : ℕ) × (part (λ v. length (v .final)) (running s ts a b c) ≡ given v)
+pub run-given : (s : Sheets) (ts : List ℕ) (a b c : ℕ) → runReport (part (λ v. length (v .final)) (running s ts a b c)) .number ≡ 0 → (v : ℕ) × (part (λ v. length (v .final)) (running s ts a b c) ≡ given v)
 run-given s ts a b c =
     let job = running s ts a b c in
-    told-given (λ o. runReport o .number) (λ k p. refl) (part (λ v. length (v .final)) job) (part-numbered (λ v. length (v .final)) job (run-numbered s ts a b c))
+    told-given (λ o. runReport o .number) (λ k p. refl) (λ k p. refl) (part (λ v. length (v .final)) job) (part-numbered (λ v. length (v .final)) job (run-numbered s ts a b c))
 
-pub classify-given : (s : List ℕ) (c : CrossingLists) (lent : AnswerLists) → classifyReport (part length (classifying s c lent)) .number ≡ 0 → (v : ℕ) × (part length (classifying s c lent) ≡ given v)
+pub classify-given : (s : Sheets) (c : CrossingLists) (lent : AnswerLists) → classifyReport (part length (classifying s c lent)) .number ≡ 0 → (v : ℕ) × (part length (classifying s c lent) ≡ given v)
 classify-given s c lent =
     let job = classifying s c lent in
-    told-given (λ o. classifyReport o .number) (λ k p. refl) (part length job) (part-numbered length job (classify-numbered s c lent))
+    told-given (λ o. classifyReport o .number) (λ k p. refl) (λ k p. refl) (part length job) (part-numbered length job (classify-numbered s c lent))

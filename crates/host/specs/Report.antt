@@ -1,43 +1,65 @@
 -- The numbers that a caller in C or Rust gets for each outcome of a job, and the promise of each exported function.
--- A report has number 0, place 0 and the values; or the refusal's number and place, and no values.
+-- A report has number, sheet and place 0 and the values; or the refusal's number, the sheet that its place is in, its place, and no values.
 use Prim.Native.Nat.{ℕ}
 use mathlib.Core.Path.{_≡_}
 use mathlib.Core.List.{List}
+use mathlib.Core.Bool.{cond}
+use lib.Dec.{leb, eqb}
 use lib.IntN.{ℤ}
 use lib.ListN.{length}
-use Rattle.outcome.specs.Outcome.{Outcome, given, refused, part}
+use Rattle.outcome.specs.Outcome.{Outcome, given, refused, unfit, part}
 use Rattle.formula.specs.Formula.{Formula}
 use Rattle.sheet_reading.specs.Reading.{Numbers, numbers}
 use Rattle.lines.specs.Lines.{AnswerLists, Wall}
 use Rattle.lines.specs.Given.{WallLists}
+use Rattle.job_name.specs.Naming.{Stand, stand}
 use Rattle.job_build.specs.Building.{Summary, summary, summaryOf}
 use Rattle.job_build.specs.Built.{BuiltLists}
 use Rattle.toggles.specs.Toggles.{Answers}
 use Rattle.job_run.specs.Ran.{RanLists}
 use Rattle.host.specs.declared.ReadReport.{ReadReport}
+use Rattle.host.specs.declared.NameReport.{NameReport}
 use Rattle.host.specs.declared.BuildReport.{BuildReport}
 use Rattle.host.specs.declared.RunReport.{RunReport}
 use Rattle.host.specs.declared.ClassifyReport.{ClassifyReport}
 
+-- A place in 1 to 7 or 17 says which sheet: 1 the fittings sheet, 2 the customer's, also where it is alone; 0 where it is in none.
+abbrev pub sheetOf : ℕ → ℕ
+sheetOf number = cond (leb number 7) 2 (cond (eqb number 17) 2 0)
+
 abbrev pub readReport : Outcome Numbers → ReadReport
 readReport (given (numbers names leaves first past)) =
-    record { number = 0; place = 0; names = names; leaves = leaves; first = first; past = past }
+    record { number = 0; sheet = 0; place = 0; names = names; leaves = leaves; first = first; past = past }
 readReport (refused number place) =
-    record { number = number; place = place; names = 0; leaves = 0; first = 0; past = 0 }
+    record { number = number; sheet = sheetOf number; place = place; names = 0; leaves = 0; first = 0; past = 0 }
+readReport (unfit number place) =
+    record { number = number; sheet = 1; place = place; names = 0; leaves = 0; first = 0; past = 0 }
+
+-- Where a name stands: the sheet is the one that holds it.
+abbrev pub nameReport : Outcome Stand → NameReport
+nameReport (given (stand sheet first past)) = record { number = 0; sheet = sheet; place = 0; first = first; past = past }
+nameReport (refused number place) = record { number = number; sheet = sheetOf number; place = place; first = 0; past = 0 }
+nameReport (unfit number place) = record { number = number; sheet = 1; place = place; first = 0; past = 0 }
 
 abbrev pub buildReport : Outcome Summary → BuildReport
 buildReport (given (summary leaves nodes rounds height)) =
-    record { number = 0; place = 0; leaves = leaves; nodes = nodes; rounds = rounds; height = height }
+    record { number = 0; sheet = 0; place = 0; leaves = leaves; nodes = nodes; rounds = rounds; height = height }
 buildReport (refused number place) =
-    record { number = number; place = place; leaves = 0; nodes = 0; rounds = 0; height = 0 }
+    record { number = number; sheet = sheetOf number; place = place; leaves = 0; nodes = 0; rounds = 0; height = 0 }
+buildReport (unfit number place) =
+    record { number = number; sheet = 1; place = place; leaves = 0; nodes = 0; rounds = 0; height = 0 }
 
 abbrev pub runReport : Outcome ℕ → RunReport
-runReport (given nodes) = record { number = 0; place = 0; nodes = nodes }
-runReport (refused number place) = record { number = number; place = place; nodes = 0 }
+runReport (given nodes) = record { number = 0; sheet = 0; place = 0; nodes = nodes }
+runReport (refused number place) = record { number = number; sheet = sheetOf number; place = place; nodes = 0 }
+runReport (unfit number place) =
+    record { number = number; sheet = 1; place = place; nodes = 0 }
 
 abbrev pub classifyReport : Outcome ℕ → ClassifyReport
-classifyReport (given walls) = record { number = 0; place = 0; walls = walls }
-classifyReport (refused number place) = record { number = number; place = place; walls = 0 }
+classifyReport (given walls) = record { number = 0; sheet = 0; place = 0; walls = walls }
+classifyReport (refused number place) = record { number = number; sheet = sheetOf number; place = place; walls = 0 }
+classifyReport (unfit number place) =
+    record { number = number; sheet = 1; place = place; walls = 0 }
 
 -- Of the job's outcome and the lists as lent: the report r, and the lists after the call.
 pub record BuildReported (o : Outcome Formula) (kinds firsts seconds : List ℕ) (r : BuildReport) (kinds′ firsts′ seconds′ : List ℕ) : Type 0 where

@@ -1,21 +1,25 @@
-// The four jobs for C and Rust: each is one call of a proved job, and a struct of numbers, which is what an exported function may return.
+// The jobs for C and Rust: each is one call of a proved job, and a struct of numbers, which is what an exported function may return.
 // The header and the Rust crate in bindings/ declare the same again; their tests compare the declarations with this file.
 ghost use mathlib.Core.Path.{_≡_};
 ghost use lib.ListN.{length};
+ghost use Rattle.sheet.specs.Sheet.{sheetsOf};
 ghost use Rattle.sheet_reading.specs.Reading.{told};
+ghost use Rattle.job_name.specs.Naming.{placing};
 ghost use Rattle.job_build.specs.Building.{building};
 ghost use Rattle.job_run.specs.Running.{running};
 ghost use Rattle.lines.specs.Lines.{crossingLists, answerLists};
 ghost use Rattle.job_classify.specs.Classifying.{classifying};
-ghost use Rattle.host.specs.Report.{readReport, BuildReported, RunReported, ClassifyReported};
+ghost use Rattle.host.specs.Report.{sheetOf, readReport, nameReport, BuildReported, RunReported, ClassifyReported};
 use job_build::BuildAnswer;
 use job_classify::ClassifyAnswer;
+use job_name::NameAnswer;
 use job_run::RunAnswer;
 use sheet_reading::ReadAnswer;
 
 #[repr(C)]
 pub struct ReadReport {
     pub number: u8,
+    pub sheet: u8,
     pub place: usize,
     pub names: usize,
     pub leaves: usize,
@@ -26,6 +30,7 @@ pub struct ReadReport {
 #[repr(C)]
 pub struct BuildReport {
     pub number: u8,
+    pub sheet: u8,
     pub place: usize,
     pub leaves: usize,
     pub nodes: usize,
@@ -36,6 +41,7 @@ pub struct BuildReport {
 #[repr(C)]
 pub struct RunReport {
     pub number: u8,
+    pub sheet: u8,
     pub place: usize,
     pub nodes: usize,
 }
@@ -43,16 +49,39 @@ pub struct RunReport {
 #[repr(C)]
 pub struct ClassifyReport {
     pub number: u8,
+    pub sheet: u8,
     pub place: usize,
     pub walls: usize,
 }
 
-// Reads a sheet.
-#[no_mangle]
-pub extern "C" fn kressedach_read(sheet: &[u8]) -> ReadReport
-    ensures { λ r. ⌜ r ≡ readReport (told (now (sheet .entry))) ⌝ }
+#[repr(C)]
+pub struct NameReport {
+    pub number: u8,
+    pub sheet: u8,
+    pub place: usize,
+    pub first: usize,
+    pub past: usize,
+}
+
+// Which sheet the place of a refusal is in: 2, the customer's; or 0, none.
+fn sheet_of(number: u8) -> u8
+    ensures { λ r. ⌜ r ≡ sheetOf number ⌝ }
 {
-    match sheet_reading::read_sheet(sheet) {
+    if number <= 7 {
+        return 2;
+    }
+    if number == 17 {
+        return 2;
+    }
+    0
+}
+
+// Reads the sheets of a call.
+#[no_mangle]
+pub extern "C" fn kressedach_read(fitted: bool, fittings: &[u8], sheet: &[u8]) -> ReadReport
+    ensures { λ r. ⌜ r ≡ readReport (told (sheetsOf fitted (now (fittings .entry)) (now (sheet .entry)))) ⌝ }
+{
+    match sheet_reading::read_sheets(fitted, fittings, sheet) {
         ReadAnswer::Read {
             names,
             leaves,
@@ -60,6 +89,7 @@ pub extern "C" fn kressedach_read(sheet: &[u8]) -> ReadReport
             past,
         } => ReadReport {
             number: 0,
+            sheet: 0,
             place: 0,
             names,
             leaves,
@@ -68,6 +98,16 @@ pub extern "C" fn kressedach_read(sheet: &[u8]) -> ReadReport
         },
         ReadAnswer::Refused { number, place } => ReadReport {
             number,
+            sheet: sheet_of(number),
+            place,
+            names: 0,
+            leaves: 0,
+            first: 0,
+            past: 0,
+        },
+        ReadAnswer::Unfit { number, place } => ReadReport {
+            number,
+            sheet: 1,
             place,
             names: 0,
             leaves: 0,
@@ -77,18 +117,62 @@ pub extern "C" fn kressedach_read(sheet: &[u8]) -> ReadReport
     }
 }
 
-// Builds the contracted tree of a sheet's formula.
+// Asks where a shape's name stands.
+#[no_mangle]
+pub extern "C" fn kressedach_name(
+    fitted: bool,
+    fittings: &[u8],
+    sheet: &[u8],
+    shape: usize,
+) -> NameReport
+    ensures { λ r. ⌜ r ≡ nameReport (placing (sheetsOf fitted (now (fittings .entry)) (now (sheet .entry))) shape) ⌝ }
+{
+    match job_name::place_name(fitted, fittings, sheet, shape) {
+        NameAnswer::Fitting { first, past } => NameReport {
+            number: 0,
+            sheet: 1,
+            place: 0,
+            first,
+            past,
+        },
+        NameAnswer::Own { first, past } => NameReport {
+            number: 0,
+            sheet: 2,
+            place: 0,
+            first,
+            past,
+        },
+        NameAnswer::Refused { number, place } => NameReport {
+            number,
+            sheet: sheet_of(number),
+            place,
+            first: 0,
+            past: 0,
+        },
+        NameAnswer::Unfit { number, place } => NameReport {
+            number,
+            sheet: 1,
+            place,
+            first: 0,
+            past: 0,
+        },
+    }
+}
+
+// Builds the contracted tree of the sheets' formula.
 #[no_mangle]
 pub extern "C" fn kressedach_build(
+    fitted: bool,
+    fittings: &[u8],
     sheet: &[u8],
     kinds: &mut [u16],
     firsts: &mut [u16],
     seconds: &mut [u16],
 ) -> BuildReport
-    ensures { λ r. ⌜ BuildReported (building (now (sheet .entry)) (length (now (kinds .entry))) (length (now (firsts .entry))) (length (now (seconds .entry))))
+    ensures { λ r. ⌜ BuildReported (building (sheetsOf fitted (now (fittings .entry)) (now (sheet .entry))) (length (now (kinds .entry))) (length (now (firsts .entry))) (length (now (seconds .entry))))
         (now (kinds .entry)) (now (firsts .entry)) (now (seconds .entry)) r (now (kinds .exit)) (now (firsts .exit)) (now (seconds .exit)) ⌝ }
 {
-    match job_build::build(sheet, kinds, firsts, seconds) {
+    match job_build::build(fitted, fittings, sheet, kinds, firsts, seconds) {
         BuildAnswer::Built {
             leaves,
             nodes,
@@ -96,6 +180,7 @@ pub extern "C" fn kressedach_build(
             height,
         } => BuildReport {
             number: 0,
+            sheet: 0,
             place: 0,
             leaves,
             nodes,
@@ -104,6 +189,16 @@ pub extern "C" fn kressedach_build(
         },
         BuildAnswer::Refused { number, place } => BuildReport {
             number,
+            sheet: sheet_of(number),
+            place,
+            leaves: 0,
+            nodes: 0,
+            rounds: 0,
+            height: 0,
+        },
+        BuildAnswer::Unfit { number, place } => BuildReport {
+            number,
+            sheet: 1,
             place,
             leaves: 0,
             nodes: 0,
@@ -113,35 +208,47 @@ pub extern "C" fn kressedach_build(
     }
 }
 
-// Runs toggles on a sheet's tree.
+// Runs toggles on the sheets' tree.
 #[no_mangle]
 pub extern "C" fn kressedach_run(
+    fitted: bool,
+    fittings: &[u8],
     sheet: &[u8],
     toggles: &[u16],
     roots: &mut [u8],
     counts: &mut [u32],
     labels: &mut [u8],
 ) -> RunReport
-    ensures { λ r. ⌜ RunReported (running (now (sheet .entry)) (now (toggles .entry)) (length (now (roots .entry))) (length (now (counts .entry))) (length (now (labels .entry))))
+    ensures { λ r. ⌜ RunReported (running (sheetsOf fitted (now (fittings .entry)) (now (sheet .entry))) (now (toggles .entry)) (length (now (roots .entry))) (length (now (counts .entry))) (length (now (labels .entry))))
         (now (roots .entry)) (now (counts .entry)) (now (labels .entry)) r (now (roots .exit)) (now (counts .exit)) (now (labels .exit)) ⌝ }
 {
-    match job_run::run(sheet, toggles, roots, counts, labels) {
+    match job_run::run(fitted, fittings, sheet, toggles, roots, counts, labels) {
         RunAnswer::Ran { nodes } => RunReport {
             number: 0,
+            sheet: 0,
             place: 0,
             nodes,
         },
         RunAnswer::Refused { number, place } => RunReport {
             number,
+            sheet: sheet_of(number),
+            place,
+            nodes: 0,
+        },
+        RunAnswer::Unfit { number, place } => RunReport {
+            number,
+            sheet: 1,
             place,
             nodes: 0,
         },
     }
 }
 
-// Classifies lines against a sheet's formula.
+// Classifies lines against the sheets' formula.
 #[no_mangle]
 pub extern "C" fn kressedach_classify(
+    fitted: bool,
+    fittings: &[u8],
     sheet: &[u8],
     lines: &[u32],
     positions: &[i32],
@@ -152,10 +259,12 @@ pub extern "C" fn kressedach_classify(
     start_shapes: &mut [u16],
     end_shapes: &mut [u16],
 ) -> ClassifyReport
-    ensures { λ r. ⌜ ClassifyReported (classifying (now (sheet .entry)) (crossingLists (now (lines .entry)) (now (positions .entry)) (now (shapes .entry))) (answerLists (now («wall_lines» .entry)) (now (starts .entry)) (now (ends .entry)) (now («start_shapes» .entry)) (now («end_shapes» .entry))))
+    ensures { λ r. ⌜ ClassifyReported (classifying (sheetsOf fitted (now (fittings .entry)) (now (sheet .entry))) (crossingLists (now (lines .entry)) (now (positions .entry)) (now (shapes .entry))) (answerLists (now («wall_lines» .entry)) (now (starts .entry)) (now (ends .entry)) (now («start_shapes» .entry)) (now («end_shapes» .entry))))
         (answerLists (now («wall_lines» .entry)) (now (starts .entry)) (now (ends .entry)) (now («start_shapes» .entry)) (now («end_shapes» .entry))) r (answerLists (now («wall_lines» .exit)) (now (starts .exit)) (now (ends .exit)) (now («start_shapes» .exit)) (now («end_shapes» .exit))) ⌝ }
 {
     match job_classify::classify(
+        fitted,
+        fittings,
         sheet,
         lines,
         positions,
@@ -168,11 +277,19 @@ pub extern "C" fn kressedach_classify(
     ) {
         ClassifyAnswer::Walls { walls } => ClassifyReport {
             number: 0,
+            sheet: 0,
             place: 0,
             walls,
         },
         ClassifyAnswer::Refused { number, place } => ClassifyReport {
             number,
+            sheet: sheet_of(number),
+            place,
+            walls: 0,
+        },
+        ClassifyAnswer::Unfit { number, place } => ClassifyReport {
+            number,
+            sheet: 1,
             place,
             walls: 0,
         },

@@ -5,11 +5,11 @@ use mathlib.Core.Path.{_≡_, ap, _∙_}
 use mathlib.Core.List.{List}
 use borrow.Author.Tests.{le-leb, lt-leb}
 use lib.ListN.{length, take}
-use Rattle.outcome.specs.Outcome.{Outcome, given, refused}
+use Rattle.outcome.specs.Outcome.{Outcome, given, refused, unfit}
 use Rattle.outcome.specs.Lent.{filled}
 use Rattle.formula.specs.Formula.{Formula}
 use Rattle.contraction.proofs.Size.{dwarf-few}
-use Rattle.sheet.specs.Sheet.{Sheet}
+use Rattle.sheet.specs.Sheet.{Sheets, Sheet}
 use Rattle.tree_dwarf.specs.Dwarfed.{Dwarfed}
 use Rattle.tree_dwarf.specs.declared.Figures.{Figures}
 use Rattle.accepting.specs.Accepting.{accepted}
@@ -25,6 +25,11 @@ use Rattle.job_build.specs.declared.BuildAnswer.the-variants as answer
 build-refused : (o : Outcome Formula) (ks fs ss : List ℕ) (number place : ℕ) → o ≡ refused number place
     → Built o ks fs ss (answer.Refused number place) ks fs ss
 build-refused o ks fs ss number place is =
+    record { answer = rw is; lists = record { kinds-list = rw is; firsts-list = rw is; seconds-list = rw is } }
+
+build-unfit : (o : Outcome Formula) (ks fs ss : List ℕ) (number place : ℕ) → o ≡ unfit number place
+    → Built o ks fs ss (answer.Unfit number place) ks fs ss
+build-unfit o ks fs ss number place is =
     record { answer = rw is; lists = record { kinds-list = rw is; firsts-list = rw is; seconds-list = rw is } }
 
 summary-is : (g : Formula) (k f e : List ℕ) (b : Figures) → Dwarfed g k f e b → summary (b .leaves) (b .nodes) (b .rounds) (b .height) ≡ summaryOf g
@@ -63,8 +68,8 @@ module _ (k f e : List ℕ) (b : Figures) (ks fs ss : List ℕ) where
             };
       }
 
--- the sheet is refused, or stands in the arrays
-module _ (s codes k f e ks fs ss : List ℕ) (r : Prepared) (says : Says s codes k f e r) where
+-- a sheet is refused, or the formula stands in the arrays
+module _ (s : Sheets) (codes k f e ks fs ss : List ℕ) (r : Prepared) (says : Says s codes k f e r) where
   pub sheet-refused : (number place : ℕ) → r ≡ prepared.Refused number place
       → Built (building s (length ks) (length fs) (length ss)) ks fs ss (answer.Refused number place) ks fs ss
   unfolding building
@@ -72,12 +77,19 @@ module _ (s codes k f e ks fs ss : List ℕ) (r : Prepared) (says : Says s codes
       let a : accepted s ≡ refused number place = rw is at says in
       build-refused (building s (length ks) (length fs) (length ss)) ks fs ss number place (rw a)
 
+  pub sheet-unfit : (number place : ℕ) → r ≡ prepared.Unfit number place
+      → Built (building s (length ks) (length fs) (length ss)) ks fs ss (answer.Unfit number place) ks fs ss
+  unfolding building
+  sheet-unfit number place is =
+      let a : accepted s ≡ unfit number place = rw is at says in
+      build-unfit (building s (length ks) (length fs) (length ss)) ks fs ss number place (rw a)
+
   module _ (names n : ℕ) (b : Figures) (is : r ≡ prepared.Ready names n b) where
     stands : (x : Sheet) × Stands s x names n b codes k f e
     stands = rw is at says
 
     pub few-nodes : b .nodes ≤ 3072
-    few-nodes = let st = stands .1 in omega (arith, st .built .nodes-are, dwarf-few (stands .0 .formula) (st .coded .facts .few-leaves))
+    few-nodes = let st = stands .1 in omega (arith, st .built .nodes-are, dwarf-few (stands .0 .formula) (st .coded .facts .own .few-leaves))
 
     pub sheet-built : (a : BuildAnswer) (ks′ fs′ ss′ : List ℕ)
         → ((g : Formula) → Dwarfed g k f e b → Built (giving g (length ks) (length fs) (length ss)) ks fs ss a ks′ fs′ ss′)

@@ -3,14 +3,14 @@ use Prim.Native.Nat.{ℕ}
 use mathlib.Core.Path.{_≡_, refl, sym, ap, _∙_}
 use mathlib.Core.List.{List}
 use lib.ListN.{length}
-use Rattle.outcome.specs.Outcome.{Outcome, given, refused, room, part}
+use Rattle.outcome.specs.Outcome.{Outcome, given, refused, unfit, room, part}
 use Rattle.outcome.specs.Numbered.{Numbered}
-use Rattle.outcome.proofs.Questions.{part-refused, then-given, bind-given, given-same}
+use Rattle.outcome.proofs.Questions.{part-refused, part-unfit, then-given, bind-given, given-same}
 use Rattle.outcome.proofs.NumberedLaws.{given-numbered, room-asks, bind-numbered}
 use Rattle.outcome.proofs.Known.{known-by}
 use Rattle.formula.specs.Formula.{Formula}
 use Rattle.contraction.specs.Rounds.{dwarf}
-use Rattle.sheet.specs.Sheet.{Sheet}
+use Rattle.sheet.specs.Sheet.{Sheets, Sheet}
 use Rattle.accepting.specs.Accepting.{accepted}
 use Rattle.accepting.proofs.Accepted.{accepted-numbered}
 use Rattle.job_build.specs.Building.{giving, building, Summary, summary, summaryOf}
@@ -24,10 +24,12 @@ builtOf-same = known-by builtOf back same
     back : Outcome Summary → BuildAnswer
     back (given (summary leaves nodes rounds height)) = answer.Built leaves nodes rounds height
     back (refused number place) = answer.Refused number place
+    back (unfit number place) = answer.Unfit number place
 
     same : (r : BuildAnswer) → back (builtOf r) ≡ r
     same (answer.Built leaves nodes rounds height) = refl
     same (answer.Refused number place) = refl
+    same (answer.Unfit number place) = refl
 
 module _ (o : Outcome Formula) (ks fs ss : List ℕ) where
   pub build-unique : (r q : BuildAnswer) (ks₁ fs₁ ss₁ ks₂ fs₂ ss₂ : List ℕ) → Built o ks fs ss r ks₁ fs₁ ss₁ → Built o ks fs ss q ks₂ fs₂ ss₂
@@ -48,13 +50,22 @@ module _ (o : Outcome Formula) (ks fs ss : List ℕ) where
     pub build-refuses : o ≡ refused number place → r ≡ answer.Refused number place
     build-refuses is = builtOf-same r (answer.Refused number place) (b .answer ∙ ap (part summaryOf) is)
 
+    -- and of the fittings sheet
+    pub build-unfit : r ≡ answer.Unfit number place → (o ≡ unfit number place) × (ks′ ≡ ks) × (fs′ ≡ fs) × (ss′ ≡ ss)
+    build-unfit is-unfit =
+        let is = part-unfit summaryOf o number place (sym (ap builtOf is-unfit) ∙ b .answer) in
+        (is, rw is at (b .lists .kinds-list), rw is at (b .lists .firsts-list), rw is at (b .lists .seconds-list))
+
+    pub build-unfits : o ≡ unfit number place → r ≡ answer.Unfit number place
+    build-unfits is = builtOf-same r (answer.Unfit number place) (b .answer ∙ ap (part summaryOf) is)
+
 -- No refusal has number 0.
-pub build-numbered : (s : List ℕ) (kinds firsts seconds : ℕ) → Numbered (building s kinds firsts seconds)
+pub build-numbered : (s : Sheets) (kinds firsts seconds : ℕ) → Numbered (building s kinds firsts seconds)
 unfolding building giving
 build-numbered s kinds firsts seconds = bind-numbered (accepted s) _ (accepted-numbered s) (λ x. search (room-asks, given-numbered))
 
 -- A job that answers has accepted the sheet, and it is the sheet's formula that is built.
-pub built-accepted : (s : List ℕ) (a b c : ℕ) (f : Formula) → building s a b c ≡ given f → (x : Sheet) × (accepted s ≡ given x) × (x .formula ≡ f)
+pub built-accepted : (s : Sheets) (a b c : ℕ) (f : Formula) → building s a b c ≡ given f → (x : Sheet) × (accepted s ≡ given x) × (x .formula ≡ f)
 unfolding building giving
 built-accepted s a b c f is =
     let x = bind-given (accepted s) (λ (y : Sheet). giving (y .formula) a b c) f is in

@@ -1,11 +1,11 @@
--- Building: what the job gives for a sheet and for answer lists of some lengths.
+-- Building: what the job gives for the sheets of a call and for answer lists of some lengths.
 use Prim.Native.Nat.{ℕ}
-use mathlib.Core.List.{List}
 use lib.ListN.{length}
 use Rattle.outcome.specs.Outcome.{Outcome, given, room, _>>=_, _>>_}
 use Rattle.formula.specs.Formula.{Formula, leaves}
 use Rattle.contraction.specs.Rounds.{dwarf, roundsOf}
 use Rattle.contraction.specs.Height.{height}
+use Rattle.sheet.specs.Sheet.{Sheets}
 use Rattle.accepting.specs.Accepting.{accepted}
 
 -- The formula whose records are given: 9 for kinds, firsts, seconds, one entry a dwarf node each.
@@ -16,10 +16,10 @@ giving f kinds firsts seconds = do
   room (length (dwarf f)) seconds
   given f
 
--- The sheet and its height first.
-unfoldable pub building : List ℕ → ℕ → ℕ → ℕ → Outcome Formula
-building s kinds firsts seconds = do
-  sheet ← accepted s
+-- The sheets and the height first.
+unfoldable pub building : Sheets → ℕ → ℕ → ℕ → Outcome Formula
+building c kinds firsts seconds = do
+  sheet ← accepted c
   giving (sheet .formula) kinds firsts seconds
 
 -- Building answers the leaves, dwarf nodes, rounds and height.

@@ -2,7 +2,7 @@
 use Prim.Native.Nat.{ℕ}
 use mathlib.Core.Path.{_≡_}
 use mathlib.Core.List.{List}
-use Rattle.outcome.specs.Outcome.{Outcome, given, refused, part}
+use Rattle.outcome.specs.Outcome.{Outcome, given, refused, unfit, part}
 use Rattle.outcome.specs.Lent.{afterCall}
 use Rattle.formula.specs.Formula.{Formula}
 use Rattle.contraction.specs.Records.{kindsOf, firstsOf, secondsOf}
@@ -14,6 +14,7 @@ use Rattle.job_build.specs.declared.BuildAnswer.the-variants as answer
 abbrev pub builtOf : BuildAnswer → Outcome Summary
 builtOf (answer.Built leaves nodes rounds height) = given (summary leaves nodes rounds height)
 builtOf (answer.Refused number place) = refused number place
+builtOf (answer.Unfit number place) = unfit number place
 
 -- Of the job's outcome and the lists as lent: the lists after the call.
 pub record BuiltLists (o : Outcome Formula) (kinds firsts seconds kinds′ firsts′ seconds′ : List ℕ) : Type 0 where

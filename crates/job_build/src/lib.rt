@@ -6,10 +6,11 @@ ghost use lib.ListN.{length};
 ghost use Rattle.formula.specs.Formula.{Formula};
 ghost use Rattle.tree_tokens.specs.Tokens.{Shelves};
 ghost use Rattle.tree_dwarf.specs.Dwarfed.{Dwarfed};
+ghost use Rattle.sheet.specs.Sheet.{sheetsOf};
 ghost use Rattle.job_build.specs.Building.{giving, building};
 ghost use Rattle.job_build.specs.Built.{Built as Promise};
 
-// What building answers.
+// What building answers; `Unfit` is a refusal of the fittings sheet.
 pub enum BuildAnswer {
     Built {
         leaves: usize,
@@ -18,6 +19,10 @@ pub enum BuildAnswer {
         height: usize,
     },
     Refused {
+        number: u8,
+        place: usize,
+    },
+    Unfit {
         number: u8,
         place: usize,
     },
@@ -68,22 +73,25 @@ fn give_built(
     }
 }
 
-// Builds the contracted tree of a sheet's formula and gives its records.
+// Builds the contracted tree of the sheets' formula and gives its records.
 pub fn build(
+    fitted: bool,
+    fittings: &[u8],
     sheet: &[u8],
     kinds: &mut [u16],
     firsts: &mut [u16],
     seconds: &mut [u16],
 ) -> BuildAnswer
-    ensures { λ r. ⌜ Promise (building (now (sheet .entry)) (length (now (kinds .entry))) (length (now (firsts .entry))) (length (now (seconds .entry))))
+    ensures { λ r. ⌜ Promise (building (sheetsOf fitted (now (fittings .entry)) (now (sheet .entry))) (length (now (kinds .entry))) (length (now (firsts .entry))) (length (now (seconds .entry))))
         (now (kinds .entry)) (now (firsts .entry)) (now (seconds .entry)) r (now (kinds .exit)) (now (firsts .exit)) (now (seconds .exit)) ⌝ }
 {
     let mut codes = [0u16; 2048];
     let mut k = [0u16; 3072];
     let mut f = [0u16; 3072];
     let mut s = [0u16; 3072];
-    match accepting::prepare(sheet, &mut codes, &mut k, &mut f, &mut s) {
+    match accepting::prepare(fitted, fittings, sheet, &mut codes, &mut k, &mut f, &mut s) {
         Prepared::Refused { number, place } => BuildAnswer::Refused { number, place },
+        Prepared::Unfit { number, place } => BuildAnswer::Unfit { number, place },
         Prepared::Ready {
             names: _,
             codes: _,

@@ -4,10 +4,10 @@ use native.Mathlib.Omega.{arith}
 use mathlib.Core.Path.{_≡_, sym, ap, _∙_, subst}
 use mathlib.Core.List.{List}
 use lib.ListN.{length, take}
-use Rattle.outcome.specs.Outcome.{given, refused}
+use Rattle.outcome.specs.Outcome.{Outcome, given, refused, unfit}
 use Rattle.formula.specs.Formula.{Formula, postfix, Over}
-use Rattle.sheet.specs.Sheet.{Sheet}
-use Rattle.lines.specs.Lines.{CrossingLists, AnswerLists, classified}
+use Rattle.sheet.specs.Sheet.{Sheets, Sheet}
+use Rattle.lines.specs.Lines.{CrossingLists, AnswerLists, Wall, classified}
 use Rattle.line_walls.specs.Answers.{answered, LinesAnswered}
 use Rattle.line_walls.specs.Walls.{FewCodes}
 use Rattle.line_walls.specs.declared.LinesAnswer.{LinesAnswer}
@@ -21,15 +21,21 @@ use Rattle.job_classify.specs.Classified.{classifiedOf, Classified}
 use Rattle.job_classify.specs.declared.ClassifyAnswer.{ClassifyAnswer}
 use Rattle.job_classify.specs.declared.ClassifyAnswer.the-variants as classify
 
-pub classifying-accepted : (c : CrossingLists) (lent : AnswerLists) (s : List ℕ) (x : Sheet) → accepted s ≡ given x → classifying s c lent ≡ classified (x .formula) (length (x .names)) c lent
+pub classifying-accepted : (c : CrossingLists) (lent : AnswerLists) (s : Sheets) (x : Sheet) → accepted s ≡ given x → classifying s c lent ≡ classified (x .formula) (length (x .names)) c lent
 unfolding classifying
 classifying-accepted c lent s x is = rw is
 
-module _ (s codes : List ℕ) (c : CrossingLists) (lent : AnswerLists) (r : Acceptance) (says : SaysCoded s codes r) where
+module _ (s : Sheets) (codes : List ℕ) (c : CrossingLists) (lent : AnswerLists) (r : Acceptance) (says : SaysCoded s codes r) where
   pub sheet-refused : (number place : ℕ) → r ≡ acceptance.Refused number place → Classified (classifying s c lent) lent (classify.Refused number place) lent
   unfolding classifying
   sheet-refused number place is =
       let a : accepted s ≡ refused number place = rw is at says in
+      record { answer = rw a; lists = record { lines-list = rw a; starts-list = rw a; ends-list = rw a; start-shapes-list = rw a; end-shapes-list = rw a } }
+
+  pub sheet-unfit : (number place : ℕ) → r ≡ acceptance.Unfit number place → Classified (classifying s c lent) lent (classify.Unfit number place) lent
+  unfolding classifying
+  sheet-unfit number place is =
+      let a : accepted s ≡ unfit number place = rw is at says in
       record { answer = rw a; lists = record { lines-list = rw a; starts-list = rw a; ends-list = rw a; start-shapes-list = rw a; end-shapes-list = rw a } }
 
   module _ (names n : ℕ) (is : r ≡ acceptance.Given names n) where
@@ -40,7 +46,7 @@ module _ (s codes : List ℕ) (c : CrossingLists) (lent : AnswerLists) (r : Acce
       given-walls : LinesAnswered (classified (stands .0 .formula) names c lent) lent a after
       given-walls =
           let st = stands .1 in
-          gives (stands .0 .formula) (st .codes-are) (subst (λ m. Over m (stands .0 .formula)) (sym (st .names-are)) (st .facts .over))
+          gives (stands .0 .formula) (st .codes-are) (subst (λ m. Over m (stands .0 .formula)) (sym (st .names-are)) (st .facts .own .over))
 
       job-is : classifying s c lent ≡ classified (stands .0 .formula) names c lent
       job-is =
@@ -57,7 +63,7 @@ module _ (s codes : List ℕ) (c : CrossingLists) (lent : AnswerLists) (r : Acce
       lines-refused number place is-refused = answer-as (classify.Refused number place) (ap answered (sym is-refused))
 
 -- an accepted sheet's codes and names are few enough for the lines
-pub few-codes : (s codes : List ℕ) (r : Acceptance) {names n : ℕ} → SaysCoded s codes r → length codes ≡ 2048 → r ≡ acceptance.Given names n → FewCodes codes n names
+pub few-codes : (s : Sheets) (codes : List ℕ) (r : Acceptance) {names n : ℕ} → SaysCoded s codes r → length codes ≡ 2048 → r ≡ acceptance.Given names n → FewCodes codes n names
 few-codes s codes r says long is =
     let st = (rw is at says) .1 in
-    record { sized = long; few-codes = omega (arith, st .few-codes); few-names = omega (arith, st .names-are, st .facts .good-names .few) }
+    record { sized = long; few-codes = omega (arith, st .few-codes); few-names = omega (arith, st .names-are, st .facts .own .good-names .few) }

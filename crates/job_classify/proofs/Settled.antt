@@ -3,16 +3,16 @@ use Prim.Native.Nat.{ℕ}
 use mathlib.Core.Path.{_≡_, refl, sym, ap, _∙_}
 use mathlib.Core.List.{List}
 use lib.ListN.{length}
-use Rattle.outcome.specs.Outcome.{Outcome, given, refused, part}
+use Rattle.outcome.specs.Outcome.{Outcome, given, refused, unfit, part}
 use Rattle.outcome.specs.Numbered.{Numbered}
-use Rattle.outcome.proofs.Questions.{part-refused, bind-given}
+use Rattle.outcome.proofs.Questions.{part-refused, part-unfit, bind-given}
 use Rattle.outcome.proofs.NumberedLaws.{bind-numbered}
 use Rattle.outcome.proofs.Known.{known-by}
-use Rattle.sheet.specs.Sheet.{Sheet}
+use Rattle.sheet.specs.Sheet.{Sheets, Sheet}
 use Rattle.accepting.specs.Accepting.{accepted}
 use Rattle.accepting.proofs.Accepted.{accepted-numbered}
 use Rattle.lines.specs.Lines.{CrossingLists, AnswerLists, Wall, classified}
-use Rattle.lines.proofs.GivenLaws.{lists-unique, lists-refused}
+use Rattle.lines.proofs.GivenLaws.{lists-unique, lists-refused, lists-unfit}
 use Rattle.lines.proofs.Numbered.{classified-numbered}
 use Rattle.job_classify.specs.Classifying.{classifying}
 use Rattle.job_classify.specs.Classified.{classifiedOf, Classified}
@@ -25,10 +25,12 @@ classifiedOf-same = known-by classifiedOf back same
     back : Outcome ℕ → ClassifyAnswer
     back (given walls) = answer.Walls walls
     back (refused number place) = answer.Refused number place
+    back (unfit number place) = answer.Unfit number place
 
     same : (r : ClassifyAnswer) → back (classifiedOf r) ≡ r
     same (answer.Walls walls) = refl
     same (answer.Refused number place) = refl
+    same (answer.Unfit number place) = refl
 
 module _ (o : Outcome (List Wall)) (lent : AnswerLists) where
   pub classify-unique : (r q : ClassifyAnswer) (after other : AnswerLists) → Classified o lent r after → Classified o lent q other → (r ≡ q) × (after ≡ other)
@@ -43,13 +45,22 @@ module _ (o : Outcome (List Wall)) (lent : AnswerLists) where
     pub classify-refuses : o ≡ refused number place → r ≡ answer.Refused number place
     classify-refuses is = classifiedOf-same r (answer.Refused number place) (c .answer ∙ ap (part length) is)
 
+    -- and of the fittings sheet
+    pub classify-unfit : r ≡ answer.Unfit number place → (o ≡ unfit number place) × (after ≡ lent)
+    classify-unfit is-unfit =
+        let is = part-unfit length o number place (sym (ap classifiedOf is-unfit) ∙ c .answer) in
+        (is, lists-unfit is (c .lists))
+
+    pub classify-unfits : o ≡ unfit number place → r ≡ answer.Unfit number place
+    classify-unfits is = classifiedOf-same r (answer.Unfit number place) (c .answer ∙ ap (part length) is)
+
 -- No refusal has number 0.
-pub classify-numbered : (s : List ℕ) (c : CrossingLists) (lent : AnswerLists) → Numbered (classifying s c lent)
+pub classify-numbered : (s : Sheets) (c : CrossingLists) (lent : AnswerLists) → Numbered (classifying s c lent)
 unfolding classifying
 classify-numbered s c lent = bind-numbered (accepted s) _ (accepted-numbered s) (λ (x : Sheet). classified-numbered (x .formula) (length (x .names)) c lent)
 
 -- A job that answers has accepted the sheet, and it is the sheet's formula that the lines are classified against.
-pub classified-accepted : (s : List ℕ) (c : CrossingLists) (lent : AnswerLists) (ws : List Wall) → classifying s c lent ≡ given ws
+pub classified-accepted : (s : Sheets) (c : CrossingLists) (lent : AnswerLists) (ws : List Wall) → classifying s c lent ≡ given ws
     → (x : Sheet) × (accepted s ≡ given x) × (classified (x .formula) (length (x .names)) c lent ≡ given ws)
 unfolding classifying
 classified-accepted s c lent ws is = bind-given (accepted s) (λ (y : Sheet). classified (y .formula) (length (y .names)) c lent) ws is

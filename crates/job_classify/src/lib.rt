@@ -2,17 +2,21 @@
 use accepting::Acceptance;
 use line_walls::LinesAnswer;
 ghost use Rattle.lines.specs.Lines.{crossingLists, answerLists};
+ghost use Rattle.sheet.specs.Sheet.{sheetsOf};
 ghost use Rattle.job_classify.specs.Classifying.{classifying};
 ghost use Rattle.job_classify.specs.Classified.{Classified};
 
-// What classifying answers.
+// What classifying answers; `Unfit` is a refusal of the fittings sheet.
 pub enum ClassifyAnswer {
     Walls { walls: usize },
     Refused { number: u8, place: usize },
+    Unfit { number: u8, place: usize },
 }
 
 // Classifies lines against a sheet's formula: where there is metal.
 pub fn classify(
+    fitted: bool,
+    fittings: &[u8],
     sheet: &[u8],
     lines: &[u32],
     positions: &[i32],
@@ -23,12 +27,13 @@ pub fn classify(
     start_shapes: &mut [u16],
     end_shapes: &mut [u16],
 ) -> ClassifyAnswer
-    ensures { λ r. ⌜ Classified (classifying (now (sheet .entry)) (crossingLists (now (lines .entry)) (now (positions .entry)) (now (shapes .entry))) (answerLists (now («wall_lines» .entry)) (now (starts .entry)) (now (ends .entry)) (now («start_shapes» .entry)) (now («end_shapes» .entry))))
+    ensures { λ r. ⌜ Classified (classifying (sheetsOf fitted (now (fittings .entry)) (now (sheet .entry))) (crossingLists (now (lines .entry)) (now (positions .entry)) (now (shapes .entry))) (answerLists (now («wall_lines» .entry)) (now (starts .entry)) (now (ends .entry)) (now («start_shapes» .entry)) (now («end_shapes» .entry))))
         (answerLists (now («wall_lines» .entry)) (now (starts .entry)) (now (ends .entry)) (now («start_shapes» .entry)) (now («end_shapes» .entry))) r (answerLists (now («wall_lines» .exit)) (now (starts .exit)) (now (ends .exit)) (now («start_shapes» .exit)) (now («end_shapes» .exit))) ⌝ }
 {
     let mut codes = [0u16; 2048];
-    match accepting::accept(sheet, &mut codes) {
+    match accepting::accept(fitted, fittings, sheet, &mut codes) {
         Acceptance::Refused { number, place } => ClassifyAnswer::Refused { number, place },
+        Acceptance::Unfit { number, place } => ClassifyAnswer::Unfit { number, place },
         Acceptance::Given { names, codes: n } => match line_walls::classify(
             &codes,
             n,

@@ -7,12 +7,12 @@ use mathlib.Core.List.{List, [], _∷_}
 use lib.Dec.{ltb, eqb}
 use borrow.Author.Tests.{eq-eqb, ne-eqb, le-leb, lt-leb, ltb-true, ltb-false}
 use lib.ListN.{length, getD, List·getD-eq-default}
-use Rattle.outcome.specs.Outcome.{Outcome, given, refused, _>>_}
+use Rattle.outcome.specs.Outcome.{Outcome, given, refused, unfit, _>>_}
 use Rattle.formula.specs.Formula.{Formula}
 use Rattle.formula.specs.States.{toggledBy}
 use Rattle.formula.proofs.Laws.{over-more}
 use Rattle.contraction.specs.Rounds.{dwarf}
-use Rattle.sheet.specs.Sheet.{Sheet}
+use Rattle.sheet.specs.Sheet.{Sheets, Sheet}
 use Rattle.tree_dwarf.specs.declared.Figures.{Figures}
 use Rattle.labels.specs.Arrays.{Holds, Tree}
 use Rattle.labels.proofs.Links.{cases}
@@ -32,6 +32,10 @@ use Rattle.job_run.specs.declared.RunAnswer.the-variants as run
 
 run-refused : (o : Outcome Answers) (rs cs ls : List ℕ) (number place : ℕ) → o ≡ refused number place → Ran o rs cs ls (run.Refused number place) rs cs ls
 run-refused o rs cs ls number place is =
+    record { answer = rw is; lists = record { roots-list = rw is; counts-list = rw is; labels-list = rw is } }
+
+run-unfit : (o : Outcome Answers) (rs cs ls : List ℕ) (number place : ℕ) → o ≡ unfit number place → Ran o rs cs ls (run.Unfit number place) rs cs ls
+run-unfit o rs cs ls number place is =
     record { answer = rw is; lists = record { roots-list = rw is; counts-list = rw is; labels-list = rw is } }
 
 firstWrong-most : (names : ℕ) (ts : List ℕ) → firstWrong names ts ≤ length ts
@@ -111,13 +115,13 @@ module _ (names nodes : ℕ) (ts rs cs ls : List ℕ) (w : ℕ) (first : w ≡ f
             };
       }
 
-running-accepted : (ts : List ℕ) (roots counts labels : ℕ) (s : List ℕ) (x : Sheet) → accepted s ≡ given x
+running-accepted : (ts : List ℕ) (roots counts labels : ℕ) (s : Sheets) (x : Sheet) → accepted s ≡ given x
     → running s ts roots counts labels ≡ toggling (x .formula) (length (x .names)) ts roots counts labels
 unfolding running
 running-accepted ts roots counts labels s x is = rw is
 
--- the sheet is refused, or stands in the arrays
-module _ (s codes k f e ts rs cs ls : List ℕ) (r : Prepared) (says : Says s codes k f e r) where
+-- a sheet is refused, or the formula stands in the arrays
+module _ (s : Sheets) (codes k f e ts rs cs ls : List ℕ) (r : Prepared) (says : Says s codes k f e r) where
   pub sheet-refused : (number place : ℕ) → r ≡ prepared.Refused number place
       → Ran (running s ts (length rs) (length cs) (length ls)) rs cs ls (run.Refused number place) rs cs ls
   unfolding running
@@ -125,12 +129,19 @@ module _ (s codes k f e ts rs cs ls : List ℕ) (r : Prepared) (says : Says s co
       let a : accepted s ≡ refused number place = rw is at says in
       run-refused (running s ts (length rs) (length cs) (length ls)) rs cs ls number place (rw a)
 
+  pub sheet-unfit : (number place : ℕ) → r ≡ prepared.Unfit number place
+      → Ran (running s ts (length rs) (length cs) (length ls)) rs cs ls (run.Unfit number place) rs cs ls
+  unfolding running
+  sheet-unfit number place is =
+      let a : accepted s ≡ unfit number place = rw is at says in
+      run-unfit (running s ts (length rs) (length cs) (length ls)) rs cs ls number place (rw a)
+
   module _ (names n : ℕ) (b : Figures) (is : r ≡ prepared.Ready names n b) where
     stands : (x : Sheet) × Stands s x names n b codes k f e
     stands = rw is at says
 
     pub few-names : names ≤ 256
-    few-names = let st = stands .1 in omega (arith, st .coded .names-are, st .coded .facts .good-names .few)
+    few-names = let st = stands .1 in omega (arith, st .coded .names-are, st .coded .facts .own .good-names .few)
 
     holds : Holds k f e (b .leaves) (b .nodes) (stands .0 .formula)
     holds =
@@ -138,8 +149,8 @@ module _ (s codes k f e ts rs cs ls : List ℕ) (r : Prepared) (says : Says s co
         record {
           leaves-are = st .built .leaves-are;
           nodes-are = st .built .nodes-are;
-          few = st .coded .facts .few-leaves;
-          named = over-more (stands .0 .formula) _ 256 (st .coded .facts .good-names .few) (st .coded .facts .over);
+          few = st .coded .facts .own .few-leaves;
+          named = over-more (stands .0 .formula) _ 256 (st .coded .facts .own .good-names .few) (st .coded .facts .own .over);
           kinds-are = st .built .kinds-are;
           firsts-are = st .built .firsts-are;
           seconds-are = st .built .seconds-are;

@@ -4,13 +4,13 @@ use mathlib.Core.Path.{_≡_, refl, sym, ap, _∙_}
 use mathlib.Core.List.{List}
 use lib.Dec.{eqb, lit<}
 use lib.ListN.{length}
-use Rattle.outcome.specs.Outcome.{Outcome, given, refused, room, part}
+use Rattle.outcome.specs.Outcome.{Outcome, given, refused, unfit, room, part}
 use Rattle.outcome.specs.Numbered.{Numbered}
-use Rattle.outcome.proofs.Questions.{need-given, part-refused, then-given, bind-given, given-same}
+use Rattle.outcome.proofs.Questions.{need-given, part-refused, part-unfit, then-given, bind-given, given-same}
 use Rattle.outcome.proofs.NumberedLaws.{given-numbered, asks, room-asks, bind-numbered}
 use Rattle.outcome.proofs.Known.{known-by}
 use Rattle.contraction.specs.Rounds.{dwarf}
-use Rattle.sheet.specs.Sheet.{Sheet}
+use Rattle.sheet.specs.Sheet.{Sheets, Sheet}
 use Rattle.accepting.specs.Accepting.{accepted}
 use Rattle.accepting.proofs.Accepted.{accepted-numbered}
 use Rattle.toggles.specs.Toggles.{Answers}
@@ -26,10 +26,12 @@ ranOf-same = known-by ranOf back same
     back : Outcome ℕ → RunAnswer
     back (given nodes) = answer.Ran nodes
     back (refused number place) = answer.Refused number place
+    back (unfit number place) = answer.Unfit number place
 
     same : (r : RunAnswer) → back (ranOf r) ≡ r
     same (answer.Ran nodes) = refl
     same (answer.Refused number place) = refl
+    same (answer.Unfit number place) = refl
 
 module _ (o : Outcome Answers) (rs cs ls : List ℕ) where
   pub run-unique : (r q : RunAnswer) (rs₁ cs₁ ls₁ rs₂ cs₂ ls₂ : List ℕ) → Ran o rs cs ls r rs₁ cs₁ ls₁ → Ran o rs cs ls q rs₂ cs₂ ls₂
@@ -50,13 +52,22 @@ module _ (o : Outcome Answers) (rs cs ls : List ℕ) where
     pub run-refuses : o ≡ refused number place → r ≡ answer.Refused number place
     run-refuses is = ranOf-same r (answer.Refused number place) (a .answer ∙ ap (part (λ a. length (a .final))) is)
 
+    -- and of the fittings sheet
+    pub run-unfit : r ≡ answer.Unfit number place → (o ≡ unfit number place) × (rs′ ≡ rs) × (cs′ ≡ cs) × (ls′ ≡ ls)
+    run-unfit is-unfit =
+        let is = part-unfit (λ a. length (a .final)) o number place (sym (ap ranOf is-unfit) ∙ a .answer) in
+        (is, rw is at (a .lists .roots-list), rw is at (a .lists .counts-list), rw is at (a .lists .labels-list))
+
+    pub run-unfits : o ≡ unfit number place → r ≡ answer.Unfit number place
+    run-unfits is = ranOf-same r (answer.Unfit number place) (a .answer ∙ ap (part (λ a. length (a .final))) is)
+
 -- No refusal has number 0.
-pub run-numbered : (s ts : List ℕ) (roots counts labels : ℕ) → Numbered (running s ts roots counts labels)
+pub run-numbered : (s : Sheets) (ts : List ℕ) (roots counts labels : ℕ) → Numbered (running s ts roots counts labels)
 unfolding running toggling
 run-numbered s ts roots counts labels = bind-numbered (accepted s) _ (accepted-numbered s) (λ x. search (asks, room-asks, given-numbered, lit<))
 
 -- A job that answers has accepted the sheet, and its answers are those of the sheet's formula.
-pub ran-accepted : (s ts : List ℕ) (a b c : ℕ) (v : Answers) → running s ts a b c ≡ given v → (x : Sheet) × (accepted s ≡ given x) × (answersOf (x .formula) ts ≡ v)
+pub ran-accepted : (s : Sheets) (ts : List ℕ) (a b c : ℕ) (v : Answers) → running s ts a b c ≡ given v → (x : Sheet) × (accepted s ≡ given x) × (answersOf (x .formula) ts ≡ v)
 unfolding running toggling
 ran-accepted s ts a b c v is =
     let x = bind-given (accepted s) (λ (y : Sheet). toggling (y .formula) (length (y .names)) ts a b c) v is in

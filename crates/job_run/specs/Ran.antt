@@ -3,7 +3,7 @@ use Prim.Native.Nat.{ℕ}
 use mathlib.Core.Path.{_≡_}
 use mathlib.Core.List.{List}
 use lib.ListN.{length}
-use Rattle.outcome.specs.Outcome.{Outcome, given, refused, part}
+use Rattle.outcome.specs.Outcome.{Outcome, given, refused, unfit, part}
 use Rattle.outcome.specs.Lent.{afterCall}
 use Rattle.toggles.specs.Toggles.{Answers}
 use Rattle.job_run.specs.declared.RunAnswer.{RunAnswer}
@@ -12,6 +12,7 @@ use Rattle.job_run.specs.declared.RunAnswer.the-variants as answer
 abbrev pub ranOf : RunAnswer → Outcome ℕ
 ranOf (answer.Ran nodes) = given nodes
 ranOf (answer.Refused number place) = refused number place
+ranOf (answer.Unfit number place) = unfit number place
 
 -- Of the job's outcome and the lists as lent: the lists after the call.
 pub record RanLists (o : Outcome Answers) (roots counts labels roots′ counts′ labels′ : List ℕ) : Type 0 where

@@ -1,4 +1,4 @@
--- A toggle run: what the job gives for a sheet, a toggle list, and answer lists of some lengths.
+-- A toggle run: what the job gives for the sheets of a call, a toggle list, and answer lists of some lengths.
 use Prim.Native.Nat.{ℕ}
 use mathlib.Core.List.{List}
 use lib.Dec.{eqb}
@@ -7,6 +7,7 @@ use Rattle.outcome.specs.Outcome.{Outcome, given, need, room, _>>=_, _>>_}
 use Rattle.formula.specs.Formula.{Formula}
 use Rattle.formula.specs.States.{toggledBy}
 use Rattle.contraction.specs.Rounds.{dwarf}
+use Rattle.sheet.specs.Sheet.{Sheets}
 use Rattle.accepting.specs.Accepting.{accepted}
 use Rattle.labels.specs.Labels.{labels as labelsOf}
 use Rattle.toggles.specs.Toggles.{Answers, answers, toggleRun}
@@ -27,8 +28,8 @@ toggling f names toggles roots counts labels = do
   room (length (dwarf f)) labels
   given (answersOf f toggles)
 
--- The sheet and its height first.
-unfoldable pub running : List ℕ → List ℕ → ℕ → ℕ → ℕ → Outcome Answers
-running s toggles roots counts labels = do
-  sheet ← accepted s
+-- The sheets and the height first.
+unfoldable pub running : Sheets → List ℕ → ℕ → ℕ → ℕ → Outcome Answers
+running c toggles roots counts labels = do
+  sheet ← accepted c
   toggling (sheet .formula) (length (sheet .names)) toggles roots counts labels

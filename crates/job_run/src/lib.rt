@@ -5,13 +5,15 @@ ghost use Prim.Native.Nat.{_≤_};
 ghost use lib.ListN.{length};
 ghost use Rattle.formula.specs.Formula.{Formula};
 ghost use Rattle.labels.specs.Arrays.{Tree, Holds};
+ghost use Rattle.sheet.specs.Sheet.{sheetsOf};
 ghost use Rattle.job_run.specs.Running.{toggling, running};
 ghost use Rattle.job_run.specs.Ran.{Ran};
 
-// What a toggle run answers.
+// What a toggle run answers; `Unfit` is a refusal of the fittings sheet.
 pub enum RunAnswer {
     Ran { nodes: usize },
     Refused { number: u8, place: usize },
+    Unfit { number: u8, place: usize },
 }
 
 // Runs toggles on a dwarf tree, where each is a shape of the sheet and there is room in each list.
@@ -65,21 +67,24 @@ fn run_toggles(
 
 // Runs toggles on a sheet's tree, with every shape outside at first.
 pub fn run(
+    fitted: bool,
+    fittings: &[u8],
     sheet: &[u8],
     toggles: &[u16],
     roots: &mut [u8],
     counts: &mut [u32],
     labels: &mut [u8],
 ) -> RunAnswer
-    ensures { λ r. ⌜ Ran (running (now (sheet .entry)) (now (toggles .entry)) (length (now (roots .entry))) (length (now (counts .entry))) (length (now (labels .entry))))
+    ensures { λ r. ⌜ Ran (running (sheetsOf fitted (now (fittings .entry)) (now (sheet .entry))) (now (toggles .entry)) (length (now (roots .entry))) (length (now (counts .entry))) (length (now (labels .entry))))
         (now (roots .entry)) (now (counts .entry)) (now (labels .entry)) r (now (roots .exit)) (now (counts .exit)) (now (labels .exit)) ⌝ }
 {
     let mut codes = [0u16; 2048];
     let mut k = [0u16; 3072];
     let mut f = [0u16; 3072];
     let mut s = [0u16; 3072];
-    match accepting::prepare(sheet, &mut codes, &mut k, &mut f, &mut s) {
+    match accepting::prepare(fitted, fittings, sheet, &mut codes, &mut k, &mut f, &mut s) {
         Prepared::Refused { number, place } => RunAnswer::Refused { number, place },
+        Prepared::Unfit { number, place } => RunAnswer::Unfit { number, place },
         Prepared::Ready {
             names,
             codes: _,

@@ -11,7 +11,7 @@ use borrow.Author.Tests.{le-ltb, lt-ltb, eq-eqb, ne-eqb}
 use lib.Dec.{ltb}
 use lib.IntN.{ℤ}
 use lib.ListN.{length, getD}
-use Rattle.outcome.specs.Outcome.{Outcome, given, refused, _>>_}
+use Rattle.outcome.specs.Outcome.{Outcome, given, refused, unfit, _>>_}
 use Rattle.formula.specs.States.{State, outside, flipped}
 use Rattle.lines.specs.Lines.{Crossing, crossings, falls, ordered, anyInside, even, judged}
 use Rattle.lines.specs.Steps.{item, evenFrom}
@@ -111,6 +111,7 @@ asked-even names xs few v q = by (ordered names none 0 xs) refl
     by : (o : Outcome (Unit {0})) → ordered names none 0 xs ≡ o → (o >> v) ≡ (o >> even names xs)
     by (given tt) e = let o = ordered-gives names xs e in sym (even-from names few xs (o .0) (o .1) ∙ q)
     by (refused k p) e = refl
+    by (unfit k p) e = refl
 
 module _ (ls : List ℕ) (ps : List ℤ) (ss : List ℕ) (e : length ps ≡ length ls) (f : length ss ≡ length ls) (st : State) (n : ℕ) (any : anyInside 256 st ≡ ltb 0 n) where
   due-even : (i : ℕ) → i < length ls → (lineEnded (prior ls ps ss i) (item ls ps ss i) && ltb 0 n) ≡ false → due ls ps ss st i ≡ due ls ps ss (flipped (getD ss i 0) st) (i + 1)

@@ -2,7 +2,7 @@
 use Prim.Native.Nat.{ℕ}
 use mathlib.Core.Path.{_≡_, sym, _∙_}
 use mathlib.Core.List.{List}
-use Rattle.outcome.specs.Outcome.{Outcome, refused}
+use Rattle.outcome.specs.Outcome.{Outcome, refused, unfit}
 use Rattle.lines.specs.Lines.{AnswerLists, Wall}
 use Rattle.lines.specs.Given.{WallLists}
 
@@ -20,4 +20,8 @@ lists-unique a b =
 -- A refusal writes nothing.
 pub lists-refused : {o : Outcome (List Wall)} {lent after : AnswerLists} {number place : ℕ} → o ≡ refused number place → WallLists o lent after → after ≡ lent
 lists-refused {lent = lent} is a =
+    lists-unique a (record { lines-list = rw is; starts-list = rw is; ends-list = rw is; start-shapes-list = rw is; end-shapes-list = rw is })
+
+pub lists-unfit : {o : Outcome (List Wall)} {lent after : AnswerLists} {number place : ℕ} → o ≡ unfit number place → WallLists o lent after → after ≡ lent
+lists-unfit {lent = lent} is a =
     lists-unique a (record { lines-list = rw is; starts-list = rw is; ends-list = rw is; start-shapes-list = rw is; end-shapes-list = rw is })

@@ -9,7 +9,7 @@ use borrow.Author.Tests.{eqb-true, eqb-false, ltb-true, ltb-false}
 use lib.Dec.{eqb, ltb}
 use lib.IntN.{ℤ}
 use lib.ListN.{length}
-use Rattle.outcome.specs.Outcome.{Outcome, given, refused, _>>_, need}
+use Rattle.outcome.specs.Outcome.{Outcome, given, refused, unfit, _>>_, need}
 use Rattle.outcome.proofs.Questions.{need-yes}
 use Rattle.lines.specs.Lines.{Crossing, crossings, falls, ordered, even, judged}
 use Rattle.lines.proofs.Keys.{leK, lt-leK, eq-leK, not-lt→}
@@ -21,6 +21,7 @@ refused-given n p a q = let z : _≡_ {A = ℕ} 0 1 = cc in let w : ⊥ = omega 
 pub both : {A : Type 0} (v : Outcome (Unit {0})) (w : Outcome A) (a : A) → (v >> w) ≡ given a → (v ≡ given tt) × (w ≡ given a)
 both (given tt) w a q = (refl, q)
 both (refused n p) w a q = refused-given n p a q
+both (unfit n p) w a q = let z : _≡_ {A = ℕ} 0 1 = cc in absurd (omega arith)
 
 pub and-yes : (a b : Bool) → (a && b) ≡ true → (a ≡ true) × (b ≡ true)
 and-yes true b e = (refl, e)

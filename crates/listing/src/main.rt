@@ -30,11 +30,18 @@ fn records(kinds: &[u16; 3072], firsts: &[u16; 3072], seconds: &[u16; 3072], nod
     }
 }
 
+fn refused(number: u8, place: usize) {
+    io::write_all(1, b"refused");
+    next(number as usize);
+    next(place);
+    end_line();
+}
+
 fn list(sheet: &[u8]) {
     let mut kinds = [0u16; 3072];
     let mut firsts = [0u16; 3072];
     let mut seconds = [0u16; 3072];
-    match job_build::build(sheet, &mut kinds, &mut firsts, &mut seconds) {
+    match job_build::build(false, b"", sheet, &mut kinds, &mut firsts, &mut seconds) {
         BuildAnswer::Built {
             leaves,
             nodes,
@@ -48,12 +55,8 @@ fn list(sheet: &[u8]) {
             end_line();
             records(&kinds, &firsts, &seconds, nodes);
         }
-        BuildAnswer::Refused { number: k, place } => {
-            io::write_all(1, b"refused");
-            next(k as usize);
-            next(place);
-            end_line();
-        }
+        BuildAnswer::Refused { number: k, place } => refused(k, place),
+        BuildAnswer::Unfit { number: k, place } => refused(k, place),
     }
 }
 

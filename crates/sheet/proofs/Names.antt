@@ -22,6 +22,10 @@ pub or-false : (a b : Bool) → (a || b) ≡ false → (a ≡ false) × (b ≡ f
 or-false true b h = let z : _≡_ {A = ℕ} 0 1 = cc in absurd (omega arith)
 or-false false b h = (refl, h)
 
+pub or-assoc : (a b c : Bool) → (a || (b || c)) ≡ ((a || b) || c)
+or-assoc true b c = refl
+or-assoc false b c = refl
+
 -- ---- allGood
 
 pub allGood-at : (x : List ℕ) → allGood x ≡ true → (i : ℕ) → i < length x → (0x21 ≤ getD x i 0) × (getD x i 0 ≤ 0x7E)
@@ -60,6 +64,11 @@ taken-unlike (y ∷ ys) x h zero l e =
     let z : _≡_ {A = ℕ} 0 1 = cc in
     omega arith
 taken-unlike (y ∷ ys) x h (suc k) l e = taken-unlike ys x (or-false (same y x) (taken ys x) h .1) k (omega arith) e
+
+pub taken-append : (ms ns : List (List ℕ)) (x : List ℕ) → taken (ms ++ ns) x ≡ (taken ms x || taken ns x)
+unfolding taken
+taken-append [] ns x = refl
+taken-append (m ∷ ms) ns x = ap (λ (b : Bool). same m x || b) (taken-append ms ns x) ∙ or-assoc (same m x) (taken ms x) (taken ns x)
 
 -- ---- one good name more
 

@@ -1,4 +1,4 @@
--- A prefix of a sheet: a proper one of a sheet that is read is refused 1 at its own length; one of 13,063 bytes gives what the sheet gives.
+-- A prefix of a customer's sheet: a proper one of a sheet that is read is refused 1 at its own length; one of 13,063 bytes gives what the sheet gives.
 use Prim.Native.Nat.{ℕ, zero, suc, _+_, _*_, _%_, _≤_, _<_}
 use native.Mathlib.Omega.{arith}
 use mathlib.Core.Path.{_≡_, refl, _∙_}
@@ -9,9 +9,9 @@ use lib.ListN.{length, getD, take, drop, length-append}
 use lib.Seq.{length-take-le, getD-take, take-take, take-all}
 use lib.Dec.{ltb, leb, eqb}
 use borrow.Author.Tests.{leb-true, leb-false, ltb-true, ltb-false, le-leb, lt-leb, lt-ltb}
-use Rattle.outcome.specs.Outcome.{Outcome, given, refused, need, _>>_, _>>=_}
+use Rattle.outcome.specs.Outcome.{Outcome, given, refused, unfit, need, _>>_, _>>=_}
 use Rattle.formula.specs.Formula.{Formula}
-use Rattle.sheet.specs.Sheet.{Sheet, Field, nameField, formulaField, endField, mostNames, longestName, longestFormula, twoAt, lengthAt, pastAt, bytesAt, header, nameAt, formulaAt, fieldAt, onward, fields, reading}
+use Rattle.sheet.specs.Sheet.{Sheet, Setting, Field, nameField, formulaField, endField, mostNames, longestName, longestFormula, twoAt, lengthAt, pastAt, bytesAt, header, nameAt, formulaAt, fieldAt, onward, fields, own}
 use Rattle.sheet.specs.Guaranteed.{mostBytes}
 use Rattle.outcome.proofs.Questions.{then-given, bind-given}
 use Rattle.sheet.proofs.Fields.{IsName, IsFormula, field-given, end-given}
@@ -63,7 +63,7 @@ past-near s at n h = omega arith
 abbrev reach : ℕ → ℕ
 reach at = at + 3 + longestFormula
 
-module _ (s : List ℕ) (k : ℕ) where
+module _ (w : Setting) (s : List ℕ) (k : ℕ) where
   cut-two : (at : ℕ) → at + 2 ≤ k → twoAt (take k s) at ≡ twoAt s at
   cut-two at h =
       let a : at < k = omega arith in
@@ -96,11 +96,11 @@ module _ (s : List ℕ) (k : ℕ) where
         cut-leb k 5 _ _ (length s) in-sheet 5 (omega arith) (λ h5.
         rw (cut-two 3 h5) (whole refl)))))))))
 
-    cut-name : (at : ℕ) (ns : List (List ℕ)) → Cut k (reach at) (nameAt s at ns) (nameAt (take k s) at ns)
+    cut-name : (at : ℕ) (ns : List (List ℕ)) → Cut k (reach at) (nameAt w s at ns) (nameAt w (take k s) at ns)
     unfolding nameAt
     cut-name at ns =
         rw (length-take-le k s in-sheet)
-        (cut-same k (reach at) _ _ (ltb (length ns) mostNames) 6 at (λ q1.
+        (cut-same k (reach at) _ _ (ltb (length (w .fittings) + length ns) mostNames) 6 at (λ q1.
         cut-leb k (reach at) _ _ (length s) in-sheet (at + 3) (omega arith) (λ h.
         rw (cut-length at h, cut-past at h)
         (cut-same k (reach at) _ _ (leb 1 (lengthAt s at)) 4 at (λ q2.
@@ -108,7 +108,7 @@ module _ (s : List ℕ) (k : ℕ) where
         cut-leb k (reach at) _ _ (length s) in-sheet (pastAt s at) (omega (arith, past-near s at longestName (leb-true _ _ q3))) (λ g.
         rw (cut-bytes at h g) (whole refl))))))))
 
-    cut-formula : (at : ℕ) (ns : List (List ℕ)) → Cut k (reach at) (formulaAt s at ns) (formulaAt (take k s) at ns)
+    cut-formula : (at : ℕ) (ns : List (List ℕ)) → Cut k (reach at) (formulaAt w s at ns) (formulaAt w (take k s) at ns)
     unfolding formulaAt
     cut-formula at ns =
         rw (length-take-le k s in-sheet)
@@ -121,7 +121,7 @@ module _ (s : List ℕ) (k : ℕ) where
         cut-leb k (reach at) _ _ (length s) in-sheet (pastAt s at) (past-near s at longestFormula (leb-true _ _ q2)) (λ g.
         rw (cut-bytes at h g) (whole refl)))))))))
 
-    cut-field : (at : ℕ) (ns : List (List ℕ)) → Cut k (reach at) (fieldAt s at ns false) (fieldAt (take k s) at ns false)
+    cut-field : (at : ℕ) (ns : List (List ℕ)) → Cut k (reach at) (fieldAt w s at ns false) (fieldAt w (take k s) at ns false)
     unfolding fieldAt
     cut-field at ns =
         rw (length-take-le k s in-sheet)
@@ -132,105 +132,106 @@ module _ (s : List ℕ) (k : ℕ) where
 
 -- ---- a proper prefix of a sheet that is read
 
-module _ (s : List ℕ) (k : ℕ) (proper : k < length s) (r : Sheet) where
+module _ (w : Setting) (s : List ℕ) (k : ℕ) (proper : k < length s) (r : Sheet) where
   in-sheet : k ≤ length s
   in-sheet = omega arith
 
   -- the formula would end within the prefix, and so before the sheet's end
   not-all : (f : Formula) (at a e : ℕ) (ns : List (List ℕ)) → length s ≤ e
-      → IsName (take k s) at ns (formulaField f a e) ⊎ IsFormula (take k s) at ns (formulaField f a e) → ⊥
+      → IsName w (take k s) at ns (formulaField f a e) ⊎ IsFormula w (take k s) at ns (formulaField f a e) → ⊥
   not-all f at a e ns l (inl i) = let h = i .is in let z : _≡_ {A = ℕ} 0 1 = cc h in omega arith
   not-all f at a e ns l (inr i) =
       let h = i .is in
-      let w : pastAt (take k s) at ≡ e = cc h in
-      omega (arith, w, l, i .inside, length-take-le k s in-sheet)
+      let q : pastAt (take k s) at ≡ e = cc h in
+      omega (arith, q, l, i .inside, length-take-le k s in-sheet)
 
   module _ (on on′ : ℕ → List (List ℕ) → Outcome Sheet) (ih : (e : ℕ) (ms : List (List ℕ)) → on e ms ≡ given r → on′ e ms ≡ refused 1 k)
       (at : ℕ) (ns : List (List ℕ)) where
-    after-whole : (v : Field) → fieldAt (take k s) at ns false ≡ given v → onward on s ns v ≡ given r → onward on′ (take k s) ns v ≡ refused 1 k
+    after-whole : (v : Field) → fieldAt w (take k s) at ns false ≡ given v → onward w on s ns v ≡ given r → onward w on′ (take k s) ns v ≡ refused 1 k
     after-whole (nameField x e) q h = ih e (ns ++ (x ∷ [])) h
     after-whole (formulaField f a e) q h =
-        let b = then-given (fieldAt s e ns true) (given (record { names = ns; formula = f; first = a; past = e })) r h in
-        absurd (not-all f at a e ns (end-given s e ns (b .0) (b .1) .0) (field-given (take k s) at ns (formulaField f a e) q))
+        let b = then-given (fieldAt w s e ns true) (given (record { names = w .fittings ++ ns; formula = f; first = a; past = e })) r h in
+        absurd (not-all f at a e ns (end-given w s e ns (b .0) (b .1) .0) (field-given w (take k s) at ns (formulaField f a e) q))
     after-whole endField q h = let z : _≡_ {A = ℕ} 0 1 = cc in absurd (omega arith)
 
-    after-cut : (v : Field) → fieldAt s at ns false ≡ given v → onward on s ns v ≡ given r → Cut k (reach at) (fieldAt s at ns false) (fieldAt (take k s) at ns false)
-        → (fieldAt (take k s) at ns false >>= onward on′ (take k s) ns) ≡ refused 1 k
+    after-cut : (v : Field) → fieldAt w s at ns false ≡ given v → onward w on s ns v ≡ given r → Cut k (reach at) (fieldAt w s at ns false) (fieldAt w (take k s) at ns false)
+        → (fieldAt w (take k s) at ns false >>= onward w on′ (take k s) ns) ≡ refused 1 k
     after-cut v q h (short l c) = rw c
     after-cut v q h (whole c) = rw (c, q) (after-whole v (c ∙ q) h)
 
-  fields-cut : (n : ℕ) (at : ℕ) (ns : List (List ℕ)) → fields n s at ns ≡ given r → fields n (take k s) at ns ≡ refused 1 k
+  fields-cut : (n : ℕ) (at : ℕ) (ns : List (List ℕ)) → fields w n s at ns ≡ given r → fields w n (take k s) at ns ≡ refused 1 k
   unfolding fields
   fields-cut zero at ns h = let z : _≡_ {A = ℕ} 0 1 = cc in absurd (omega arith)
   fields-cut (suc n) at ns h =
-      let b = bind-given (fieldAt s at ns false) (onward (fields n s) s ns) r h in
-      after-cut (fields n s) (fields n (take k s)) (fields-cut n) at ns (b .0) (b .1) (b .2) (cut-field s k in-sheet at ns)
+      let b = bind-given (fieldAt w s at ns false) (onward w (fields w n s) s ns) r h in
+      after-cut (fields w n s) (fields w n (take k s)) (fields-cut n) at ns (b .0) (b .1) (b .2) (cut-field w s k in-sheet at ns)
 
-  header-cut : (ed : ℕ) → header s ≡ given ed → fields (mostNames + 1) s 5 [] ≡ given r → Cut k 5 (header s) (header (take k s))
-      → (header (take k s) >> fields (mostNames + 1) (take k s) 5 []) ≡ refused 1 k
+  header-cut : (ed : ℕ) → header s ≡ given ed → fields w (mostNames + 1) s 5 [] ≡ given r → Cut k 5 (header s) (header (take k s))
+      → (header (take k s) >> fields w (mostNames + 1) (take k s) 5 []) ≡ refused 1 k
   header-cut ed q h (short l c) = rw c
   header-cut ed q h (whole c) = rw (c, q) (fields-cut (mostNames + 1) 5 [] h)
 
-  pub prefix-refused : reading s ≡ given r → reading (take k s) ≡ refused 1 k
-  unfolding reading
+  pub prefix-refused : own w s ≡ given r → own w (take k s) ≡ refused 1 k
+  unfolding own
   prefix-refused h =
-      let b = then-given (header s) (fields (mostNames + 1) s 5 []) r h in
-      header-cut (b .0) (b .1) (b .2) (cut-header s k in-sheet)
+      let b = then-given (header s) (fields w (mostNames + 1) s 5 []) r h in
+      header-cut (b .0) (b .1) (b .2) (cut-header w s k in-sheet)
 
 -- ---- a prefix of 13,063 bytes at least
 
-module _ (s : List ℕ) (k : ℕ) (in-sheet : k ≤ length s) (enough : mostBytes < k) where
-  field-same : (at : ℕ) (ns : List (List ℕ)) → at ≤ 5 + 35 * mostNames → Cut k (reach at) (fieldAt s at ns false) (fieldAt (take k s) at ns false)
-      → fieldAt (take k s) at ns false ≡ fieldAt s at ns false
+module _ (w : Setting) (s : List ℕ) (k : ℕ) (in-sheet : k ≤ length s) (enough : mostBytes < k) where
+  field-same : (at : ℕ) (ns : List (List ℕ)) → at ≤ 5 + 35 * mostNames → Cut k (reach at) (fieldAt w s at ns false) (fieldAt w (take k s) at ns false)
+      → fieldAt w (take k s) at ns false ≡ fieldAt w s at ns false
   field-same at ns near (short l c) = absurd (omega arith)
   field-same at ns near (whole c) = c
 
   -- after a formula that ends before byte 13,063 there are further bytes in both
-  end-same : (e : ℕ) (ns : List (List ℕ)) → e ≤ mostBytes → fieldAt (take k s) e ns true ≡ fieldAt s e ns true
+  end-same : (e : ℕ) (ns : List (List ℕ)) → e ≤ mostBytes → fieldAt w (take k s) e ns true ≡ fieldAt w s e ns true
   unfolding fieldAt
   end-same e ns near = rw (length-take-le k s in-sheet, lt-leb (length s) e (omega arith), lt-leb k e (omega arith))
 
   module _ (on on′ : ℕ → List (List ℕ) → Outcome Sheet)
       (ih : (e : ℕ) (ms : List (List ℕ)) → e ≤ 5 + 35 * length ms → length ms ≤ mostNames → on′ e ms ≡ on e ms)
       (at : ℕ) (ns : List (List ℕ)) (near : at ≤ 5 + 35 * length ns) (few : length ns ≤ mostNames) where
-    onward-same : (v : Field) → IsName s at ns v ⊎ IsFormula s at ns v → onward on′ (take k s) ns v ≡ onward on s ns v
+    onward-same : (v : Field) → IsName w s at ns v ⊎ IsFormula w s at ns v → onward w on′ (take k s) ns v ≡ onward w on s ns v
     unfolding pastAt
     onward-same (nameField x e) (inl i) =
         let h = i .is in
-        let w : pastAt s at ≡ e = cc h in
+        let q : pastAt s at ≡ e = cc h in
         let len = length-append ns (x ∷ []) in
-        ih e (ns ++ (x ∷ [])) (omega (arith, w, len, near, i .few)) (omega (arith, len, i .room))
+        ih e (ns ++ (x ∷ [])) (omega (arith, q, len, near, i .few)) (omega (arith, len, i .room))
     onward-same (nameField x e) (inr i) = let h = i .is in let z : _≡_ {A = ℕ} 0 1 = cc h in absurd (omega arith)
     onward-same (formulaField f a e) (inl i) = let h = i .is in let z : _≡_ {A = ℕ} 0 1 = cc h in absurd (omega arith)
     onward-same (formulaField f a e) (inr i) =
         let h = i .is in
-        let w : pastAt s at ≡ e = cc h in
-        rw (end-same e ns (omega (arith, w, near, few, i .short)))
+        let q : pastAt s at ≡ e = cc h in
+        rw (end-same e ns (omega (arith, q, near, few, i .short)))
     onward-same endField (inl i) = let h = i .is in let z : _≡_ {A = ℕ} 0 1 = cc h in absurd (omega arith)
     onward-same endField (inr i) = let h = i .is in let z : _≡_ {A = ℕ} 0 1 = cc h in absurd (omega arith)
 
-    after-same : (o : Outcome Field) → fieldAt s at ns false ≡ o → (o >>= onward on′ (take k s) ns) ≡ (o >>= onward on s ns)
-    after-same (given v) q = onward-same v (field-given s at ns v q)
+    after-same : (o : Outcome Field) → fieldAt w s at ns false ≡ o → (o >>= onward w on′ (take k s) ns) ≡ (o >>= onward w on s ns)
+    after-same (given v) q = onward-same v (field-given w s at ns v q)
     after-same (refused i p) q = refl
+    after-same (unfit i p) q = refl
 
-  fields-same : (n : ℕ) (at : ℕ) (ns : List (List ℕ)) → at ≤ 5 + 35 * length ns → length ns ≤ mostNames → fields n (take k s) at ns ≡ fields n s at ns
+  fields-same : (n : ℕ) (at : ℕ) (ns : List (List ℕ)) → at ≤ 5 + 35 * length ns → length ns ≤ mostNames → fields w n (take k s) at ns ≡ fields w n s at ns
   unfolding fields
   fields-same zero at ns near few = refl
   fields-same (suc n) at ns near few =
-      rw (field-same at ns (omega arith) (cut-field s k in-sheet at ns))
-      (after-same (fields n s) (fields n (take k s)) (fields-same n) at ns near few (fieldAt s at ns false) refl)
+      rw (field-same at ns (omega arith) (cut-field w s k in-sheet at ns))
+      (after-same (fields w n s) (fields w n (take k s)) (fields-same n) at ns near few (fieldAt w s at ns false) refl)
 
   header-same : Cut k 5 (header s) (header (take k s)) → header (take k s) ≡ header s
   header-same (short l c) = absurd (omega arith)
   header-same (whole c) = c
 
-  cut-reading : reading (take k s) ≡ reading s
-  unfolding reading
-  cut-reading = rw (header-same (cut-header s k in-sheet), fields-same (mostNames + 1) 5 [] (omega arith) (omega arith))
+  cut-own : own w (take k s) ≡ own w s
+  unfolding own
+  cut-own = rw (header-same (cut-header w s k in-sheet), fields-same (mostNames + 1) 5 [] (omega arith) (omega arith))
 
-either-way : (s : List ℕ) (k : ℕ) → mostBytes < k → (b : Bool) → leb k (length s) ≡ b → reading (take k s) ≡ reading s
-either-way s k enough true q = cut-reading s k (leb-true _ _ q) enough
-either-way s k enough false q = let h : length s < k = leb-false _ _ q in rw (take-all k s (omega arith))
+either-way : (w : Setting) (s : List ℕ) (k : ℕ) → mostBytes < k → (b : Bool) → leb k (length s) ≡ b → own w (take k s) ≡ own w s
+either-way w s k enough true q = cut-own w s k (leb-true _ _ q) enough
+either-way w s k enough false q = let h : length s < k = leb-false _ _ q in rw (take-all k s (omega arith))
 
-pub prefix-enough : (s : List ℕ) (k : ℕ) → mostBytes < k → reading (take k s) ≡ reading s
-prefix-enough s k enough = either-way s k enough (leb k (length s)) refl
+pub prefix-enough : (w : Setting) (s : List ℕ) (k : ℕ) → mostBytes < k → own w (take k s) ≡ own w s
+prefix-enough w s k enough = either-way w s k enough (leb k (length s)) refl

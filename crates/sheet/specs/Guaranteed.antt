@@ -1,10 +1,10 @@
--- What a sheet that is read guarantees: document 01, 'The sheet'.
+-- What sheets that are read guarantee: document 01, 'The sheet', and document 02, K7.
 use Prim.Native.Nat.{ℕ, _+_, _-_, _%_, _≤_, _<_}
 use mathlib.Core.Path.{_≡_}
-use mathlib.Core.List.{List, []}
+use mathlib.Core.List.{List, [], _++_}
 use lib.ListN.{length, getD}
 use Rattle.formula.specs.Formula.{leaves, postfix, Over}
-use Rattle.sheet.specs.Sheet.{Sheet, mostNames, longestName, longestFormula, between, codesOf}
+use Rattle.sheet.specs.Sheet.{Sheets, alone, beside, ownSheet, Sheet, Setting, unaided, mostNames, longestName, longestFormula, between, codesOf}
 use Rattle.sheet.specs.Walk.{walkEnd, walkNames}
 
 -- So there are at most 1024 leaves, 2047 formula nodes and 13,062 bytes.
@@ -30,9 +30,11 @@ pub record GoodNames (ns : List (List ℕ)) : Type 0 where
   pub good : (k : ℕ) → k < length ns → GoodName (getD ns k [])
   pub unlike : (j k : ℕ) → j < k → k < length ns → getD ns j [] ≡ getD ns k [] → ⊥
 
-pub record Guaranteed (s : List ℕ) (r : Sheet) : Type 0 where
-  -- 1 to 256 names
-  pub some-names : 1 ≤ length (r .names)
+-- Of the customer's sheet s.
+pub record Own (w : Setting) (s : List ℕ) (r : Sheet) : Type 0 where
+  -- 1 to 256 names, those of both sheets together; the customer's still one at least
+  pub owned : ℕ
+  pub some-names : 1 ≤ owned
   pub good-names : GoodNames (r .names)
   -- codes below the number of names are leaves
   pub over : Over (length (r .names)) (r .formula)
@@ -46,6 +48,24 @@ pub record Guaranteed (s : List ℕ) (r : Sheet) : Type 0 where
   -- after the formula there is no further byte
   pub ends : r .past ≡ length s
   pub few-in-all : length s ≤ mostBytes
-  -- the names are those of the fields from offset 5 on; the formula's field is the next one
-  pub names-are : r .names ≡ walkNames s 5 (length (r .names))
-  pub follows : r .first ≡ walkEnd s 5 (length (r .names)) + 3
+  -- the fittings' names are numbered first; the customer's are those of the fields from offset 5 on; the formula's field is the next one
+  pub names-are : r .names ≡ w .fittings ++ walkNames s 5 owned
+  pub follows : r .first ≡ walkEnd s 5 owned + 3
+
+-- Of the fittings sheet f: 1 to 256 names, and nothing after them.
+pub record Fitted (f : List ℕ) (names : List (List ℕ)) : Type 0 where
+  pub some-names : 1 ≤ length names
+  pub good-names : GoodNames names
+  pub names-are : names ≡ walkNames f 5 (length names)
+  pub ends : walkEnd f 5 (length names) ≡ length f
+
+-- The setting of a call's sheets.
+abbrev pub SettingOf : Sheets → Setting → Type 0
+SettingOf (alone s) w = w ≡ unaided
+SettingOf (beside f s) w = Fitted f (w .fittings)
+
+-- Of a call's sheets.
+pub record Guaranteed (c : Sheets) (r : Sheet) : Type 0 where
+  pub setting : Setting
+  pub fitted : SettingOf c setting
+  pub own : Own setting (ownSheet c) r

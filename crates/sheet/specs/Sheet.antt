@@ -1,14 +1,30 @@
--- What reading a sheet gives: document 01, 'The sheet' and 'Order of reading'. A sheet is the list of its bytes.
+-- What reading a sheet gives, alone or beside a fittings sheet: document 01, 'The sheet' and 'Order of reading', and document 02, K7.
+-- A sheet is the list of its bytes.
 use Prim.Native.Nat.{ℕ, zero, suc, _+_, _-_, _*_, _%_}
 use mathlib.Core.List.{List, [], _∷_, _++_}
 use mathlib.Core.Option.{Option, none, some}
 use mathlib.Core.Bool.{Bool, true, false, cond, not, _&&_, _||_}
 use lib.ListN.{length, getD, take, drop}
 use lib.Dec.{ltb, leb, eqb}
-use Rattle.outcome.specs.Outcome.{Outcome, given, refused, need, _>>=_, _>>_}
+use Rattle.outcome.specs.Outcome.{Outcome, given, refused, need, _>>=_, _>>_, ofFittings}
 use Rattle.formula.specs.Formula.{Op, union, intersection, difference, exclusive, code, Formula, leaf, node}
 
--- What a sheet holds: the k-th name, from 0, names shape k; the formula stands in the bytes from `first` up to `past`.
+-- The sheets of a call: the customer's sheet alone, or a fittings sheet and the customer's.
+pub data Sheets : Type 0 where
+  alone : List ℕ → Sheets
+  beside : List ℕ → List ℕ → Sheets
+
+-- As a call brings them: a flag says whether there is a fittings sheet, since an empty one is an input like any other.
+abbrev pub sheetsOf : Bool → List ℕ → List ℕ → Sheets
+sheetsOf true f s = beside f s
+sheetsOf false f s = alone s
+
+abbrev pub ownSheet : Sheets → List ℕ
+ownSheet (alone s) = s
+ownSheet (beside f s) = s
+
+-- What they hold: the k-th name, from 0, names shape k, the fittings' names first, the customer's after them; the formula stands in the
+-- bytes of the customer's sheet from `first` up to `past`.
 pub record Sheet : Type 0 where
   pub names : List (List ℕ)
   pub formula : Formula
@@ -27,6 +43,13 @@ longestName = 32
 
 abbrev pub longestFormula : ℕ
 longestFormula = 4094
+
+-- What reading a sheet depends on besides its bytes: the names of the fittings sheet beside it.
+pub record Setting : Type 0 where
+  pub fittings : List (List ℕ)
+
+abbrev pub unaided : Setting
+unaided = record { fittings = [] }
 
 -- ---- Fields: a one-byte tag, a two-byte length (high byte first), then that many bytes
 
@@ -134,10 +157,10 @@ header s = do
   given (twoAt s 3)
 
 -- Tag 2 at an offset, after the names ns.
-unfoldable pub nameAt : List ℕ → ℕ → List (List ℕ) → Outcome Field
-nameAt s at ns = do
-  -- is it not a 257th name (else 6)
-  need (ltb (length ns) mostNames) 6 at
+unfoldable pub nameAt : Setting → List ℕ → ℕ → List (List ℕ) → Outcome Field
+nameAt w s at ns = do
+  -- is it not a 257th name (else 6): 6 counts both sheets' names together
+  need (ltb (length (w .fittings) + length ns) mostNames) 6 at
   -- are both length bytes there (else 1)
   need (leb (at + 3) (length s)) 1 (length s)
   -- is the length allowed: a name with length wrong is 4
@@ -148,12 +171,14 @@ nameAt s at ns = do
   -- are they good: a name with a byte wrong is 4, one already taken is 5
   need (allGood (bytesAt s at)) 4 at
   need (not (taken ns (bytesAt s at))) 5 at
+  -- 17, a customer's name equal to a fitting's, stands directly after 5
+  need (not (taken (w .fittings) (bytesAt s at))) 17 at
   given (nameField (bytesAt s at) (pastAt s at))
 
 -- Tag 3 at an offset, after the names ns.
-unfoldable pub formulaAt : List ℕ → ℕ → List (List ℕ) → Outcome Field
-formulaAt s at ns = do
-  -- may this tag stand here: a formula before any name is 2
+unfoldable pub formulaAt : Setting → List ℕ → ℕ → List (List ℕ) → Outcome Field
+formulaAt w s at ns = do
+  -- may this tag stand here: a formula before any name is 2; the customer's names are still one at least
   need (ltb 0 (length ns)) 2 at
   -- are both length bytes there (else 1)
   need (leb (at + 3) (length s)) 1 (length s)
@@ -163,37 +188,74 @@ formulaAt s at ns = do
   need (eqb (lengthAt s at % 2) 0) 7 at
   -- are the bytes all there (else 1)
   need (leb (pastAt s at) (length s)) 1 (length s)
-  -- are they good: codes are judged left to right
-  f ← formulaOf (length ns) at (at + 3) (codesOf (bytesAt s at))
+  -- are they good: codes are judged left to right; the customer's formula may use both sheets' names
+  f ← formulaOf (length (w .fittings) + length ns) at (at + 3) (codesOf (bytesAt s at))
   given (formulaField f (at + 3) (pastAt s at))
 
 -- The field at an offset, after the header and the names ns; the last argument says whether the formula was read already.
-unfoldable pub fieldAt : List ℕ → ℕ → List (List ℕ) → Bool → Outcome Field
-fieldAt s at ns true = do
+unfoldable pub fieldAt : Setting → List ℕ → ℕ → List (List ℕ) → Bool → Outcome Field
+fieldAt w s at ns true = do
   -- after the formula any further byte is a tag out of place
   need (leb (length s) at) 2 at
   given endField
-fieldAt s at ns false = do
+fieldAt w s at ns false = do
   -- is there a tag byte (else 1)
   need (ltb at (length s)) 1 (length s)
   -- may this tag stand here (else 2)
-  cond (eqb (getD s at 0) 2) (nameAt s at ns) (cond (eqb (getD s at 0) 3) (formulaAt s at ns) (refused 2 at))
+  cond (eqb (getD s at 0) 2) (nameAt w s at ns) (cond (eqb (getD s at 0) 3) (formulaAt w s at ns) (refused 2 at))
 
 -- After a field: a name is added, and `on` reads on; the formula is the last one; an end before the formula comes too soon. That last
 -- clause never decides: `proofs/Enough.antt`.
-abbrev pub onward : (ℕ → List (List ℕ) → Outcome Sheet) → List ℕ → List (List ℕ) → Field → Outcome Sheet
-onward on s ns (nameField x past) = on past (ns ++ (x ∷ []))
-onward on s ns (formulaField f first past) =
-    fieldAt s past ns true >> given (record { names = ns; formula = f; first = first; past = past })
-onward on s ns endField = refused 1 (length s)
+abbrev pub onward : Setting → (ℕ → List (List ℕ) → Outcome Sheet) → List ℕ → List (List ℕ) → Field → Outcome Sheet
+onward w on s ns (nameField x past) = on past (ns ++ (x ∷ []))
+onward w on s ns (formulaField f first past) =
+    fieldAt w s past ns true >> given (record { names = w .fittings ++ ns; formula = f; first = first; past = past })
+onward w on s ns endField = refused 1 (length s)
 
 -- The fields from an offset on, after the names ns: at most k of them. The clause for none never decides: `proofs/Enough.antt`.
-unfoldable pub fields : ℕ → List ℕ → ℕ → List (List ℕ) → Outcome Sheet
-fields zero s at ns = refused 6 at
-fields (suc k) s at ns = fieldAt s at ns false >>= onward (fields k s) s ns
+unfoldable pub fields : Setting → ℕ → List ℕ → ℕ → List (List ℕ) → Outcome Sheet
+fields w zero s at ns = refused 6 at
+fields w (suc k) s at ns = fieldAt w s at ns false >>= onward w (fields w k s) s ns
 
--- A sheet: the header, then the fields. 257 are enough, since a 257th name is refused.
-unfoldable pub reading : List ℕ → Outcome Sheet
-reading s = do
+-- The customer's sheet: the header, then the fields. 257 are enough, since a 257th name is refused.
+unfoldable pub own : Setting → List ℕ → Outcome Sheet
+own w s = do
   header s
-  fields (mostNames + 1) s 5 []
+  fields w (mostNames + 1) s 5 []
+
+-- ---- The fittings sheet: the same rules, except that it must end after its names
+
+-- The field at an offset, after the header and the names ns.
+unfoldable pub fittingAt : List ℕ → ℕ → List (List ℕ) → Outcome Field
+fittingAt s at ns =
+    cond (ltb at (length s))
+    -- may this tag stand here (else 2)
+    (cond (eqb (getD s at 0) 2) (nameAt unaided s at ns) (refused 2 at))
+    -- ending before the first name is 1
+    (need (ltb 0 (length ns)) 1 (length s) >> given endField)
+
+-- After a field: a name is added, and `on` reads on; the end is the end. No field is a formula: that
+-- clause never decides, `proofs/Enough.antt`.
+abbrev pub onwardFitting : (ℕ → List (List ℕ) → Outcome (List (List ℕ))) → ℕ → List (List ℕ) → Field → Outcome (List (List ℕ))
+onwardFitting on at ns (nameField x past) = on past (ns ++ (x ∷ []))
+onwardFitting on at ns (formulaField f first past) = refused 2 at
+onwardFitting on at ns endField = given ns
+
+-- The names from an offset on, after the names ns: at most k fields. The clause for none never decides: `proofs/Enough.antt`.
+unfoldable pub fittingFields : ℕ → List ℕ → ℕ → List (List ℕ) → Outcome (List (List ℕ))
+fittingFields zero s at ns = refused 6 at
+fittingFields (suc k) s at ns = fittingAt s at ns >>= onwardFitting (fittingFields k s) at ns
+
+-- A fittings sheet: the header, then 1 to 256 names. 257 fields are enough: the last one is the end.
+unfoldable pub fittingNames : List ℕ → Outcome (List (List ℕ))
+fittingNames s = do
+  header s
+  fittingFields (mostNames + 1) s 5 []
+
+-- ---- The sheets of a call: the fittings sheet is judged first
+
+unfoldable pub reading : Sheets → Outcome Sheet
+reading (alone s) = own unaided s
+reading (beside f s) = do
+  names ← ofFittings (fittingNames f)
+  own (record { fittings = names }) s

@@ -2,19 +2,22 @@
 -- follows from a fact of the code about the tested number itself, or about an n that was read as that number.
 use Prim.Native.Nat.{ℕ, _+_, _-_, _%_, _≤_, _<_}
 use native.Mathlib.Omega.{arith}
-use mathlib.Core.Path.{_≡_, sym, _∙_}
+use mathlib.Core.Path.{_≡_, refl, sym, _∙_}
 use mathlib.Core.Bool.{Bool, true, false, cond, not}
 use mathlib.Core.List.{List}
 use lib.ListN.{length, getD, take, drop}
 use lib.Seq.{getD-take, getD-drop}
 use lib.Dec.{leb, eqb, lit<}
 use borrow.Author.Tests.{lt-ltb, le-ltb, le-leb, lt-leb, eq-eqb, ne-eqb}
-use Rattle.outcome.specs.Outcome.{Outcome, given, refused, need, _>>_, _>>=_, part}
+use Rattle.outcome.specs.Outcome.{Outcome, given, refused, unfit, need, _>>_, _>>=_, part}
 use Rattle.formula.specs.Formula.{Formula, leaves}
-use Rattle.sheet.specs.Sheet.{between, twoAt, lengthAt, pastAt, bytesAt, allGood, taken, codesOf, formulaOf, header, formulaAt, fieldAt, formulaField}
-use Rattle.sheet.specs.Walk.{walkNames}
+use Rattle.sheet.specs.Sheet.{Setting, between, twoAt, lengthAt, pastAt, bytesAt, allGood, taken, codesOf, formulaOf, header, formulaAt, fieldAt, formulaField}
+use Rattle.sheet.specs.Walk.{walkNames, fittedBy}
 use Rattle.sheet_fields.specs.Fields.{Seen, seen, name, formula}
 use Rattle.sheet_codes.specs.Codes.{formedOf}
+use Rattle.sheet_names.specs.Keys.{whoseIs}
+use Rattle.sheet_names.specs.declared.Whose.{Whose}
+use Rattle.sheet_names.specs.declared.Whose.the-variants.{Customers, Fittings, Nobodys}
 use Rattle.sheet_codes.specs.declared.Formed.{Formed}
 use Rattle.sheet_codes.specs.declared.Formed.the-variants.{Good, Wrong}
 use Rattle.sheet.proofs.Names.{walk-length}
@@ -41,11 +44,11 @@ module _ {A B : Type 0} (f : A → B) (b : Bool) where
   pub part-else : (v : Outcome B) (x y : Outcome A) → b ≡ false → v ≡ part f y → v ≡ part f (cond b x y)
   part-else v x y e h = rw e h
 
-module _ (s : List ℕ) (at : ℕ) (ns : List (List ℕ)) (ended : Bool) (v : Outcome Seen) where
-  pub ended-yes : ended ≡ true → v ≡ part seen (fieldAt s at ns true) → v ≡ part seen (fieldAt s at ns ended)
+module _ (w : Setting) (s : List ℕ) (at : ℕ) (ns : List (List ℕ)) (ended : Bool) (v : Outcome Seen) where
+  pub ended-yes : ended ≡ true → v ≡ part seen (fieldAt w s at ns true) → v ≡ part seen (fieldAt w s at ns ended)
   ended-yes e h = rw e h
 
-  pub ended-no : ended ≡ false → v ≡ part seen (fieldAt s at ns false) → v ≡ part seen (fieldAt s at ns ended)
+  pub ended-no : ended ≡ false → v ≡ part seen (fieldAt w s at ns false) → v ≡ part seen (fieldAt w s at ns ended)
   ended-no e h = rw e h
 
 -- ---- tests of a number x that was read as n
@@ -93,15 +96,40 @@ given-via n x is = rw is
 pub part-via : (n x a : ℕ) (s : List ℕ) → n ≡ x → between s a (a + n) ≡ take x (drop a s)
 part-via n x a s is = let k : (a + n) - a ≡ x = omega arith in rw k
 
-module _ (y z : List ℕ) (r : Bool) where
-  pub good-via : (b : Bool) → r ≡ allGood y → r ≡ b → y ≡ z → allGood z ≡ b
-  good-via b e f g = rw (← g, ← e) f
+pub good-via : (y z : List ℕ) (r b : Bool) → r ≡ allGood y → r ≡ b → y ≡ z → allGood z ≡ b
+good-via y z r b e f g = rw (← g, ← e) f
 
-  pub taken-via : (ns : List (List ℕ)) → r ≡ taken ns y → r ≡ true → y ≡ z → not (taken ns z) ≡ false
-  taken-via ns e f g = rw (← g, ← e, f)
+-- whose name it is, by whether it is among the customer's names and among the fittings'
+whose-own : (a b : Bool) → Customers ≡ cond a Customers (cond b Fittings Nobodys) → not a ≡ false
+whose-own true b e = refl
+whose-own false true e = let z : _≡_ {A = ℕ} 0 1 = cc in absurd (omega arith)
+whose-own false false e = let z : _≡_ {A = ℕ} 0 1 = cc in absurd (omega arith)
 
-  pub free-via : (ns : List (List ℕ)) → r ≡ taken ns y → r ≡ false → y ≡ z → not (taken ns z) ≡ true
-  free-via ns e f g = rw (← g, ← e, f)
+whose-fitting : (a b : Bool) → Fittings ≡ cond a Customers (cond b Fittings Nobodys) → (not a ≡ true) × (not b ≡ false)
+whose-fitting true b e = let z : _≡_ {A = ℕ} 0 1 = cc in absurd (omega arith)
+whose-fitting false true e = (refl, refl)
+whose-fitting false false e = let z : _≡_ {A = ℕ} 0 1 = cc in absurd (omega arith)
+
+whose-nobody : (a b : Bool) → Nobodys ≡ cond a Customers (cond b Fittings Nobodys) → (not a ≡ true) × (not b ≡ true)
+whose-nobody true b e = let z : _≡_ {A = ℕ} 0 1 = cc in absurd (omega arith)
+whose-nobody false true e = let z : _≡_ {A = ℕ} 0 1 = cc in absurd (omega arith)
+whose-nobody false false e = (refl, refl)
+
+module _ (y z : List ℕ) (r : Whose) (fs ns : List (List ℕ)) (is : r ≡ whoseIs fs ns y) where
+  pub taken-via : r ≡ Customers → y ≡ z → not (taken ns z) ≡ false
+  taken-via e g = rw (← g) (whose-own (taken ns y) (taken fs y) (sym e ∙ is))
+
+  pub fitting-free-via : r ≡ Fittings → y ≡ z → not (taken ns z) ≡ true
+  fitting-free-via e g = rw (← g) (whose-fitting (taken ns y) (taken fs y) (sym e ∙ is) .0)
+
+  pub fitting-via : r ≡ Fittings → y ≡ z → not (taken fs z) ≡ false
+  fitting-via e g = rw (← g) (whose-fitting (taken ns y) (taken fs y) (sym e ∙ is) .1)
+
+  pub free-via : r ≡ Nobodys → y ≡ z → not (taken ns z) ≡ true
+  free-via e g = rw (← g) (whose-nobody (taken ns y) (taken fs y) (sym e ∙ is) .0)
+
+  pub new-via : r ≡ Nobodys → y ≡ z → not (taken fs z) ≡ true
+  new-via e g = rw (← g) (whose-nobody (taken ns y) (taken fs y) (sym e ∙ is) .1)
 
 pub name-via : (y z : List ℕ) (e f : ℕ) → y ≡ z → e ≡ f → given (name y e) ≡ given (name z f)
 name-via y z e f p q = rw (p, q)
@@ -136,7 +164,10 @@ pub ruleset asked = (
   part-via,
   good-via,
   taken-via,
+  fitting-free-via,
+  fitting-via,
   free-via,
+  new-via,
   name-via,
 )
 
@@ -158,26 +189,28 @@ module _ (s : List ℕ) (n m : ℕ) (some : 0 < length s) (tag : getD s 0 0 ≡ 
 -- the codes were judged
 judged-good : (o : Outcome Formula) (l a e : ℕ) → given l ≡ part leaves o → given (formula l a e) ≡ part seen (o >>= λ f. given (formulaField f a e))
 judged-good (given f) l a e h = cc
+judged-good (unfit k p) l a e h = let z : _≡_ {A = ℕ} 0 1 = cc in absurd (omega arith)
 judged-good (refused k p) l a e h = let z : _≡_ {A = ℕ} 0 1 = cc in absurd (omega arith)
 
 judged-wrong : (o : Outcome Formula) (p a e : ℕ) → refused 7 p ≡ part leaves o → refused 7 p ≡ part seen (o >>= λ f. given (formulaField f a e))
 judged-wrong (given f) p a e h = let z : _≡_ {A = ℕ} 0 1 = cc in absurd (omega arith)
 judged-wrong (refused k q) p a e h = cc
+judged-wrong (unfit k q) p a e h = let z : _≡_ {A = ℕ} 0 1 = cc in absurd (omega arith)
 
-module _ (s : List ℕ) (at k n : ℕ) (some : 1 ≤ k) (headed : at + 3 ≤ length s) (is : n ≡ twoAt s (at + 1)) (short : n ≤ 4094) (long : 1 ≤ n)
+module _ (f : List ℕ) (m : ℕ) (s : List ℕ) (at k n : ℕ) (some : 1 ≤ k) (headed : at + 3 ≤ length s) (is : n ≡ twoAt s (at + 1)) (short : n ≤ 4094) (long : 1 ≤ n)
     (even : n % 2 ≡ 0) (all : at + 3 + n ≤ length s) where
   -- every question before the codes was answered yes
-  formula-on : (v : Outcome Seen) → v ≡ part seen (formulaOf k at (at + 3) (codesOf (between s (at + 3) (at + 3 + n))) >>= λ f. given (formulaField f (at + 3) (at + 3 + n)))
-      → v ≡ part seen (formulaAt s at (walkNames s 5 k))
+  formula-on : (v : Outcome Seen) → v ≡ part seen (formulaOf (m + k) at (at + 3) (codesOf (between s (at + 3) (at + 3 + n))) >>= λ g. given (formulaField g (at + 3) (at + 3 + n)))
+      → v ≡ part seen (formulaAt (fittedBy f m) s at (walkNames s 5 k))
   unfolding formulaAt lengthAt pastAt bytesAt
   formula-on v h =
-      let e : v ≡ part seen (formulaOf k at (at + 3) (codesOf (take (twoAt s (at + 1)) (drop (at + 3) s))) >>= λ f. given (formulaField f (at + 3) (at + 3 + twoAt s (at + 1)))) =
+      let e : v ≡ part seen (formulaOf (m + k) at (at + 3) (codesOf (take (twoAt s (at + 1)) (drop (at + 3) s))) >>= λ g. given (formulaField g (at + 3) (at + 3 + twoAt s (at + 1)))) =
       h ∙ rw (part-via n (twoAt s (at + 1)) (at + 3) s is, is) in
-      rw walk-length (search asked depth 20)
+      rw (walk-length f 5 m, walk-length s 5 k) (search asked depth 20)
 
-  module _ (j : Formed) (said : formedOf j ≡ part leaves (formulaOf k at (at + 3) (codesOf (between s (at + 3) (at + 3 + n))))) where
-    pub formula-good : (l : ℕ) → j ≡ Good l → given (formula l (at + 3) (at + 3 + n)) ≡ part seen (formulaAt s at (walkNames s 5 k))
-    formula-good l e = formula-on _ (judged-good (formulaOf k at (at + 3) (codesOf (between s (at + 3) (at + 3 + n)))) l (at + 3) (at + 3 + n) (rw e at said))
+  module _ (j : Formed) (said : formedOf j ≡ part leaves (formulaOf (m + k) at (at + 3) (codesOf (between s (at + 3) (at + 3 + n))))) where
+    pub formula-good : (l : ℕ) → j ≡ Good l → given (formula l (at + 3) (at + 3 + n)) ≡ part seen (formulaAt (fittedBy f m) s at (walkNames s 5 k))
+    formula-good l e = formula-on _ (judged-good (formulaOf (m + k) at (at + 3) (codesOf (between s (at + 3) (at + 3 + n)))) l (at + 3) (at + 3 + n) (rw e at said))
 
-    pub formula-wrong : (p : ℕ) → j ≡ Wrong p → refused 7 p ≡ part seen (formulaAt s at (walkNames s 5 k))
-    formula-wrong p e = formula-on _ (judged-wrong (formulaOf k at (at + 3) (codesOf (between s (at + 3) (at + 3 + n)))) p (at + 3) (at + 3 + n) (rw e at said))
+    pub formula-wrong : (p : ℕ) → j ≡ Wrong p → refused 7 p ≡ part seen (formulaAt (fittedBy f m) s at (walkNames s 5 k))
+    formula-wrong p e = formula-on _ (judged-wrong (formulaOf (m + k) at (at + 3) (codesOf (between s (at + 3) (at + 3 + n)))) p (at + 3) (at + 3 + n) (rw e at said))

@@ -1,11 +1,12 @@
 // One field of a sheet judged, question by question: document 01, 'Order of reading'.
 use sheet_codes::Formed;
+use sheet_names::Whose;
 ghost use mathlib.Core.Path.{_≡_};
-ghost use Prim.Native.Nat.{_<_};
+ghost use Prim.Native.Nat.{_+_, _<_, _≤_};
 ghost use lib.ListN.{length};
 ghost use Rattle.outcome.specs.Outcome.{part};
-ghost use Rattle.sheet.specs.Sheet.{header as headerOf, nameAt, formulaAt, fieldAt};
-ghost use Rattle.sheet.specs.Walk.{walkNames};
+ghost use Rattle.sheet.specs.Sheet.{header as headerOf, nameAt, formulaAt, fieldAt, fittingAt};
+ghost use Rattle.sheet.specs.Walk.{walkNames, fittedBy};
 ghost use Rattle.sheet_names.specs.Keys.{NamesRead};
 ghost use Rattle.sheet_fields.specs.Fields.{seen, fieldOf, headOf};
 
@@ -31,12 +32,19 @@ pub enum Head {
     Refused(u8, usize),
 }
 
-// A name, its tag 2 at offset `at`, after `names` names.
-fn name_field(sheet: &[u8], at: usize, names: usize, keys: &[u32; 256]) -> Field
-    requires { ⌜ NamesRead (now sheet) names (now keys) × (at < length (now sheet)) ⌝ }
-    ensures { λ r. ⌜ fieldOf (now (sheet .entry)) r ≡ part seen (nameAt (now (sheet .entry)) at (walkNames (now (sheet .entry)) 5 names)) ⌝ }
+// A name, its tag 2 at offset `at`, after `fitted` names of the fittings sheet and `names` of this one.
+fn name_field(
+    fittings: &[u8],
+    fitted: usize,
+    sheet: &[u8],
+    at: usize,
+    names: usize,
+    keys: &[u32; 256],
+) -> Field
+    requires { ⌜ NamesRead (now fittings) fitted (now sheet) names (now keys) × (at < length (now sheet)) ⌝ }
+    ensures { λ r. ⌜ fieldOf (now (sheet .entry)) r ≡ part seen (nameAt (fittedBy (now (fittings .entry)) fitted) (now (sheet .entry)) at (walkNames (now (sheet .entry)) 5 names)) ⌝ }
 {
-    if 256 <= names {
+    if 256 <= fitted + names {
         return Field::Refused(6, at);
     }
     let a = at + 3;
@@ -55,20 +63,20 @@ fn name_field(sheet: &[u8], at: usize, names: usize, keys: &[u32; 256]) -> Field
         return Field::Refused(1, sheet.len());
     }
     if sheet_names::good_bytes(&sheet[a..e]) {
-        if sheet_names::taken(sheet, names, keys, &sheet[a..e]) {
-            Field::Refused(5, at)
-        } else {
-            Field::Name { first: a, past: e }
+        match sheet_names::taken(fittings, fitted, sheet, names, keys, &sheet[a..e]) {
+            Whose::Customers => Field::Refused(5, at),
+            Whose::Fittings => Field::Refused(17, at),
+            Whose::Nobodys => Field::Name { first: a, past: e },
         }
     } else {
         Field::Refused(4, at)
     }
 }
 
-// The formula, its tag 3 at offset `at`, after `names` names.
-fn formula_field(sheet: &[u8], at: usize, names: usize) -> Field
-    requires { ⌜ at < length (now sheet) ⌝ }
-    ensures { λ r. ⌜ fieldOf (now (sheet .entry)) r ≡ part seen (formulaAt (now (sheet .entry)) at (walkNames (now (sheet .entry)) 5 names)) ⌝ }
+// The formula, its tag 3 at offset `at`, after `fitted` names of the fittings sheet and `names` of this one.
+fn formula_field(fittings: &[u8], fitted: usize, sheet: &[u8], at: usize, names: usize) -> Field
+    requires { ⌜ (at < length (now sheet)) × (fitted + names ≤ 256) ⌝ }
+    ensures { λ r. ⌜ fieldOf (now (sheet .entry)) r ≡ part seen (formulaAt (fittedBy (now (fittings .entry)) fitted) (now (sheet .entry)) at (walkNames (now (sheet .entry)) 5 names)) ⌝ }
 {
     if names < 1 {
         return Field::Refused(2, at);
@@ -91,7 +99,7 @@ fn formula_field(sheet: &[u8], at: usize, names: usize) -> Field
     if sheet.len() < e {
         return Field::Refused(1, sheet.len());
     }
-    match sheet_codes::judge(&sheet[a..e], names, at, a) {
+    match sheet_codes::judge(&sheet[a..e], fitted + names, at, a) {
         Formed::Good(leaves) => Field::Formula {
             first: a,
             past: e,
@@ -101,10 +109,18 @@ fn formula_field(sheet: &[u8], at: usize, names: usize) -> Field
     }
 }
 
-// The field at offset `at`, after the header and `names` names; `ended` says whether the formula was read already.
-pub fn one_field(sheet: &[u8], at: usize, names: usize, keys: &[u32; 256], ended: bool) -> Field
-    requires { ⌜ NamesRead (now sheet) names (now keys) ⌝ }
-    ensures { λ r. ⌜ fieldOf (now (sheet .entry)) r ≡ part seen (fieldAt (now (sheet .entry)) at (walkNames (now (sheet .entry)) 5 names) ended) ⌝ }
+// The field at offset `at` of the customer's sheet, after the header and `names` names; `ended` says whether the formula was read already.
+pub fn one_field(
+    fittings: &[u8],
+    fitted: usize,
+    sheet: &[u8],
+    at: usize,
+    names: usize,
+    keys: &[u32; 256],
+    ended: bool,
+) -> Field
+    requires { ⌜ NamesRead (now fittings) fitted (now sheet) names (now keys) ⌝ }
+    ensures { λ r. ⌜ fieldOf (now (sheet .entry)) r ≡ part seen (fieldAt (fittedBy (now (fittings .entry)) fitted) (now (sheet .entry)) at (walkNames (now (sheet .entry)) 5 names) ended) ⌝ }
 {
     if ended {
         if sheet.len() <= at {
@@ -117,10 +133,28 @@ pub fn one_field(sheet: &[u8], at: usize, names: usize, keys: &[u32; 256], ended
     }
     let tag = sheet[at];
     if tag == 2 {
-        return name_field(sheet, at, names, keys);
+        return name_field(fittings, fitted, sheet, at, names, keys);
     }
     if tag == 3 {
-        return formula_field(sheet, at, names);
+        return formula_field(fittings, fitted, sheet, at, names);
+    }
+    Field::Refused(2, at)
+}
+
+// The field at offset `at` of a fittings sheet, after the header and `names` names.
+pub fn one_fitting(sheet: &[u8], at: usize, names: usize, keys: &[u32; 256]) -> Field
+    requires { ⌜ NamesRead (now sheet) 0 (now sheet) names (now keys) ⌝ }
+    ensures { λ r. ⌜ fieldOf (now (sheet .entry)) r ≡ part seen (fittingAt (now (sheet .entry)) at (walkNames (now (sheet .entry)) 5 names)) ⌝ }
+{
+    if sheet.len() <= at {
+        if names < 1 {
+            return Field::Refused(1, sheet.len());
+        }
+        return Field::End;
+    }
+    let tag = sheet[at];
+    if tag == 2 {
+        return name_field(sheet, 0, sheet, at, names, keys);
     }
     Field::Refused(2, at)
 }

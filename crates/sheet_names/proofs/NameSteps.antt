@@ -2,17 +2,18 @@
 use Prim.Native.Nat.{ℕ, zero, suc, _+_, _-_, _≤_, _<_}
 use native.Mathlib.Omega.{arith}
 use native.Mathlib.Numerals.{add-one}
-use mathlib.Core.Path.{_≡_, refl, sym, ap, _∙_}
+use mathlib.Core.Path.{_≡_, refl, sym, ap, ap₂, _∙_}
 use mathlib.Core.Bool.{Bool, true, false, not, _&&_, _||_, and-false}
-use mathlib.Core.List.{List, [], _∷_, map}
-use lib.ListN.{length, getD, take, drop, drop-of-length-le}
+use mathlib.Core.List.{List, [], _∷_, _++_, map}
+use lib.ListN.{length, getD, take, drop, drop-of-length-le, length-append}
 use lib.Seq.{drop-cons, getD-take, length-take-le}
 use lib.Dec.{leb, eqb}
 use borrow.Author.Tests.{le-leb, lt-leb, eq-eqb, not-true, not-false}
 use Rattle.sheet.specs.Sheet.{mostNames, between, pastAt, bytesAt, allGood, same, taken}
 use Rattle.sheet.specs.Walk.{walkEnd, walkNames}
-use Rattle.sheet_names.specs.Keys.{mixed, keyFrom, keyOf, has, Keyed}
-use Rattle.sheet.proofs.Names.{or-false, same-equal, bytes-between, walk-length}
+use Rattle.sheet_names.specs.Keys.{mixed, keyFrom, keyOf, has, NamesRead, whoseIs}
+use Rattle.sheet_names.specs.declared.Whose.the-variants.{Customers, Fittings, Nobodys}
+use Rattle.sheet.proofs.Names.{or-false, or-assoc, same-equal, taken-append, bytes-between, walk-length}
 
 -- ---- allGood
 
@@ -114,10 +115,6 @@ module _ (x : List ℕ) (key i : ℕ) (inv : keyOf x ≡ keyFrom key (drop i x))
 
 -- ---- has: the first n of the keys ks, of which i were looked at
 
-or-assoc : (a b c : Bool) → (a || (b || c)) ≡ ((a || b) || c)
-or-assoc true b c = refl
-or-assoc false b c = refl
-
 or-no : (a : Bool) → (a || false) ≡ a
 or-no true = refl
 or-no false = refl
@@ -152,7 +149,26 @@ unlike-keys (y ∷ ns) x h =
     let e = or-false (eqb (keyOf y) (keyOf x)) (has (map keyOf ns) (keyOf x)) h in
     rw (unlike-key y x (e .0) (same y x) refl) (unlike-keys ns x (e .1))
 
-pub taken-unkeyed : (s ks x : List ℕ) (n k : ℕ) (r : Bool) → Keyed ks (walkNames s 5 n) → k ≡ keyOf x → r ≡ has (take n ks) k → r ≡ false → false ≡ taken (walkNames s 5 n) x
-taken-unkeyed s ks x n k r keyed is e f =
-    let are : take n ks ≡ map keyOf (walkNames s 5 n) = ap (λ (m : ℕ). take m ks) (sym (walk-length s 5 n)) ∙ keyed .are in
-    sym (unlike-keys (walkNames s 5 n) x (rw (← are, ← is) (sym e ∙ f)))
+module _ (f : List ℕ) (m : ℕ) (s : List ℕ) (n : ℕ) (ks x : List ℕ) (known : NamesRead f m s n ks) where
+  pub joined-length : length (walkNames f 5 m ++ walkNames s 5 n) ≡ m + n
+  joined-length = length-append (walkNames f 5 m) (walkNames s 5 n) ∙ ap₂ (λ (a b : ℕ). a + b) (walk-length f 5 m) (walk-length s 5 n)
+
+  pub taken-unkeyed : (k : ℕ) (r : Bool) → k ≡ keyOf x → r ≡ has (take (m + n) ks) k → r ≡ false → Nobodys ≡ whoseIs (walkNames f 5 m) (walkNames s 5 n) x
+  taken-unkeyed k r is e h =
+      let are : take (m + n) ks ≡ map keyOf (walkNames f 5 m ++ walkNames s 5 n) = ap (λ (i : ℕ). take i ks) (sym joined-length) ∙ known .keyed .are in
+      let none : taken (walkNames f 5 m ++ walkNames s 5 n) x ≡ false = unlike-keys (walkNames f 5 m ++ walkNames s 5 n) x (rw (← are, ← is) (sym e ∙ h)) in
+      let each = or-false (taken (walkNames f 5 m) x) (taken (walkNames s 5 n) x) (sym (taken-append (walkNames f 5 m) (walkNames s 5 n) x) ∙ none) in
+      rw (each .0, each .1)
+
+-- ---- whose name it is, by what comparing it with each sheet's names gave
+
+module _ (fs ns : List (List ℕ)) (x : List ℕ) (a : Bool) (own : a ≡ taken ns x) where
+  pub whose-customer : a ≡ true → Customers ≡ whoseIs fs ns x
+  whose-customer e = rw (← own, e)
+
+  module _ (free : a ≡ false) (b : Bool) (fits : b ≡ taken fs x) where
+    pub whose-fitting : b ≡ true → Fittings ≡ whoseIs fs ns x
+    whose-fitting e = rw (← own, free, ← fits, e)
+
+    pub whose-nobody : b ≡ false → Nobodys ≡ whoseIs fs ns x
+    whose-nobody e = rw (← own, free, ← fits, e)

@@ -6,7 +6,7 @@ ghost use lib.ListN.{length, take};
 ghost use lib.Dec.{eqb};
 ghost use Rattle.sheet.specs.Sheet.{allGood, same as sameBytes, taken as takenIn};
 ghost use Rattle.sheet.specs.Walk.{walkEnd, walkNames};
-ghost use Rattle.sheet_names.specs.Keys.{mixed as mixedIn, keyOf, has, NamesRead};
+ghost use Rattle.sheet_names.specs.Keys.{mixed as mixedIn, keyOf, has, NamesRead, whoseIs};
 
 // Is each byte of a name good?
 pub fn good_bytes(b: &[u8]) -> bool
@@ -110,13 +110,41 @@ fn key_among(keys: &[u32; 256], names: usize, key: u32) -> bool
     found
 }
 
-// Is a name already taken? Its key only spares the comparison: names with one key are compared byte by byte.
-pub fn taken(sheet: &[u8], names: usize, keys: &[u32; 256], name: &[u8]) -> bool
-    requires { ⌜ NamesRead (now sheet) names (now keys) ⌝ }
-    ensures { λ r. ⌜ r ≡ takenIn (walkNames (now (sheet .entry)) 5 names) (now (name .entry)) ⌝ }
+// Whose name it is already.
+pub enum Whose {
+    Customers,
+    Fittings,
+    Nobodys,
+}
+
+// Whose name it is already, byte by byte.
+fn compared(fittings: &[u8], fitted: usize, sheet: &[u8], names: usize, name: &[u8]) -> Whose
+    requires { ⌜ (walkEnd (now fittings) 5 fitted ≤ length (now fittings)) × (walkEnd (now sheet) 5 names ≤ length (now sheet)) ⌝ }
+    ensures { λ r. ⌜ r ≡ whoseIs (walkNames (now (fittings .entry)) 5 fitted) (walkNames (now (sheet .entry)) 5 names) (now (name .entry)) ⌝ }
 {
-    if key_among(keys, names, key(name)) {
-        return among(sheet, names, name);
+    if among(sheet, names, name) {
+        return Whose::Customers;
     }
-    false
+    if among(fittings, fitted, name) {
+        return Whose::Fittings;
+    }
+    Whose::Nobodys
+}
+
+// Whose name it is already. Its key only spares the comparison: names with one key are compared byte by byte.
+pub fn taken(
+    fittings: &[u8],
+    fitted: usize,
+    sheet: &[u8],
+    names: usize,
+    keys: &[u32; 256],
+    name: &[u8],
+) -> Whose
+    requires { ⌜ NamesRead (now fittings) fitted (now sheet) names (now keys) ⌝ }
+    ensures { λ r. ⌜ r ≡ whoseIs (walkNames (now (fittings .entry)) 5 fitted) (walkNames (now (sheet .entry)) 5 names) (now (name .entry)) ⌝ }
+{
+    if key_among(keys, fitted + names, key(name)) {
+        return compared(fittings, fitted, sheet, names, name);
+    }
+    Whose::Nobodys
 }

@@ -1,3 +1,5 @@
+pub mod Named
 pub mod Reading
+pub mod Fitting
 pub mod Told
 pub mod Settled

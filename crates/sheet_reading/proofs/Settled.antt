@@ -1,11 +1,10 @@
 -- What the promise of reading settles: two answers that meet it are equal; it refuses exactly when the rules say.
 use Prim.Native.Nat.{ℕ}
 use mathlib.Core.Path.{_≡_, refl, sym, ap, _∙_}
-use mathlib.Core.List.{List}
-use Rattle.outcome.specs.Outcome.{Outcome, given, refused, part}
-use Rattle.outcome.proofs.Questions.{part-refused}
+use Rattle.outcome.specs.Outcome.{Outcome, given, refused, unfit, part}
+use Rattle.outcome.proofs.Questions.{part-refused, part-unfit}
 use Rattle.outcome.proofs.Known.{known-by}
-use Rattle.sheet.specs.Sheet.{reading}
+use Rattle.sheet.specs.Sheet.{Sheets, reading}
 use Rattle.sheet_reading.specs.Reading.{Numbers, numbers, numbersOf, answerOf, told}
 use Rattle.sheet_reading.specs.declared.ReadAnswer.{ReadAnswer}
 use Rattle.sheet_reading.specs.declared.ReadAnswer.the-variants as answer
@@ -16,15 +15,17 @@ answerOf-same = known-by answerOf back same
     back : Outcome Numbers → ReadAnswer
     back (given (numbers names leaves first past)) = answer.Read names leaves first past
     back (refused number place) = answer.Refused number place
+    back (unfit number place) = answer.Unfit number place
 
     same : (r : ReadAnswer) → back (answerOf r) ≡ r
     same (answer.Read names leaves first past) = refl
     same (answer.Refused number place) = refl
+    same (answer.Unfit number place) = refl
 
-pub read-unique : (s : List ℕ) (r q : ReadAnswer) → answerOf r ≡ told s → answerOf q ≡ told s → r ≡ q
+pub read-unique : (s : Sheets) (r q : ReadAnswer) → answerOf r ≡ told s → answerOf q ≡ told s → r ≡ q
 read-unique s r q h k = answerOf-same r q (h ∙ sym k)
 
-module _ (s : List ℕ) (r : ReadAnswer) (said : answerOf r ≡ told s) (number place : ℕ) where
+module _ (s : Sheets) (r : ReadAnswer) (said : answerOf r ≡ told s) (number place : ℕ) where
   pub read-refusal : r ≡ answer.Refused number place → reading s ≡ refused number place
   unfolding told
   read-refusal is = part-refused numbersOf (reading s) number place (sym (ap answerOf is) ∙ said)
@@ -32,3 +33,12 @@ module _ (s : List ℕ) (r : ReadAnswer) (said : answerOf r ≡ told s) (number 
   pub read-refuses : reading s ≡ refused number place → r ≡ answer.Refused number place
   unfolding told
   read-refuses is = answerOf-same r (answer.Refused number place) (said ∙ ap (part numbersOf) is)
+
+  -- and of the fittings sheet
+  pub read-unfit : r ≡ answer.Unfit number place → reading s ≡ unfit number place
+  unfolding told
+  read-unfit is = part-unfit numbersOf (reading s) number place (sym (ap answerOf is) ∙ said)
+
+  pub read-unfits : reading s ≡ unfit number place → r ≡ answer.Unfit number place
+  unfolding told
+  read-unfits is = answerOf-same r (answer.Unfit number place) (said ∙ ap (part numbersOf) is)

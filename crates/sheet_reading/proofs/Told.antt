@@ -6,7 +6,7 @@ use mathlib.Core.List.{List}
 use lib.ListN.{length, length-take, length-drop}
 use Rattle.outcome.specs.Outcome.{given}
 use Rattle.formula.specs.Formula.{leaves, postfix}
-use Rattle.sheet.specs.Sheet.{Sheet, between, codesOf, reading}
+use Rattle.sheet.specs.Sheet.{Sheets, ownSheet, Sheet, between, codesOf, reading}
 use Rattle.sheet.specs.Guaranteed.{Guaranteed}
 use Rattle.sheet.proofs.Guaranteed.{guaranteed}
 use Rattle.sheet_reading.specs.Reading.{numbers, numbersOf, told, answerOf}
@@ -15,44 +15,44 @@ use Rattle.sheet_reading.specs.declared.ReadAnswer.{ReadAnswer}
 use Rattle.sheet_reading.specs.declared.ReadAnswer.the-variants.{Read}
 use Rattle.outcome.proofs.Questions.{part-given}
 
-pub record Known (s : List ℕ) (n l a e : ℕ) : Type 0 where
+pub record Known (c : Sheets) (n l a e : ℕ) : Type 0 where
   pub sheet : Sheet
-  pub read : reading s ≡ given sheet
+  pub read : reading c ≡ given sheet
   pub names-are : n ≡ length (sheet .names)
   pub leaves-are : l ≡ leaves (sheet .formula)
   pub first-is : a ≡ sheet .first
   pub past-is : e ≡ sheet .past
 
-module _ (s : List ℕ) (r : ReadAnswer) (said : answerOf r ≡ told s) where
-  pub read-known : (n l a e : ℕ) → r ≡ Read n l a e → Known s n l a e
+module _ (c : Sheets) (r : ReadAnswer) (said : answerOf r ≡ told c) where
+  pub read-known : (n l a e : ℕ) → r ≡ Read n l a e → Known c n l a e
   unfolding told
   read-known n l a e is =
-      let g = part-given numbersOf (reading s) (numbers n l a e) (rw is at said) in
+      let g = part-given numbersOf (reading c) (numbers n l a e) (rw is at said) in
       let h = g .2 in
       record { sheet = g .0; read = g .1; names-are = cc h; leaves-are = cc h; first-is = cc h; past-is = cc h }
 
 -- ---- the formula's bytes
 
-module _ (s : List ℕ) (n l first past : ℕ) (known : Known s n l first past) where
-  pub known-facts : Guaranteed s (known .sheet)
-  known-facts = guaranteed s (known .sheet) (known .read)
+module _ (c : Sheets) (n l first past : ℕ) (known : Known c n l first past) where
+  pub known-facts : Guaranteed c (known .sheet)
+  known-facts = guaranteed c (known .sheet) (known .read)
 
   pub formula-ordered : first ≤ past
-  formula-ordered = omega (arith, known .first-is, known .past-is, known-facts .some-bytes)
+  formula-ordered = omega (arith, known .first-is, known .past-is, known-facts .own .some-bytes)
 
-  pub formula-inside : past ≤ length s
-  formula-inside = omega (arith, known .past-is, known-facts .ends)
+  pub formula-inside : past ≤ length (ownSheet c)
+  formula-inside = omega (arith, known .past-is, known-facts .own .ends)
 
-  formula-length : length (between s first past) ≡ past - first
+  formula-length : length (between (ownSheet c) first past) ≡ past - first
   formula-length = simp (length-take, length-drop) (omega (arith, formula-inside))
 
-  pub formula-fits : (array : List ℕ) → length array ≡ 2048 → CodesFit (between s first past) array
+  pub formula-fits : (array : List ℕ) → length array ≡ 2048 → CodesFit (between (ownSheet c) first past) array
   formula-fits array sized =
       record {
-        few = rw (formula-length, known .first-is, known .past-is) (known-facts .few-bytes);
-        even = rw (formula-length, known .first-is, known .past-is) (known-facts .even);
+        few = rw (formula-length, known .first-is, known .past-is) (known-facts .own .few-bytes);
+        even = rw (formula-length, known .first-is, known .past-is) (known-facts .own .even);
         sized = sized;
       }
 
-  pub formula-codes : codesOf (between s first past) ≡ postfix (known .sheet .formula)
-  formula-codes = rw (known .first-is, known .past-is) (known-facts .codes-are)
+  pub formula-codes : codesOf (between (ownSheet c) first past) ≡ postfix (known .sheet .formula)
+  formula-codes = rw (known .first-is, known .past-is) (known-facts .own .codes-are)

@@ -1,10 +1,9 @@
--- What reading a sheet answers: document 01, 'The library does four jobs'.
+-- What reading the sheets of a call answers: document 01, 'The library does four jobs', and document 02, K7.
 use Prim.Native.Nat.{ℕ}
-use mathlib.Core.List.{List}
 use lib.ListN.{length}
-use Rattle.outcome.specs.Outcome.{Outcome, given, refused, part}
+use Rattle.outcome.specs.Outcome.{Outcome, given, refused, unfit, part}
 use Rattle.formula.specs.Formula.{leaves}
-use Rattle.sheet.specs.Sheet.{Sheet, reading}
+use Rattle.sheet.specs.Sheet.{Sheets, Sheet, reading}
 use Rattle.sheet_reading.specs.declared.ReadAnswer.{ReadAnswer}
 use Rattle.sheet_reading.specs.declared.ReadAnswer.the-variants as answer
 
@@ -15,9 +14,10 @@ pub data Numbers : Type 0 where
 abbrev pub numbersOf : Sheet → Numbers
 numbersOf r = numbers (length (r .names)) (leaves (r .formula)) (r .first) (r .past)
 
-unfoldable pub told : List ℕ → Outcome Numbers
-told s = part numbersOf (reading s)
+unfoldable pub told : Sheets → Outcome Numbers
+told c = part numbersOf (reading c)
 
 abbrev pub answerOf : ReadAnswer → Outcome Numbers
 answerOf (answer.Read names leaves first past) = given (numbers names leaves first past)
 answerOf (answer.Refused number place) = refused number place
+answerOf (answer.Unfit number place) = unfit number place

@@ -1,15 +1,42 @@
--- What is told from a field on: what the reader's functions promise each other.
-use Prim.Native.Nat.{ℕ}
+-- What is told from a field on, and what is read of a fittings sheet: what the reader's functions promise each other.
+use Prim.Native.Nat.{ℕ, _+_, _≤_}
+use mathlib.Core.Path.{_≡_}
 use mathlib.Core.Bool.{true}
 use mathlib.Core.List.{List}
 use lib.ListN.{length}
-use Rattle.outcome.specs.Outcome.{Outcome, given, _>>_, part}
-use Rattle.sheet.specs.Sheet.{fieldAt, fields}
+use Rattle.outcome.specs.Outcome.{Outcome, given, refused, _>>_, part}
+use Rattle.sheet.specs.Sheet.{Setting, mostNames, fieldAt, fields, own}
+use Rattle.sheet.specs.Walk.{walkEnd, walkNames}
+use Rattle.sheet_names.specs.Keys.{Keyed}
 use Rattle.sheet_reading.specs.Reading.{Numbers, numbers, numbersOf}
+use Rattle.sheet_reading.specs.declared.Fittings.{Fittings}
+use Rattle.sheet_reading.specs.declared.Fittings.the-variants.{Names, Refused}
 
--- What is told from an offset on, after the names ns; and after the formula.
-unfoldable pub toldFrom : ℕ → List ℕ → ℕ → List (List ℕ) → Outcome Numbers
-toldFrom k s at ns = part numbersOf (fields k s at ns)
+-- ---- The customer's sheet: as a whole, from an offset on after the names ns, and after the formula
 
-unfoldable pub toldEnd : List ℕ → List (List ℕ) → ℕ → ℕ → ℕ → Outcome Numbers
-toldEnd s ns leaves first past = fieldAt s past ns true >> given (numbers (length ns) leaves first past)
+unfoldable pub toldOwn : Setting → List ℕ → Outcome Numbers
+toldOwn w s = part numbersOf (own w s)
+
+unfoldable pub toldFrom : Setting → ℕ → List ℕ → ℕ → List (List ℕ) → Outcome Numbers
+toldFrom w k s at ns = part numbersOf (fields w k s at ns)
+
+unfoldable pub toldEnd : Setting → List ℕ → List (List ℕ) → ℕ → ℕ → ℕ → Outcome Numbers
+toldEnd w s ns leaves first past = fieldAt w s past ns true >> given (numbers (length (w .fittings) + length ns) leaves first past)
+
+-- ---- The fittings sheet
+
+-- So many names of the fittings sheet f were read, from offset 5 on, and the array has their keys.
+pub record FittingsRead (f : List ℕ) (m : ℕ) (array : List ℕ) : Type 0 where
+  pub inside : walkEnd f 5 m ≤ length f
+  pub few : m ≤ mostNames
+  pub keyed : Keyed array (walkNames f 5 m)
+
+-- The names that are given are these, and their keys are in the array.
+pub record FittingsGiven (f : List ℕ) (o : Outcome (List (List ℕ))) (array : List ℕ) (m : ℕ) : Type 0 where
+  pub are : o ≡ given (walkNames f 5 m)
+  pub known : FittingsRead f m array
+
+-- By cases of the answer on the fittings sheet f, whose outcome is o.
+abbrev pub FittingsAre : List ℕ → Outcome (List (List ℕ)) → List ℕ → Fittings → Type 0
+FittingsAre f o array (Names m) = FittingsGiven f o array m
+FittingsAre f o array (Refused number place) = o ≡ refused number place

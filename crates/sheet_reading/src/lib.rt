@@ -1,16 +1,17 @@
-// Reads a sheet, field after field: document 01, 'Order of reading'.
+// Reads the sheets of a call, field after field: document 01, 'Order of reading', and document 02, K7.
 use sheet_fields::Field;
 use sheet_fields::Head;
 ghost use mathlib.Core.Path.{_≡_};
 ghost use mathlib.Core.List.{[]};
 ghost use Prim.Native.Nat.{_≤_};
 ghost use lib.ListN.{length};
-ghost use Rattle.sheet.specs.Walk.{walkNames};
+ghost use Rattle.sheet.specs.Sheet.{alone, beside, sheetsOf, fittingFields, fittingNames};
+ghost use Rattle.sheet.specs.Walk.{walkNames, fittedBy};
 ghost use Rattle.sheet_names.specs.Keys.{NamesRead};
 ghost use Rattle.sheet_reading.specs.Reading.{told, answerOf};
-ghost use Rattle.sheet_reading.specs.Steps.{toldFrom, toldEnd};
+ghost use Rattle.sheet_reading.specs.Steps.{toldOwn, toldFrom, toldEnd, FittingsRead, FittingsAre};
 
-// What reading a sheet answers.
+// What reading the sheets answers; `Unfit` is a refusal of the fittings sheet.
 pub enum ReadAnswer {
     Read {
         names: usize,
@@ -22,30 +23,114 @@ pub enum ReadAnswer {
         number: u8,
         place: usize,
     },
+    Unfit {
+        number: u8,
+        place: usize,
+    },
 }
 
-// Reads a sheet.
-pub fn read_sheet(sheet: &[u8]) -> ReadAnswer
-    ensures { λ r. ⌜ answerOf r ≡ told (now (sheet .entry)) ⌝ }
+// What a fittings sheet is: its number of names, or a refusal.
+enum Fittings {
+    Names(usize),
+    Refused(u8, usize),
+}
+
+// Reads the sheets of a call: the customer's, beside a fittings sheet where there is one.
+pub fn read_sheets(fitted: bool, fittings: &[u8], sheet: &[u8]) -> ReadAnswer
+    ensures { λ r. ⌜ answerOf r ≡ told (sheetsOf fitted (now (fittings .entry)) (now (sheet .entry))) ⌝ }
 {
+    if fitted {
+        return read_beside(fittings, sheet);
+    }
+    read_alone(sheet)
+}
+
+// Reads a customer's sheet alone.
+fn read_alone(sheet: &[u8]) -> ReadAnswer
+    ensures { λ r. ⌜ answerOf r ≡ told (alone (now (sheet .entry))) ⌝ }
+{
+    let mut keys: [u32; 256] = [0; 256];
     match sheet_fields::header(sheet) {
-        Head::Good(_) => read_fields(sheet),
+        Head::Good(_) => read_fields(sheet, 0, sheet, &mut keys),
         Head::Refused(number, place) => ReadAnswer::Refused { number, place },
     }
 }
 
-// Reads the fields of a sheet with a good header.
-fn read_fields(sheet: &[u8]) -> ReadAnswer
-    requires { ⌜ 5 ≤ length (now sheet) ⌝ }
-    ensures { λ r. ⌜ answerOf r ≡ toldFrom 257 (now (sheet .entry)) 5 [] ⌝ }
+// Reads a fittings sheet, and beside it the customer's.
+fn read_beside(fittings: &[u8], sheet: &[u8]) -> ReadAnswer
+    ensures { λ r. ⌜ answerOf r ≡ told (beside (now (fittings .entry)) (now (sheet .entry))) ⌝ }
 {
     let mut keys: [u32; 256] = [0; 256];
+    match fit(fittings, &mut keys) {
+        Fittings::Names(fitted) => read_own(fittings, fitted, sheet, &mut keys),
+        Fittings::Refused(number, place) => ReadAnswer::Unfit { number, place },
+    }
+}
+
+// Reads a fittings sheet; the array then has the keys of its names.
+fn fit(sheet: &[u8], keys: &mut [u32; 256]) -> Fittings
+    requires { ⌜ length (now keys) ≡ 256 ⌝ }
+    ensures { λ r. ⌜ FittingsAre (now (sheet .entry)) (fittingNames (now (sheet .entry))) (now (keys .exit)) r ⌝ }
+{
+    match sheet_fields::header(sheet) {
+        Head::Good(_) => fit_fields(sheet, keys),
+        Head::Refused(number, place) => Fittings::Refused(number, place),
+    }
+}
+
+// Reads the fields of a fittings sheet with a good header.
+fn fit_fields(sheet: &[u8], keys: &mut [u32; 256]) -> Fittings
+    requires { ⌜ (5 ≤ length (now sheet)) × (length (now keys) ≡ 256) ⌝ }
+    ensures { λ r. ⌜ FittingsAre (now (sheet .entry)) (fittingFields 257 (now (sheet .entry)) 5 []) (now (keys .exit)) r ⌝ }
+{
     let mut at: usize = 5;
     let mut names: usize = 0;
     loop {
-        match sheet_fields::one_field(sheet, at, names, &keys, false) {
+        match sheet_fields::one_fitting(sheet, at, names, keys) {
             Field::Name { first, past } => {
                 keys[names] = sheet_names::key(&sheet[first..past]);
+                at = past;
+                names += 1;
+            }
+            Field::Formula {
+                first: _,
+                past: _,
+                leaves: _,
+            } => {
+                return Fittings::Refused(2, at);
+            }
+            Field::End => {
+                return Fittings::Names(names);
+            }
+            Field::Refused(number, place) => {
+                return Fittings::Refused(number, place);
+            }
+        }
+    }
+}
+
+// Reads the customer's sheet, after the names of a fittings sheet.
+fn read_own(fittings: &[u8], fitted: usize, sheet: &[u8], keys: &mut [u32; 256]) -> ReadAnswer
+    requires { ⌜ FittingsRead (now fittings) fitted (now keys) ⌝ }
+    ensures { λ r. ⌜ answerOf r ≡ toldOwn (fittedBy (now (fittings .entry)) fitted) (now (sheet .entry)) ⌝ }
+{
+    match sheet_fields::header(sheet) {
+        Head::Good(_) => read_fields(fittings, fitted, sheet, keys),
+        Head::Refused(number, place) => ReadAnswer::Refused { number, place },
+    }
+}
+
+// Reads the fields of a customer's sheet with a good header.
+fn read_fields(fittings: &[u8], fitted: usize, sheet: &[u8], keys: &mut [u32; 256]) -> ReadAnswer
+    requires { ⌜ NamesRead (now fittings) fitted (now sheet) 0 (now keys) ⌝ }
+    ensures { λ r. ⌜ answerOf r ≡ toldFrom (fittedBy (now (fittings .entry)) fitted) 257 (now (sheet .entry)) 5 [] ⌝ }
+{
+    let mut at: usize = 5;
+    let mut names: usize = 0;
+    loop {
+        match sheet_fields::one_field(fittings, fitted, sheet, at, names, keys, false) {
+            Field::Name { first, past } => {
+                keys[fitted + names] = sheet_names::key(&sheet[first..past]);
                 at = past;
                 names += 1;
             }
@@ -54,7 +139,7 @@ fn read_fields(sheet: &[u8]) -> ReadAnswer
                 past,
                 leaves,
             } => {
-                return closed(sheet, names, &keys, leaves, first, past);
+                return closed(fittings, fitted, sheet, names, keys, leaves, first, past);
             }
             Field::End => {
                 return ReadAnswer::Refused {
@@ -71,6 +156,8 @@ fn read_fields(sheet: &[u8]) -> ReadAnswer
 
 // The answer after the formula.
 fn closed(
+    fittings: &[u8],
+    fitted: usize,
     sheet: &[u8],
     names: usize,
     keys: &[u32; 256],
@@ -78,12 +165,12 @@ fn closed(
     first: usize,
     past: usize,
 ) -> ReadAnswer
-    requires { ⌜ NamesRead (now sheet) names (now keys) ⌝ }
-    ensures { λ r. ⌜ answerOf r ≡ toldEnd (now (sheet .entry)) (walkNames (now (sheet .entry)) 5 names) leaves first past ⌝ }
+    requires { ⌜ NamesRead (now fittings) fitted (now sheet) names (now keys) ⌝ }
+    ensures { λ r. ⌜ answerOf r ≡ toldEnd (fittedBy (now (fittings .entry)) fitted) (now (sheet .entry)) (walkNames (now (sheet .entry)) 5 names) leaves first past ⌝ }
 {
-    match sheet_fields::one_field(sheet, past, names, keys, true) {
+    match sheet_fields::one_field(fittings, fitted, sheet, past, names, keys, true) {
         Field::End => ReadAnswer::Read {
-            names,
+            names: fitted + names,
             leaves,
             first,
             past,

@@ -4,6 +4,7 @@ use crate::plain;
 use kressedach::WallLists;
 use peer::lines::{Crossing, Crossings};
 use peer::make::{self, Dice, Form};
+use peer::sheet::Sheets;
 use std::hint::black_box;
 
 pub struct Row {
@@ -90,7 +91,7 @@ fn read(formula: &'static str, leaves: usize) -> Row {
         check: Box::new(move || {
             let read = kressedach::read(&sheet).unwrap();
             assert_eq!(plain::read(&sheet), Ok((read.names, read.leaves, read.formula.start, read.formula.end)));
-            let due = peer::read(&sheet).unwrap();
+            let due = peer::read(Sheets::alone(&sheet)).unwrap();
             assert_eq!((read.names, read.leaves, read.formula), (due.names.len(), due.leaves, due.first..due.past));
         }),
     }
@@ -99,7 +100,7 @@ fn read(formula: &'static str, leaves: usize) -> Row {
 fn build(formula: &'static str, leaves: usize) -> Row {
     let (sheet, _) = sheet(formula, leaves);
     let (a, b) = (sheet.clone(), sheet.clone());
-    let due = peer::build(&sheet, [NODES; 3]).unwrap();
+    let due = peer::build(Sheets::alone(&sheet), [NODES; 3]).unwrap();
     let nodes = due.records.len();
     let [mut kinds, mut firsts, mut seconds] = [[0; NODES]; 3];
     let [mut plain_kinds, mut plain_firsts, mut plain_seconds] = [[0; NODES]; 3];
@@ -143,7 +144,7 @@ fn run(formula: &'static str, leaves: usize, count: usize) -> Row {
             _ => dice.below(names) as u16,
         })
         .collect();
-    let nodes = peer::build(&sheet, [NODES; 3]).unwrap().records.len();
+    let nodes = peer::build(Sheets::alone(&sheet), [NODES; 3]).unwrap().records.len();
     let (a, b) = ((sheet.clone(), toggles.clone()), (sheet.clone(), toggles.clone()));
     let lists = || (vec![0u8; count], vec![0u32; count], vec![0u8; NODES]);
     let ((mut roots, mut counts, mut labels), mut plain_lists) = (lists(), lists());
@@ -170,7 +171,7 @@ fn run(formula: &'static str, leaves: usize, count: usize) -> Row {
             copy_counts();
         }),
         check: Box::new(move || {
-            let due = peer::run(&sheet, &toggles, [usize::MAX; 3]).unwrap();
+            let due = peer::run(Sheets::alone(&sheet), &toggles, [usize::MAX; 3]).unwrap();
             let (mut roots, mut counts, mut labels) = (vec![0; toggles.len()], vec![0; toggles.len()], vec![0; NODES]);
             assert_eq!(kressedach::run_into(&sheet, &toggles, &mut roots, &mut counts, &mut labels), Ok(due.labels.len()));
             assert!(roots == due.roots && counts == due.counts && labels[..due.labels.len()] == due.labels);
@@ -293,7 +294,7 @@ fn lines_row(formula: &'static str, leaves: usize, sheet: Vec<u8>, all: Vec<Cros
         }),
         check: Box::new(move || {
             let crossings = Crossings { lines: &lines.lines, positions: &lines.positions, shapes: &lines.shapes };
-            let due = peer::classify(&lines.sheet, crossings, [count; 5]).unwrap();
+            let due = peer::classify(Sheets::alone(&lines.sheet), crossings, [count; 5]).unwrap();
             for way in [LIBRARY, WORDS, WALK] {
                 let mut room = Room::of(count / 2);
                 assert_eq!(way(&lines, &mut room.lent()), due.len());

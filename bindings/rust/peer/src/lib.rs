@@ -18,36 +18,37 @@ pub mod toggles;
 
 use dwarf::Dwarf;
 use lines::{Crossings, Wall};
-use sheet::Sheet;
+use sheet::{Sheet, Sheets};
 use toggles::Ran;
 
-/// A refusal: its number and its place.
+/// A refusal: its number, the sheet that its place is in (0 none, 1 the fittings sheet, 2 the customer's), and its place.
 #[derive(Debug, Clone, Copy, PartialEq, Eq)]
 pub struct Refused {
     pub number: u8,
+    pub sheet: u8,
     pub place: usize,
 }
 
 /// Refuses, with a number and a place.
 pub fn refuse<T>(number: u8, place: usize) -> Result<T, Refused> {
-    Err(Refused { number, place })
+    Err(Refused { number, sheet: 0, place })
 }
 
 /// The job of reading.
-pub fn read(bytes: &[u8]) -> Result<Sheet, Refused> {
-    sheet::read(bytes)
+pub fn read(sheets: Sheets) -> Result<Sheet, Refused> {
+    sheet::read(sheets)
 }
 
 /// The job of building: kinds, firsts, seconds are its answer lists.
-pub fn build(bytes: &[u8], rooms: [usize; 3]) -> Result<Dwarf, Refused> {
-    let (_, dwarf) = contracted(bytes)?;
+pub fn build(sheets: Sheets, rooms: [usize; 3]) -> Result<Dwarf, Refused> {
+    let (_, dwarf) = contracted(sheets)?;
     enough(rooms, [dwarf.records.len(); 3])?;
     Ok(dwarf)
 }
 
 /// The job of running toggles: roots, counts, labels are its answer lists.
-pub fn run(bytes: &[u8], toggles: &[u16], rooms: [usize; 3]) -> Result<Ran, Refused> {
-    let (sheet, dwarf) = contracted(bytes)?;
+pub fn run(sheets: Sheets, toggles: &[u16], rooms: [usize; 3]) -> Result<Ran, Refused> {
+    let (sheet, dwarf) = contracted(sheets)?;
     if let Some(index) = toggles.iter().position(|shape| usize::from(*shape) >= sheet.names.len()) {
         return refuse(10, index);
     }
@@ -56,16 +57,21 @@ pub fn run(bytes: &[u8], toggles: &[u16], rooms: [usize; 3]) -> Result<Ran, Refu
 }
 
 /// The job of classifying lines: line, start, end, start shape, end shape are its answer lists.
-pub fn classify(bytes: &[u8], crossings: Crossings, rooms: [usize; 5]) -> Result<Vec<Wall>, Refused> {
-    let (sheet, _) = contracted(bytes)?;
+pub fn classify(sheets: Sheets, crossings: Crossings, rooms: [usize; 5]) -> Result<Vec<Wall>, Refused> {
+    let (sheet, _) = contracted(sheets)?;
     let judged = lines::judge(sheet.names.len(), crossings)?;
     enough(rooms, [judged.len() / 2; 5])?;
     Ok(lines::walls(&sheet.formula, sheet.names.len(), &judged))
 }
 
-/// A sheet and its dwarf tree, unless that is too high.
-fn contracted(bytes: &[u8]) -> Result<(Sheet, Dwarf), Refused> {
-    let sheet = sheet::read(bytes)?;
+/// Asking for a shape's name: its bytes; "past the joined names is 10, place 0".
+pub fn name(sheets: Sheets, shape: usize) -> Result<Vec<u8>, Refused> {
+    sheet::read(sheets)?.names.get(shape).cloned().map_or_else(|| refuse(10, 0), Ok)
+}
+
+/// The sheets' formula and its dwarf tree, unless that is too high.
+fn contracted(sheets: Sheets) -> Result<(Sheet, Dwarf), Refused> {
+    let sheet = sheet::read(sheets)?;
     let dwarf = dwarf::contract(&sheet.formula);
     if dwarf.height() > 57 {
         return refuse(8, 0);

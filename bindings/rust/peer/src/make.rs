@@ -110,8 +110,8 @@ pub fn names(dice: &mut Dice, count: usize, longest: usize) -> Vec<Vec<u8>> {
     (0..count).map(name).collect()
 }
 
-/// The bytes of a sheet with these names and these codes, whatever they are.
-pub fn sheet<N: AsRef<[u8]>>(names: &[N], codes: &[u16]) -> Vec<u8> {
+/// The bytes of a fittings sheet with these names.
+pub fn fittings<N: AsRef<[u8]>>(names: &[N]) -> Vec<u8> {
     let mut bytes = vec![1, 0, 2, 0, 1];
     for name in names {
         let name = name.as_ref();
@@ -119,6 +119,12 @@ pub fn sheet<N: AsRef<[u8]>>(names: &[N], codes: &[u16]) -> Vec<u8> {
         bytes.extend((name.len() as u16).to_be_bytes());
         bytes.extend(name);
     }
+    bytes
+}
+
+/// The bytes of a sheet with these names and these codes, whatever they are.
+pub fn sheet<N: AsRef<[u8]>>(names: &[N], codes: &[u16]) -> Vec<u8> {
+    let mut bytes = fittings(names);
     bytes.push(3);
     bytes.extend((2 * codes.len() as u16).to_be_bytes());
     bytes.extend(codes.iter().flat_map(|code| code.to_be_bytes()));
@@ -133,6 +139,59 @@ pub fn good_sheet(dice: &mut Dice) -> (Vec<u8>, usize) {
     let form = dice.of_these(&Form::ALL);
     let names = names(dice, count, longest);
     (sheet(&names, &codes(dice, count, leaves, form)), count)
+}
+
+/// A good fittings sheet, a good sheet beside it, and how many names they have together.
+pub fn good_pair(dice: &mut Dice) -> (Vec<u8>, Vec<u8>, usize) {
+    let count = 1 + dice.size(255);
+    let longest = dice.size(32);
+    let leaves = dice.size(1024);
+    let form = dice.of_these(&Form::ALL);
+    let all = names(dice, count, longest);
+    let (first, second) = all.split_at(1 + dice.below(count - 1));
+    (fittings(first), sheet(second, &codes(dice, count, leaves, form)), count)
+}
+
+/// A pair of any kind: a good one, one of which one sheet or both are damaged, or one just past a rule of the pair.
+pub fn any_pair(dice: &mut Dice) -> (Vec<u8>, Vec<u8>) {
+    let (mut beside, mut own, _) = good_pair(dice);
+    match dice.below(8) {
+        0 => {}
+        1 => return past_the_pair(dice),
+        2..=4 => damage(dice, &mut beside),
+        5 => beside = any_sheet(dice),
+        _ => {}
+    }
+    for _ in 0..dice.below(3) {
+        damage(dice, &mut own);
+    }
+    (beside, own)
+}
+
+/// Just past a rule of the pair: names of both sheets too many or equal, or both at one name; a fittings sheet with no name or too many;
+/// a sheet with no name of its own.
+fn past_the_pair(dice: &mut Dice) -> (Vec<u8>, Vec<u8>) {
+    let mut all = names(dice, 257, 3);
+    let formula = codes(dice, 256, 2, Form::Any);
+    let split = 1 + dice.below(256);
+    match dice.below(6) {
+        // the 257th name, new or a fitting's
+        0 => (fittings(&all[..split]), sheet(&all[split..], &formula)),
+        1 => {
+            all[256] = all[dice.below(split)].clone();
+            (fittings(&all[..split]), sheet(&all[split..], &formula))
+        }
+        // a name of the customer's that is a fitting's, before the 257th
+        2 => {
+            let split = 1 + dice.below(254);
+            let at = split + dice.below(255 - split);
+            all[at] = all[dice.below(split)].clone();
+            (fittings(&all[..split]), sheet(&all[split..], &formula))
+        }
+        3 => (fittings::<Vec<u8>>(&[]), sheet(&all[..2], &[0])),
+        4 => (fittings(&all), sheet(&all[..2], &[0])),
+        _ => (fittings(&all[..split.min(255)]), sheet::<Vec<u8>>(&[], &[0])),
+    }
 }
 
 /// A sheet of any kind: a good one, a large one just past a limit, a good one damaged in one to three places, or noise.

@@ -1,16 +1,31 @@
-//! "The sheet" and "Order of reading": refusals 1 to 7.
+//! "The sheet" and "Order of reading", and K7's fittings sheet: refusals 1 to 7 and 17.
 
 use crate::formula::{Formula, Op};
 use crate::{refuse, Refused};
 use std::collections::HashSet;
 
+/// The sheets of a call: the customer's, and the fittings sheet where there is one.
+#[derive(Debug, Clone, Copy, PartialEq, Eq)]
+pub struct Sheets<'a> {
+    pub fittings: Option<&'a [u8]>,
+    pub own: &'a [u8],
+}
+
+impl<'a> Sheets<'a> {
+    /// The customer's sheet alone.
+    pub fn alone(own: &'a [u8]) -> Sheets<'a> {
+        Sheets { fittings: None, own }
+    }
+}
+
 #[derive(Debug, Clone, PartialEq, Eq)]
 pub struct Sheet {
+    /// The joined names: the fittings' first, the customer's after them.
     pub names: Vec<Vec<u8>>,
     pub formula: Formula,
     /// How many leaves the formula has.
     pub leaves: usize,
-    /// The formula's first offset.
+    /// The formula's first offset in the customer's sheet.
     pub first: usize,
     /// The offset past its end.
     pub past: usize,
@@ -42,10 +57,42 @@ impl<'a> Reader<'a> {
     }
 }
 
-pub fn read(bytes: &[u8]) -> Result<Sheet, Refused> {
+/// "The fittings sheet is judged first", then the customer's. "A place in 1 to 7 or 17 says which sheet."
+pub fn read(sheets: Sheets) -> Result<Sheet, Refused> {
+    let fittings = match sheets.fittings {
+        Some(bytes) => fittings(bytes).map_err(|refused| Refused { sheet: 1, ..refused })?,
+        None => Vec::new(),
+    };
+    own(fittings, sheets.own).map_err(|refused| Refused { sheet: 2, ..refused })
+}
+
+/// "A header and names, 1 to 256, with no formula": "it must end after its names; ending before the first name is 1".
+fn fittings(bytes: &[u8]) -> Result<Vec<Vec<u8>>, Refused> {
     let mut reader = Reader { bytes, at: 0 };
     header(&mut reader)?;
-    let mut names = Vec::new();
+    let mut names: Vec<Vec<u8>> = Vec::new();
+    while reader.at < bytes.len() || names.is_empty() {
+        let tag = reader.at;
+        if reader.tag()? != 2 {
+            return refuse(2, tag);
+        }
+        if names.len() == 256 {
+            return refuse(6, tag);
+        }
+        let name = name(&mut reader, tag)?;
+        if names.iter().any(|other| other == name) {
+            return refuse(5, tag);
+        }
+        names.push(name.to_vec());
+    }
+    Ok(names)
+}
+
+/// The customer's sheet. "17, a customer's name equal to a fitting's, stands directly after 5; 6 counts both sheets' names together."
+fn own(mut names: Vec<Vec<u8>>, bytes: &[u8]) -> Result<Sheet, Refused> {
+    let mut reader = Reader { bytes, at: 0 };
+    header(&mut reader)?;
+    let fittings: HashSet<Vec<u8>> = names.iter().cloned().collect();
     let mut taken = HashSet::new();
     loop {
         let tag = reader.at;
@@ -56,9 +103,12 @@ pub fn read(bytes: &[u8]) -> Result<Sheet, Refused> {
                 if !taken.insert(name) {
                     return refuse(5, tag);
                 }
+                if fittings.contains(name) {
+                    return refuse(17, tag);
+                }
                 names.push(name.to_vec());
             }
-            3 if !names.is_empty() => {
+            3 if !taken.is_empty() => {
                 let codes = codes(&mut reader, tag)?;
                 let (formula, leaves) = judge(&codes, names.len(), tag)?;
                 if reader.at < bytes.len() {

@@ -1,11 +1,12 @@
-//! The worked sheet and the cases of document 01, of the plain implementation: it is worth comparing with only if it meets them.
+//! The worked sheet and the cases of document 01, and the rules of document 02, of the plain implementation: it is worth comparing with only if it meets them.
 
 use peer::dwarf::Dwarf;
 use peer::formula::{Formula, Op};
 use peer::lines::{Crossings, Wall};
-use peer::make::sheet;
+use peer::make::{fittings, sheet};
+use peer::sheet::{Sheet, Sheets};
 use peer::toggles::{afresh, Label, Ran};
-use peer::{build, classify, read, run, Refused};
+use peer::Refused;
 
 const UNION: u16 = 0xFFF0;
 const INTERSECTION: u16 = 0xFFF1;
@@ -15,7 +16,32 @@ const ROOM: [usize; 3] = [4000; 3];
 const WALL_ROOM: [usize; 5] = [usize::MAX; 5];
 
 fn refused<T>(number: u8, place: usize) -> Result<T, Refused> {
-    Err(Refused { number, place })
+    Err(Refused { number, sheet: if number <= 7 || number == 17 { 2 } else { 0 }, place })
+}
+
+/// A refusal of the fittings sheet.
+fn unfit<T>(number: u8, place: usize) -> Result<T, Refused> {
+    Err(Refused { number, sheet: 1, place })
+}
+
+fn read(sheet: &[u8]) -> Result<Sheet, Refused> {
+    peer::read(Sheets::alone(sheet))
+}
+
+fn beside(fittings: &[u8], own: &[u8]) -> Result<Sheet, Refused> {
+    peer::read(Sheets { fittings: Some(fittings), own })
+}
+
+fn build(sheet: &[u8], rooms: [usize; 3]) -> Result<Dwarf, Refused> {
+    peer::build(Sheets::alone(sheet), rooms)
+}
+
+fn run(sheet: &[u8], toggles: &[u16], rooms: [usize; 3]) -> Result<Ran, Refused> {
+    peer::run(Sheets::alone(sheet), toggles, rooms)
+}
+
+fn classify(sheet: &[u8], crossings: Crossings, rooms: [usize; 5]) -> Result<Vec<Wall>, Refused> {
+    peer::classify(Sheets::alone(sheet), crossings, rooms)
 }
 
 fn worked() -> Vec<u8> {
@@ -227,4 +253,45 @@ fn labels_mean_the_formula() {
             assert_eq!(afresh(&dwarf, &inside).last(), Some(&Label::Bit(formula.inside(&inside))), "{formula:?} {inside:?}");
         }
     }
+}
+
+/// K7: shapes of the fittings sheet are numbered first, and the customer's formula may use both.
+#[test]
+fn a_fittings_sheet_beside_the_customers() {
+    let (lugs, own) = (fittings(&["lug", "boss"]), sheet(&["block"], &[2, 0, UNION, 1, DIFFERENCE]));
+    let read = beside(&lugs, &own).unwrap();
+    assert_eq!(read.names, [&b"lug"[..], b"boss", b"block"]);
+    assert_eq!((read.leaves, read.first), (3, 16));
+    let pair = Sheets { fittings: Some(&lugs), own: &own };
+    assert_eq!(peer::name(pair, 1), Ok(b"boss".to_vec()));
+    assert_eq!(peer::name(pair, 2), Ok(b"block".to_vec()));
+    assert_eq!(peer::name(pair, 3), refused(10, 0));
+    assert_eq!(peer::run(pair, &[2, 3], ROOM), refused(10, 1));
+}
+
+/// K7: the fittings sheet is judged first and whole, and a place says which sheet.
+#[test]
+fn fittings_sheets_refused() {
+    let own = sheet(&["A"], &[0]);
+    assert_eq!(beside(b"", &own), unfit(1, 0));
+    assert_eq!(beside(&fittings::<&str>(&[]), b""), unfit(1, 5));
+    assert_eq!(beside(&own, &own), unfit(2, 9));
+    assert_eq!(beside(&fittings(&["B", "B"]), b""), unfit(5, 9));
+    assert_eq!(beside(&fittings(&["B"]), b""), refused(1, 0));
+    let two: Vec<String> = (0..257).map(|k| format!("{k:03}")).collect();
+    assert_eq!(beside(&fittings(&two), &own), unfit(6, 5 + 256 * 6));
+}
+
+/// K7: 17 stands directly after 5; 6 counts both sheets' names together, and comes before 17; one name of the customer's own at least.
+#[test]
+fn pairs_refused() {
+    let names: Vec<String> = (0..256).map(|k| format!("{k:03}")).collect();
+    assert_eq!(beside(&fittings(&["A"]), &sheet(&["A"], &[0])), refused(17, 5));
+    assert_eq!(beside(&fittings(&["A"]), &sheet(&["B", "B", "A"], &[0])), refused(5, 9));
+    assert_eq!(beside(&fittings(&names), &sheet(&["000"], &[0])), refused(6, 5));
+    assert_eq!(beside(&fittings(&names[..255]), &sheet(&["x", "000"], &[0])), refused(6, 9));
+    assert_eq!(beside(&fittings(&names[..255]), &sheet(&["000"], &[0])), refused(17, 5));
+    assert_eq!(beside(&fittings(&["A"]), &sheet::<&str>(&[], &[0])), refused(2, 5));
+    assert!(beside(&fittings(&names[..255]), &sheet(&["x"], &[255])).is_ok());
+    assert_eq!(beside(&fittings(&["A"]), &sheet(&["B"], &[2])), refused(7, 12));
 }

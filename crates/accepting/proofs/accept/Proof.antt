@@ -1,14 +1,17 @@
--- `accepting::accept` meets its contract: the reader refuses, or the sheet is accepted.
-use Rattle.accepting.proofs.PreparedLaws.{sheet-refused, ordered, inside, fit, ready}
+-- `accepting::accept` meets its contract: a sheet is refused, or the sheets are accepted.
+use Rattle.accepting.proofs.PreparedLaws.{sheet-refused, sheet-unfit, ordered, inside, fit, coded-given}
 use borrow.Author.Needs.{needs}
 use Rattle.accepting.proofs.accept.Statement.{statement}
 use Rattle.accepting.proofs.accept.Tie as tie
 
-read-sheet-requires : tie.Need-read-sheet-requires
-read-sheet-requires c κs = search needs
+read-sheets-requires : tie.Need-read-sheets-requires
+read-sheets-requires c κs = search needs
 
 enum-known-number : tie.Need-enum-known-number
 enum-known-number c = search needs
+
+enum-known-number-2 : tie.Need-enum-known-number-2
+enum-known-number-2 c = search needs
 
 enum-known-names : tie.Need-enum-known-names
 enum-known-names c = search needs
@@ -29,18 +32,23 @@ returns : tie.Need-returns
 returns c = search (sheet-refused, needs)
 
 returns-2 : tie.Need-returns-2
-returns-2 c = search (ready, needs)
+returns-2 c = search (sheet-unfit, needs)
+
+returns-3 : tie.Need-returns-3
+returns-3 c = search (coded-given, needs)
 
 pub accept-spec : {M : Type 1} → statement M
 accept-spec =
     tie.close
     (tie.spec
-    read-sheet-requires
+    read-sheets-requires
     enum-known-number
+    enum-known-number-2
     enum-known-names
     sub-fill-codes
     part-fill-codes-start
     part-fill-codes-end
     fill-codes-requires
     returns
-    returns-2)
+    returns-2
+    returns-3)

@@ -1,5 +1,5 @@
 -- `host::kressedach_classify` meets its contract: each case of the answer is reported as the definition reports it.
-use Rattle.host.proofs.ReportLaws.{classify-reported, classify-refused}
+use Rattle.host.proofs.ReportLaws.{classify-reported, classify-refused, classify-unfit}
 use borrow.Author.Needs.{needs}
 use Rattle.host.proofs.kressedach_classify.Statement.{statement}
 use Rattle.host.proofs.kressedach_classify.Tie as tie
@@ -12,6 +12,12 @@ enum-known-walls c = search needs
 
 enum-known-number : tie.Need-enum-known-number
 enum-known-number c = search needs
+
+sheet-of-requires : tie.Need-sheet-of-requires
+sheet-of-requires c κs = search needs
+
+enum-known-number-2 : tie.Need-enum-known-number-2
+enum-known-number-2 c = search needs
 
 same-length : tie.Need-same-length
 same-length c = search needs
@@ -49,6 +55,24 @@ same-length-10 c = search needs
 returns-2 : tie.Need-returns-2
 returns-2 c = search (classify-refused, needs)
 
+same-length-11 : tie.Need-same-length-11
+same-length-11 c = search needs
+
+same-length-12 : tie.Need-same-length-12
+same-length-12 c = search needs
+
+same-length-13 : tie.Need-same-length-13
+same-length-13 c = search needs
+
+same-length-14 : tie.Need-same-length-14
+same-length-14 c = search needs
+
+same-length-15 : tie.Need-same-length-15
+same-length-15 c = search needs
+
+returns-3 : tie.Need-returns-3
+returns-3 c = search (classify-unfit, needs)
+
 pub kressedach-classify-spec : {M : Type 1} → statement M
 kressedach-classify-spec =
     tie.close
@@ -56,6 +80,8 @@ kressedach-classify-spec =
     classify-requires
     enum-known-walls
     enum-known-number
+    sheet-of-requires
+    enum-known-number-2
     same-length
     same-length-2
     same-length-3
@@ -67,4 +93,10 @@ kressedach-classify-spec =
     same-length-8
     same-length-9
     same-length-10
-    returns-2)
+    returns-2
+    same-length-11
+    same-length-12
+    same-length-13
+    same-length-14
+    same-length-15
+    returns-3)

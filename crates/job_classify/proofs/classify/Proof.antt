@@ -1,5 +1,5 @@
 -- `job_classify::classify` meets its promise: a refused sheet ends it, and an accepted one's lines are classified.
-use Rattle.job_classify.proofs.ClassifyLaws.{sheet-refused, few-codes, lines-walls, lines-refused}
+use Rattle.job_classify.proofs.ClassifyLaws.{sheet-refused, sheet-unfit, few-codes, lines-walls, lines-refused}
 use borrow.Author.Needs.{needs}
 use Rattle.job_classify.proofs.classify.Statement.{statement}
 use Rattle.job_classify.proofs.classify.Tie as tie
@@ -10,6 +10,9 @@ accept-requires c κs = search needs
 enum-known-number : tie.Need-enum-known-number
 enum-known-number c = search needs
 
+enum-known-number-2 : tie.Need-enum-known-number-2
+enum-known-number-2 c = search needs
+
 enum-known-names : tie.Need-enum-known-names
 enum-known-names c = search needs
 
@@ -19,11 +22,14 @@ classify-requires c κs = search (few-codes, needs)
 enum-known-walls : tie.Need-enum-known-walls
 enum-known-walls c = search needs
 
-enum-known-number-2 : tie.Need-enum-known-number-2
-enum-known-number-2 c = search needs
+enum-known-number-3 : tie.Need-enum-known-number-3
+enum-known-number-3 c = search needs
 
 returns : tie.Need-returns
 returns c = search (sheet-refused, needs)
+
+returns-2 : tie.Need-returns-2
+returns-2 c = search (sheet-unfit, needs)
 
 same-length : tie.Need-same-length
 same-length c = search needs
@@ -40,8 +46,8 @@ same-length-4 c = search needs
 same-length-5 : tie.Need-same-length-5
 same-length-5 c = search needs
 
-returns-2 : tie.Need-returns-2
-returns-2 c = search (lines-walls, needs)
+returns-3 : tie.Need-returns-3
+returns-3 c = search (lines-walls, needs)
 
 same-length-6 : tie.Need-same-length-6
 same-length-6 c = search needs
@@ -58,8 +64,8 @@ same-length-9 c = search needs
 same-length-10 : tie.Need-same-length-10
 same-length-10 c = search needs
 
-returns-3 : tie.Need-returns-3
-returns-3 c = search (lines-refused, needs)
+returns-4 : tie.Need-returns-4
+returns-4 c = search (lines-refused, needs)
 
 pub classify-spec : {M : Type 1} → statement M
 classify-spec =
@@ -67,20 +73,22 @@ classify-spec =
     (tie.spec
     accept-requires
     enum-known-number
+    enum-known-number-2
     enum-known-names
     classify-requires
     enum-known-walls
-    enum-known-number-2
+    enum-known-number-3
     returns
+    returns-2
     same-length
     same-length-2
     same-length-3
     same-length-4
     same-length-5
-    returns-2
+    returns-3
     same-length-6
     same-length-7
     same-length-8
     same-length-9
     same-length-10
-    returns-3)
+    returns-4)

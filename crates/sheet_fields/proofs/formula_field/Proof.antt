@@ -9,14 +9,14 @@ use Rattle.sheet_fields.proofs.formula_field.Tie as tie
 
 returns : tie.Need-returns
 unfolding paper.formulaAt paper.lengthAt paper.pastAt paper.bytesAt
-returns c = rw walk-length (search asked depth 20)
+returns c = rw (walk-length, walk-length) (search asked depth 20)
 
 add-a : tie.Need-add-a
 add-a c = search needs
 
 returns-2 : tie.Need-returns-2
 unfolding paper.formulaAt paper.lengthAt paper.pastAt paper.bytesAt
-returns-2 c = rw walk-length (search asked depth 20)
+returns-2 c = rw (walk-length, walk-length) (search asked depth 20)
 
 add-two : tie.Need-add-two
 add-two c = search needs
@@ -26,22 +26,22 @@ two-requires c κs = search needs
 
 returns-3 : tie.Need-returns-3
 unfolding paper.formulaAt paper.lengthAt paper.pastAt paper.bytesAt
-returns-3 c = rw walk-length (search (asked, bounds) depth 20)
+returns-3 c = rw (walk-length, walk-length) (search (asked, bounds) depth 20)
 
 returns-4 : tie.Need-returns-4
 unfolding paper.formulaAt paper.lengthAt paper.pastAt paper.bytesAt
-returns-4 c = rw walk-length (search (asked, bounds) depth 20)
+returns-4 c = rw (walk-length, walk-length) (search (asked, bounds) depth 20)
 
 returns-5 : tie.Need-returns-5
 unfolding paper.formulaAt paper.lengthAt paper.pastAt paper.bytesAt
-returns-5 c = rw walk-length (search asked depth 20)
+returns-5 c = rw (walk-length, walk-length) (search asked depth 20)
 
 add-e : tie.Need-add-e
 add-e c = search needs
 
 returns-6 : tie.Need-returns-6
 unfolding paper.formulaAt paper.lengthAt paper.pastAt paper.bytesAt
-returns-6 c = rw walk-length (search asked depth 20)
+returns-6 c = rw (walk-length, walk-length) (search asked depth 20)
 
 sub-judge : tie.Need-sub-judge
 sub-judge c = search needs
@@ -51,6 +51,9 @@ part-judge-start c = search needs
 
 part-judge-end : tie.Need-part-judge-end
 part-judge-end c = search needs
+
+add-judge : tie.Need-add-judge
+add-judge c = search needs
 
 judge-requires : tie.Need-judge-requires
 judge-requires c κs = search needs
@@ -84,6 +87,7 @@ formula-field-spec =
     sub-judge
     part-judge-start
     part-judge-end
+    add-judge
     judge-requires
     enum-known-leaves
     enum-known-place

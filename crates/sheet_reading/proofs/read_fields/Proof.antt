@@ -1,9 +1,9 @@
 -- `sheet_reading::read_fields` meets its contract. The invariant: the reading from `at` on, after the names walked so far, is the whole reading.
-use borrow.Author.Needs.{needs}
 use mathlib.Core.Path.{_≡_, refl}
 use mathlib.Core.List.{[]}
 use Prim.Native.Nat.{_-_}
-use Rattle.sheet.specs.Walk.{walkEnd, walkNames}
+use borrow.Author.Needs.{needs}
+use Rattle.sheet.specs.Walk.{walkEnd, walkNames, fittedBy}
 use Rattle.sheet_names.specs.Keys.{NamesRead}
 use Rattle.sheet_reading.specs.Steps.{toldFrom}
 use Rattle.sheet_reading.proofs.Reading.{read-refused, read-end, read-formula, read-name, name-room, name-inside, name-ordered, name-here, name-known}
@@ -11,16 +11,16 @@ use Rattle.sheet_reading.proofs.read_fields.Statement.{statement}
 use Rattle.sheet_reading.proofs.read_fields.Tie as tie
 
 abbrev Inv-loop : tie.InvT-loop
-Inv-loop sheet keys₀ at₀ names₀ keys at names =
-    NamesRead sheet names keys × (at ≡ walkEnd sheet 5 names)
-    × (toldFrom 257 sheet 5 [] ≡ toldFrom (257 - names) sheet at (walkNames sheet 5 names))
+Inv-loop fittings fitted sheet keys₀ at₀ names₀ keys at names =
+    NamesRead fittings fitted sheet names keys × (at ≡ walkEnd sheet 5 names)
+    × (toldFrom (fittedBy fittings fitted) 257 sheet 5 [] ≡ toldFrom (fittedBy fittings fitted) (257 - names) sheet at (walkNames sheet 5 names))
 
 abbrev μ-loop : tie.MeasureT-loop
-μ-loop sheet keys₀ at₀ names₀ keys at names = 257 - names
+μ-loop fittings fitted sheet keys₀ at₀ names₀ keys at names = 257 - names
 
 loop-holds : tie.Need-loop-holds Inv-loop μ-loop
 unfolding walkEnd walkNames
-loop-holds c = (record { inside = search needs; few = search needs; keyed = record { are = refl; sized = refl } }, refl, refl)
+loop-holds c = (search needs, refl, refl)
 
 one-field-requires : tie.Need-one-field-requires Inv-loop μ-loop
 one-field-requires c κs = search needs
@@ -40,11 +40,14 @@ part-key-end c = search (name-inside, needs)
 key-requires : tie.Need-key-requires Inv-loop μ-loop
 key-requires c κs = search needs
 
+add-keys : tie.Need-add-keys Inv-loop μ-loop
+add-keys c = search needs
+
 mul-keys : tie.Need-mul-keys Inv-loop μ-loop
 mul-keys c = search needs
 
-array-write-keys : tie.Need-array-write-keys Inv-loop μ-loop
-array-write-keys c = search name-room
+element-write-keys : tie.Need-element-write-keys Inv-loop μ-loop
+element-write-keys c = search name-room
 
 add-names : tie.Need-add-names Inv-loop μ-loop
 add-names c = search needs
@@ -89,8 +92,9 @@ read-fields-spec =
     part-key-start
     part-key-end
     key-requires
+    add-keys
     mul-keys
-    array-write-keys
+    element-write-keys
     add-names
     loop-less
     loop-again

@@ -4,7 +4,7 @@ mod csv;
 mod lists;
 mod words;
 
-use kressedach::{Crossing, Refusal};
+use kressedach::{Crossing, Refusal, Sheets};
 use lists::Shapes;
 use std::fmt::Write as _;
 use std::io::{self, Read, Write};
@@ -44,16 +44,17 @@ fn main() -> ExitCode {
 
 /// What a command line answers.
 fn answer(args: &[&str]) -> Result<String, Stop> {
+    let (fittings, args) = without_fittings(args)?;
     match *args {
         ["--help" | "-h" | "help", ..] => Ok(HELP.into()),
         ["--version" | "-V"] => Ok(concat!("wallcheck ", env!("CARGO_PKG_VERSION"), "\n").into()),
-        ["read", "--names", sheet] => names(sheet),
-        ["read", sheet] => read(sheet),
-        ["list", "--size", sheet] => size(sheet),
-        ["list", sheet] => list(sheet),
-        ["run", "--labels", sheet, toggles] => run(sheet, toggles, true),
-        ["run", sheet, toggles] => run(sheet, toggles, false),
-        ["walls", sheet, crossings] => walls(sheet, crossings),
+        ["read", "--names", sheet] => names(Files::of(fittings, sheet)?),
+        ["read", sheet] => read(Files::of(fittings, sheet)?),
+        ["list", "--size", sheet] => size(Files::of(fittings, sheet)?),
+        ["list", sheet] => list(Files::of(fittings, sheet)?),
+        ["run", "--labels", sheet, toggles] => run(fittings, sheet, toggles, true),
+        ["run", sheet, toggles] => run(fittings, sheet, toggles, false),
+        ["walls", sheet, crossings] => walls(fittings, sheet, crossings),
         [] => Err(Stop::Usage("a command is missing".into())),
         ["read" | "list", ..] => Err(Stop::Usage(format!("'{}' takes one file: SHEET", args[0]))),
         ["run", ..] => Err(Stop::Usage("'run' takes two files: SHEET TOGGLES".into())),
@@ -62,31 +63,56 @@ fn answer(args: &[&str]) -> Result<String, Stop> {
     }
 }
 
-fn read(path: &str) -> Result<String, Stop> {
-    let sheet = sheet_file(path)?;
-    let read = kressedach::read(&sheet).map_err(|refusal| of_sheet(&sheet, refusal))?;
+/// The file of `--fittings FILE`, wherever that stands, and the other words.
+fn without_fittings<'a>(args: &[&'a str]) -> Result<(Option<&'a str>, Vec<&'a str>), Stop> {
+    let Some(at) = args.iter().position(|arg| *arg == "--fittings") else { return Ok((None, args.to_vec())) };
+    let Some(file) = args.get(at + 1) else { return Err(Stop::Usage("'--fittings' takes a file".into())) };
+    Ok((Some(file), [&args[..at], &args[at + 2..]].concat()))
+}
+
+/// The bytes of a call's sheets.
+struct Files {
+    fittings: Option<Vec<u8>>,
+    customers: Vec<u8>,
+}
+
+impl Files {
+    fn of(fittings: Option<&str>, customers: &str) -> Result<Files, Stop> {
+        if fittings == Some("-") && customers == "-" {
+            return Err(Stop::Usage("only one of the files can be standard input".into()));
+        }
+        Ok(Files { fittings: fittings.map(sheet_file).transpose()?, customers: sheet_file(customers)? })
+    }
+
+    fn sheets(&self) -> Sheets<'_> {
+        Sheets { fittings: self.fittings.as_deref(), customers: &self.customers }
+    }
+}
+
+fn read(files: Files) -> Result<String, Stop> {
+    let sheets = files.sheets();
+    let read = kressedach::read(sheets).map_err(|refusal| of_sheet(sheets, refusal))?;
     Ok(format!("names,leaves,first,past\n{},{},{},{}\n", read.names, read.leaves, read.formula.start, read.formula.end))
 }
 
-fn names(path: &str) -> Result<String, Stop> {
-    let sheet = sheet_file(path)?;
+fn names(files: Files) -> Result<String, Stop> {
     let mut text = String::from("shape,name\n");
-    for (shape, name) in shapes(&sheet)?.iter().enumerate() {
+    for (shape, name) in shapes(files.sheets())?.iter().enumerate() {
         let _ = writeln!(text, "{shape},{}", csv::quoted(name));
     }
     Ok(text)
 }
 
-fn size(path: &str) -> Result<String, Stop> {
-    let sheet = sheet_file(path)?;
-    let size = kressedach::build(&sheet).map_err(|refusal| of_sheet(&sheet, refusal))?.size;
+fn size(files: Files) -> Result<String, Stop> {
+    let sheets = files.sheets();
+    let size = kressedach::build(sheets).map_err(|refusal| of_sheet(sheets, refusal))?.size;
     Ok(format!("leaves,nodes,rounds,height\n{},{},{},{}\n", size.leaves, size.nodes, size.rounds, size.height))
 }
 
-fn list(path: &str) -> Result<String, Stop> {
-    let sheet = sheet_file(path)?;
-    let names = shapes(&sheet)?;
-    let dwarf = kressedach::build(&sheet).map_err(|refusal| of_sheet(&sheet, refusal))?;
+fn list(files: Files) -> Result<String, Stop> {
+    let sheets = files.sheets();
+    let names = shapes(sheets)?;
+    let dwarf = kressedach::build(sheets).map_err(|refusal| of_sheet(sheets, refusal))?;
     let mut text = String::from("node,kind,first,second,meaning\n");
     for (number, node) in dwarf.nodes.iter().enumerate() {
         let meaning = csv::quoted(&words::of_node(node, &names)).into_owned();
@@ -95,12 +121,13 @@ fn list(path: &str) -> Result<String, Stop> {
     Ok(text)
 }
 
-fn run(sheet_path: &str, toggles_path: &str, labels: bool) -> Result<String, Stop> {
-    let (sheet, toggles) = two_files(sheet_path, toggles_path)?;
-    let names = shapes(&sheet)?;
+fn run(fittings: Option<&str>, sheet_path: &str, toggles_path: &str, labels: bool) -> Result<String, Stop> {
+    let (files, toggles) = with_list(fittings, sheet_path, toggles_path)?;
+    let sheets = files.sheets();
+    let names = shapes(sheets)?;
     let list = lists::toggles(&toggles, &Shapes::of(&names)).map_err(|wrong| Stop::File(shown(toggles_path), wrong))?;
-    let ran = kressedach::run(&sheet, &list.entries)
-        .map_err(|refusal| Stop::Refused(refusal, words::of_toggles(&sheet, &names, &list, refusal, &shown(toggles_path))))?;
+    let ran = kressedach::run(sheets, &list.entries)
+        .map_err(|refusal| Stop::Refused(refusal, words::of_toggles(sheets, &names, &list, refusal, &shown(toggles_path))))?;
     let mut text = String::from(if labels { "node,label\n" } else { "toggle,shape,name,root,count\n" });
     if labels {
         for (node, label) in ran.labels.iter().enumerate() {
@@ -115,13 +142,14 @@ fn run(sheet_path: &str, toggles_path: &str, labels: bool) -> Result<String, Sto
     Ok(text)
 }
 
-fn walls(sheet_path: &str, crossings_path: &str) -> Result<String, Stop> {
-    let (sheet, crossings) = two_files(sheet_path, crossings_path)?;
-    let names = shapes(&sheet)?;
+fn walls(fittings: Option<&str>, sheet_path: &str, crossings_path: &str) -> Result<String, Stop> {
+    let (files, crossings) = with_list(fittings, sheet_path, crossings_path)?;
+    let sheets = files.sheets();
+    let names = shapes(sheets)?;
     let list: lists::List<Crossing> =
         lists::crossings(&crossings, &Shapes::of(&names)).map_err(|wrong| Stop::File(shown(crossings_path), wrong))?;
-    let walls = kressedach::classify(&sheet, &list.entries)
-        .map_err(|refusal| Stop::Refused(refusal, words::of_crossings(&sheet, &names, &list, refusal, &shown(crossings_path))))?;
+    let walls = kressedach::classify(sheets, &list.entries)
+        .map_err(|refusal| Stop::Refused(refusal, words::of_crossings(sheets, &names, &list, refusal, &shown(crossings_path))))?;
     let name = |shape: u16| csv::quoted(names.get(usize::from(shape)).copied().unwrap_or_default());
     let mut text = String::from("line,start,end,start_shape,end_shape\n");
     for wall in walls {
@@ -130,22 +158,22 @@ fn walls(sheet_path: &str, crossings_path: &str) -> Result<String, Stop> {
     Ok(text)
 }
 
-fn shapes(sheet: &[u8]) -> Result<Vec<&str>, Stop> {
-    kressedach::names(sheet).map_err(|refusal| of_sheet(sheet, refusal))
+fn shapes(sheets: Sheets<'_>) -> Result<Vec<&str>, Stop> {
+    kressedach::names(sheets).map_err(|refusal| of_sheet(sheets, refusal))
 }
 
-fn of_sheet(sheet: &[u8], refusal: Refusal) -> Stop {
-    Stop::Refused(refusal, words::of_sheet(sheet, refusal))
+fn of_sheet(sheets: Sheets, refusal: Refusal) -> Stop {
+    Stop::Refused(refusal, words::of_sheet(sheets, refusal))
 }
 
-/// A sheet and the text of a list.
-fn two_files(sheet_path: &str, list_path: &str) -> Result<(Vec<u8>, String), Stop> {
-    if sheet_path == "-" && list_path == "-" {
-        return Err(Stop::Usage("only one of the two files can be standard input".into()));
+/// The sheets and the text of a list.
+fn with_list(fittings: Option<&str>, sheet_path: &str, list_path: &str) -> Result<(Files, String), Stop> {
+    if list_path == "-" && (sheet_path == "-" || fittings == Some("-")) {
+        return Err(Stop::Usage("only one of the files can be standard input".into()));
     }
-    let sheet = sheet_file(sheet_path)?;
+    let files = Files::of(fittings, sheet_path)?;
     let list = String::from_utf8(file(list_path, u64::MAX)?).map_err(|_| Stop::File(shown(list_path), "is not text".into()))?;
-    Ok((sheet, list))
+    Ok((files, list))
 }
 
 fn sheet_file(path: &str) -> Result<Vec<u8>, Stop> {

@@ -1,7 +1,7 @@
 //! What stands at the place of a refusal, for the person who has to mend it; and what a node is.
 
 use crate::lists::List;
-use kressedach::{Crossing, Node, Refusal};
+use kressedach::{Crossing, Node, Refusal, Sheets, Which};
 
 const OPERATIONS: [&str; 4] = ["union", "intersection", "difference", "exclusive union"];
 
@@ -18,12 +18,16 @@ pub fn of_node(node: &Node, names: &[&str]) -> String {
     }
 }
 
-/// About a refusal of the sheet.
-pub fn of_sheet(sheet: &[u8], refusal: Refusal) -> Option<String> {
+/// About a refusal of a sheet.
+pub fn of_sheet(sheets: Sheets, refusal: Refusal) -> Option<String> {
     let place = refusal.place;
+    let sheet = match refusal.sheet? {
+        Which::Fittings => sheets.fittings?,
+        Which::Customers => sheets.customers,
+    };
     match refusal.number {
         2 => Some(format!("the tag there is {}", sheet.get(place)?)),
-        4 | 5 => Some(match (two(sheet, place + 1)?, name(sheet, place)) {
+        4 | 5 | 17 => Some(match (two(sheet, place + 1)?, name(sheet, place)) {
             (1..=32, Some(name)) => format!("the name there is {name}"),
             (length, _) => format!("the name there has {length} bytes; 1 to 32 are allowed"),
         }),
@@ -48,15 +52,15 @@ fn of_formula(sheet: &[u8], place: usize) -> Option<String> {
 }
 
 /// About a refusal of a run.
-pub fn of_toggles(sheet: &[u8], names: &[&str], list: &List<u16>, refusal: Refusal, file: &str) -> Option<String> {
+pub fn of_toggles(sheets: Sheets, names: &[&str], list: &List<u16>, refusal: Refusal, file: &str) -> Option<String> {
     match refusal.number {
         10 => Some(unknown_shape(names, list, refusal.place, list.entries[refusal.place], file)),
-        _ => of_sheet(sheet, refusal),
+        _ => of_sheet(sheets, refusal),
     }
 }
 
 /// About a refusal of lines.
-pub fn of_crossings(sheet: &[u8], names: &[&str], list: &List<Crossing>, refusal: Refusal, file: &str) -> Option<String> {
+pub fn of_crossings(sheets: Sheets, names: &[&str], list: &List<Crossing>, refusal: Refusal, file: &str) -> Option<String> {
     let at = refusal.place;
     match refusal.number {
         10 => Some(unknown_shape(names, list, at, list.entries[at].shape, file)),
@@ -80,7 +84,7 @@ pub fn of_crossings(sheet: &[u8], names: &[&str], list: &List<Crossing>, refusal
                 list.rows[at], names[shape]
             ))
         }
-        _ => of_sheet(sheet, refusal),
+        _ => of_sheet(sheets, refusal),
     }
 }
 

@@ -1,0 +1,6 @@
+pub mod Walking
+pub mod Counting
+pub mod Bytes
+pub mod Placing
+pub mod Parts
+pub mod Settled

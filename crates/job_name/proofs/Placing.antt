@@ -1,0 +1,170 @@
+-- Where a name stands, by what reading the sheets answers.
+use Prim.Native.Nat.{ℕ, _+_, _-_, _≤_}
+use native.Mathlib.Omega.{arith}
+use mathlib.Core.Path.{_≡_, refl, sym, ap, _∙_}
+use mathlib.Core.Bool.{Bool, true, false}
+use mathlib.Core.List.{List, [], _++_}
+use lib.ListN.{length, length-append}
+use borrow.Author.Tests.{le-ltb}
+use Rattle.outcome.specs.Outcome.{Outcome, given, refused, unfit, _>>=_, ofFittings}
+use Rattle.outcome.proofs.Questions.{bind-given, fittings-given}
+use Rattle.sheet.specs.Sheet.{Sheets, alone, beside, sheetsOf, Sheet, Setting, unaided, own, fittingNames, reading}
+use Rattle.sheet.specs.Walk.{walkEnd, walkNames}
+use Rattle.sheet.specs.Guaranteed.{Own, Fitted}
+use Rattle.sheet.proofs.Guaranteed.{own-guaranteed, fitted}
+use Rattle.sheet.proofs.Names.{GoodNames-none, walk-length}
+use Rattle.sheet_reading.specs.Reading.{told, answerOf}
+use Rattle.sheet_reading.specs.declared.ReadAnswer.{ReadAnswer}
+use Rattle.sheet_reading.specs.declared.ReadAnswer.the-variants as read
+use Rattle.sheet_reading.proofs.Settled.{read-refusal, read-unfit}
+use Rattle.sheet_reading.proofs.Told.{Known, read-known}
+use Rattle.job_name.specs.Naming.{Stand, placing}
+use Rattle.job_name.specs.Steps.{Held, placedIn, lengthGiven, fittedNumber, Whole, ReadAs}
+use Rattle.job_name.proofs.Walking.{walk-on}
+
+-- ---- a sheet is refused
+
+pair-refused : (f s : List ℕ) (k n p : ℕ) (o : Outcome (List (List ℕ))) → fittingNames f ≡ o → reading (beside f s) ≡ refused n p → placing (beside f s) k ≡ refused n p
+unfolding placing reading
+pair-refused f s k n p (given fs) e h = let g : own (record { fittings = fs }) s ≡ refused n p = rw e at h in rw (e, g)
+pair-refused f s k n p (refused i q) e h = let g : _≡_ {A = Outcome Sheet} (unfit i q) (refused n p) = rw e at h in let z : _≡_ {A = ℕ} 0 1 = cc in absurd (omega arith)
+pair-refused f s k n p (unfit i q) e h = let g : _≡_ {A = Outcome Sheet} (unfit i q) (refused n p) = rw e at h in let z : _≡_ {A = ℕ} 0 1 = cc in absurd (omega arith)
+
+placing-refused : (c : Sheets) (k n p : ℕ) → reading c ≡ refused n p → placing c k ≡ refused n p
+unfolding placing
+placing-refused (alone s) k n p h = rw h
+placing-refused (beside f s) k n p h = pair-refused f s k n p (fittingNames f) refl h
+
+pair-unfit : (f s : List ℕ) (k n p : ℕ) (o : Outcome (List (List ℕ))) → fittingNames f ≡ o → reading (beside f s) ≡ unfit n p → placing (beside f s) k ≡ unfit n p
+unfolding placing reading
+pair-unfit f s k n p (given fs) e h = let g : own (record { fittings = fs }) s ≡ unfit n p = rw e at h in rw (e, g)
+pair-unfit f s k n p (refused i q) e h = let g : _≡_ {A = Outcome Sheet} (unfit i q) (unfit n p) = rw e at h in let a : i ≡ n = cc in let b : q ≡ p = cc in rw (e, a, b)
+pair-unfit f s k n p (unfit i q) e h = let g : _≡_ {A = Outcome Sheet} (unfit i q) (unfit n p) = rw e at h in let a : i ≡ n = cc in let b : q ≡ p = cc in rw (e, a, b)
+
+placing-unfit : (c : Sheets) (k n p : ℕ) → reading c ≡ unfit n p → placing c k ≡ unfit n p
+unfolding placing
+placing-unfit (alone s) k n p h = rw h
+placing-unfit (beside f s) k n p h = pair-unfit f s k n p (fittingNames f) refl h
+
+module _ (c : Sheets) (k : ℕ) (a : ReadAnswer) (said : answerOf a ≡ told c) where
+  pub sheet-refused : (n p : ℕ) → a ≡ read.Refused n p → refused n p ≡ placing c k
+  sheet-refused n p is = sym (placing-refused c k n p (read-refusal c a said n p is))
+
+  pub sheet-unfit : (n p : ℕ) → a ≡ read.Unfit n p → unfit n p ≡ placing c k
+  sheet-unfit n p is = sym (placing-unfit c k n p (read-unfit c a said n p is))
+
+  pub sheets-read : (n l first past : ℕ) → a ≡ read.Read n l first past → ReadAs c n
+  sheets-read n l first past is =
+      let g = read-known c a said n l first past is in
+      record { held = g .sheet; read = g .read; names-are = g .names-are }
+
+-- ---- the sheets are read, the customer's alone
+
+pub own-end : (w : Setting) (s : List ℕ) (r : Sheet) (g : Own w s r) → walkEnd s 5 (g .owned) ≤ length s
+own-end w s r g = omega (arith, g .follows, g .some-bytes, g .ends)
+
+pub own-all : (w : Setting) (s : List ℕ) (r : Sheet) (g : Own w s r) → length (r .names) ≡ length (w .fittings) + g .owned
+own-all w s r g = ap length (g .names-are) ∙ length-append (w .fittings) (walkNames s 5 (g .owned)) ∙ rw (walk-length s 5 (g .owned))
+
+module _ (s : List ℕ) (names : ℕ) (r : ReadAs (alone s) names) where
+  sheet-own : Own unaided s (r .held)
+  unfolding reading
+  sheet-own = own-guaranteed unaided s (r .held) GoodNames-none (r .read)
+
+  all : names ≡ sheet-own .owned
+  all = omega (arith, r .names-are, own-all unaided s (r .held) sheet-own)
+
+  alone-held : Held s 0 s names
+  unfolding walkEnd
+  alone-held =
+      let e = own-end unaided s (r .held) sheet-own in
+      record { fittings-inside = omega (arith, e, walk-on s 5 (sheet-own .owned)); inside = rw all e }
+
+  alone-few : 0 + names ≤ 256
+  alone-few = omega (arith, r .names-are, sheet-own .good-names .few)
+
+  alone-placed : (k : ℕ) (v : Outcome Stand) → v ≡ placedIn s 0 s names k → v ≡ placing (alone s) k
+  unfolding placing
+  alone-placed k v h =
+      let n : 0 + names ≡ length (r .held .names) = omega (arith, r .names-are) in
+      let z : k - 0 ≡ k = omega arith in
+      h ∙ rw (r .read, n, z, le-ltb k 0 (omega arith))
+
+-- ---- and beside a fittings sheet of m names
+
+module _ (f s : List ℕ) (names : ℕ) (r : ReadAs (beside f s) names) where
+  parts : (fs : List (List ℕ)) × (ofFittings (fittingNames f) ≡ given fs) × (own (record { fittings = fs }) s ≡ given (r .held))
+  unfolding reading
+  parts = bind-given (ofFittings (fittingNames f)) (λ ns. own (record { fittings = ns }) s) (r .held) (r .read)
+
+  named : fittingNames f ≡ given (parts .0)
+  named = fittings-given (fittingNames f) (parts .0) (parts .1)
+
+  facts : Fitted f (parts .0)
+  facts = fitted f (parts .0) named
+
+  pair-own : Own (record { fittings = parts .0 }) s (r .held)
+  pair-own = own-guaranteed (record { fittings = parts .0 }) s (r .held) (facts .good-names) (parts .2)
+
+  module _ (m : ℕ) (is : m ≡ fittedNumber f) where
+    number : m ≡ length (parts .0)
+    number = is ∙ ap lengthGiven named
+
+    pair-all : names ≡ m + pair-own .owned
+    pair-all = r .names-are ∙ own-all (record { fittings = parts .0 }) s (r .held) pair-own ∙ ap (λ (i : ℕ). i + pair-own .owned) (sym number)
+
+    pair-whole : Whole f m
+    pair-whole = record { ends = rw number (facts .ends); few = rw number (facts .good-names .few) }
+
+    pair-less : m ≤ names
+    pair-less = omega (arith, pair-all)
+
+    pair-held : Held f m s (names - m)
+    pair-held =
+        let n : names - m ≡ pair-own .owned = omega (arith, pair-all) in
+        record { fittings-inside = omega (arith, pair-whole .ends); inside = rw n (own-end (record { fittings = parts .0 }) s (r .held) pair-own) }
+
+    pair-few : m + (names - m) ≤ 256
+    pair-few = omega (arith, pair-less, r .names-are, pair-own .good-names .few)
+
+    pair-placed : (k : ℕ) (v : Outcome Stand) → v ≡ placedIn f m s (names - m) k → v ≡ placing (beside f s) k
+    unfolding placing
+    pair-placed k v h =
+        let n : m + (names - m) ≡ length (r .held .names) = omega (arith, pair-less, r .names-are) in
+        h ∙ rw (r .read, n, named, ← number)
+
+-- ---- by the flag
+
+module _ (b : Bool) (f s : List ℕ) (names : ℕ) (r : ReadAs (sheetsOf b f s) names) where
+  module _ (e : b ≡ true) where
+    as-pair : ReadAs (beside f s) names
+    as-pair = rw e at r
+
+    pub whole : Whole f (fittedNumber f)
+    whole = pair-whole f s names as-pair (fittedNumber f) refl
+
+    module _ (m : ℕ) (is : m ≡ fittedNumber f) where
+      pub less : m ≤ names
+      less = pair-less f s names as-pair m is
+
+      pub held-beside : Held f m s (names - m)
+      held-beside = pair-held f s names as-pair m is
+
+      pub few-beside : m + (names - m) ≤ 256
+      few-beside = pair-few f s names as-pair m is
+
+      pub placed-beside : (k : ℕ) (v : Outcome Stand) → v ≡ placedIn f m s (names - m) k → v ≡ placing (sheetsOf b f s) k
+      placed-beside k v h = rw e (pair-placed f s names as-pair m is k v h)
+
+  module _ (e : b ≡ false) where
+    as-alone : ReadAs (alone s) names
+    as-alone = rw e at r
+
+    pub held-alone : Held s 0 s names
+    held-alone = alone-held s names as-alone
+
+    pub few-alone : 0 + names ≤ 256
+    few-alone = alone-few s names as-alone
+
+    pub placed-alone : (k : ℕ) (v : Outcome Stand) → v ≡ placedIn s 0 s names k → v ≡ placing (sheetsOf b f s) k
+    placed-alone k v h = rw e (alone-placed s names as-alone k v h)
