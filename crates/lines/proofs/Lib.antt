@@ -13,3 +13,4 @@ pub mod Theorems
 pub mod Items
 pub mod Numbered
 pub mod GivenLaws
+mod Examples

@@ -2,4 +2,3 @@ pub mod Lines
 pub mod Right
 pub mod Given
 pub mod Steps
-pub mod Examples

@@ -1,7 +1,6 @@
 pub mod Toggles
 pub mod Runs
 pub mod Count
-pub mod Cases
 pub mod Upwards
 pub mod Settles
 pub mod Flipping

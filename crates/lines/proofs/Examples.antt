@@ -1,10 +1,10 @@
--- Document 01's cases of the line job, computed.
+-- Worked examples of the line job, computed: shapes that bound a wall, and refusals.
 use Prim.Native.Nat.{ℕ}
 use mathlib.Core.Path.{_≡_, refl}
 use mathlib.Core.List.{List, [], _∷_}
-use lib.IntN.{ℤ, pos, negsuc}
+use lib.IntN.{ℤ, pos}
 use Rattle.outcome.specs.Outcome.{refused}
-use Rattle.formula.specs.Formula.{union, intersection, difference, Formula, leaf, node}
+use Rattle.formula.specs.Formula.{Formula, leaf}
 use Rattle.formula.specs.States.{times}
 use Rattle.lines.specs.Lines.{Crossing, crossed, ordered, anyInside, firstLine, anyOn, lastOn, judged, lowestFrom, shapeAt, Wall, wallsFrom, walls}
 
@@ -22,15 +22,6 @@ A = leaf 0
 
 abbrev B : Formula
 B = leaf 1
-
-pub cases : (walls (node difference A B) (line ((pos 0, 0) ∷ (pos 40, 1) ∷ (pos 60, 1) ∷ (pos 100, 0) ∷ [])) ≡ wall (pos 0) (pos 40) 0 1 ∷ wall (pos 60) (pos 100) 1 0 ∷ [])
-    × (walls (node union A B) (line ((pos 0, 0) ∷ (pos 50, 0) ∷ (pos 50, 1) ∷ (pos 90, 1) ∷ [])) ≡ wall (pos 0) (pos 90) 0 1 ∷ [])
-    × (walls (node intersection A B) (line ((pos 0, 0) ∷ (pos 50, 0) ∷ (pos 50, 1) ∷ (pos 90, 1) ∷ [])) ≡ [])
-    × (walls A (line ((pos 10, 0) ∷ (pos 10, 0) ∷ [])) ≡ [])
-    × (walls A [] ≡ [])
-    × (walls A (line ((negsuc 2147483647, 0) ∷ (pos 2147483647, 0) ∷ [])) ≡ wall (negsuc 2147483647) (pos 2147483647) 0 0 ∷ [])
-unfolding wallsFrom shapeAt lowestFrom crossed times
-cases = (refl, refl, refl, refl, refl, refl)
 
 -- Several crossings at one position: the lowest that changes, in whatever order they stand; one crossed twice there is no answer, and one that stands at no leaf is.
 pub faces : (walls A (line ((pos 0, 2) ∷ (pos 0, 1) ∷ (pos 0, 0) ∷ (pos 9, 1) ∷ (pos 9, 2) ∷ (pos 9, 0) ∷ [])) ≡ wall (pos 0) (pos 9) 0 0 ∷ [])
