@@ -106,6 +106,14 @@ static void read_pair(void) {
     struct kressedach_name_report n = kressedach_name(BESIDE(fittings, plate), 1);
     printf("shape 1: bytes %zu to %zu of sheet %u\n", n.first, n.past, n.sheet);
     expect(n.number == KRESSEDACH_GIVEN && n.sheet == KRESSEDACH_CUSTOMERS_SHEET && n.first == 8 && n.past == 13, "the plate's name");
+
+    uint8_t sheets[3] = {9, 9, 9};
+    size_t firsts[3] = {9, 9, 9}, pasts[3] = {9, 9, 9};
+    struct kressedach_names_report all = kressedach_names(BESIDE(fittings, plate), LIST(sheets), LIST(firsts), LIST(pasts));
+    expect(all.number == KRESSEDACH_GIVEN && all.names == 2 && sheets[0] == 1 && sheets[1] == 2 && sheets[2] == 9, "both names");
+    expect(firsts[1] == n.first && pasts[1] == n.past && firsts[2] == 9 && pasts[2] == 9, "the second stands where it stood alone");
+    all = kressedach_names(BESIDE(fittings, plate), LIST(sheets), firsts, 1, LIST(pasts));
+    expect(all.number == KRESSEDACH_LIST_TOO_SHORT && all.sheet == KRESSEDACH_NO_SHEET && all.place == 2, "no room for the second");
     n = kressedach_name(BESIDE(fittings, plate), 2);
     expect(n.number == KRESSEDACH_NO_SUCH_SHAPE && n.sheet == KRESSEDACH_NO_SHEET && n.place == 0, "no third name");
 

@@ -20,7 +20,7 @@
  *
  *  - A list is a pointer, then its number of entries (not of bytes). The entries are there for the whole call. Those of a list that is
  *    read are initialised; a list that is written may hold anything, and need not be cleared.
- *  - The pointer is aligned for its entry: uint16_t to 2, uint32_t and int32_t to 4. Only with no entries may it be NULL.
+ *  - The pointer is aligned for its entry: uint16_t to 2, uint32_t and int32_t to 4, size_t to 8. Only with no entries may it be NULL.
  *  - A list that is written (it has no `const`) overlaps no other list of the call. Lists that are only read may overlap.
  *  - No other thread writes a list of the call, or reads one that is written, until the call is over.
  *  - A list holds at most PTRDIFF_MAX bytes, as every C object does.
@@ -67,6 +67,9 @@ enum kressedach_sheet {
 /* No contracted tree has more nodes: room for so many entries is enough for any sheet. */
 #define KRESSEDACH_MOST_NODES 3069
 
+/* No sheets have more names, both together: room for so many entries is enough for any. */
+#define KRESSEDACH_MOST_NAMES 256
+
 /* What stands in a node's record where there is no number. */
 #define KRESSEDACH_NONE 65535
 
@@ -105,6 +108,27 @@ struct kressedach_name_report kressedach_name(bool fitted,
                                               const uint8_t *fittings, size_t fittings_length,
                                               const uint8_t *sheet, size_t sheet_length,
                                               size_t shape);
+
+struct kressedach_names_report {
+    uint8_t number;
+    uint8_t sheet;
+    size_t place;
+    size_t names; /* how many entries were given in each list */
+};
+
+/* Asks where the name of every shape stands, in the order of their numbers, the sheets read once: for each the sheet that holds it, 1 or
+ * 2, the offset of its first byte in that sheet, and the offset past its last. Refusals: 1 to 7 and 17, then 9 for sheets, firsts, pasts
+ * in this order.
+ *
+ * The caller keeps: fittings_length bytes at fittings, sheet_length bytes at sheet; sheets_length, firsts_length and pasts_length entries
+ * at sheets, firsts and pasts. The last three are written: none of them overlaps another list. Each needs an entry a name.
+ */
+struct kressedach_names_report kressedach_names(bool fitted,
+                                                const uint8_t *fittings, size_t fittings_length,
+                                                const uint8_t *sheet, size_t sheet_length,
+                                                uint8_t *sheets, size_t sheets_length,
+                                                size_t *firsts, size_t firsts_length,
+                                                size_t *pasts, size_t pasts_length);
 
 struct kressedach_build_report {
     uint8_t number;

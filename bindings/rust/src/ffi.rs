@@ -29,6 +29,15 @@ pub struct NameReport {
     pub past: usize,
 }
 
+/// What asking for all names answers.
+#[repr(C)]
+pub struct NamesReport {
+    pub number: u8,
+    pub sheet: u8,
+    pub place: usize,
+    pub names: usize,
+}
+
 /// What building answers.
 #[repr(C)]
 pub struct BuildReport {
@@ -70,6 +79,20 @@ extern "C" {
         sheet_length: usize,
         shape: usize,
     ) -> NameReport;
+
+    pub fn kressedach_names(
+        fitted: bool,
+        fittings: *const u8,
+        fittings_length: usize,
+        sheet: *const u8,
+        sheet_length: usize,
+        sheets: *mut u8,
+        sheets_length: usize,
+        firsts: *mut usize,
+        firsts_length: usize,
+        pasts: *mut usize,
+        pasts_length: usize,
+    ) -> NamesReport;
 
     pub fn kressedach_build(
         fitted: bool,

@@ -10,6 +10,9 @@ use std::ops::Range;
 /// No dwarf tree has more nodes than this: three times 1024 leaves, less 3.
 pub const MOST_NODES: usize = 3069;
 
+/// No sheets have more names than this, both together.
+pub const MOST_NAMES: usize = 256;
+
 /// The sheets of a call: the customer's, alone or beside a fittings sheet.
 ///
 /// A customer's sheet alone needs no more than a reference to its bytes: every job takes what turns into `Sheets`.
@@ -38,6 +41,12 @@ impl<'a> Sheets<'a> {
     /// As the library takes them: whether there is a fittings sheet, its bytes or none, the customer's.
     fn parts(self) -> (bool, &'a [u8], &'a [u8]) {
         (self.fittings.is_some(), self.fittings.unwrap_or_default(), self.customers)
+    }
+
+    /// A part of one of them: 1 is the fittings sheet, 2 the customer's.
+    fn part(self, sheet: u8, place: Range<usize>) -> &'a [u8] {
+        let holds = if sheet == 1 { self.fittings.unwrap_or_default() } else { self.customers };
+        holds.get(place).unwrap_or_default()
     }
 }
 
@@ -174,7 +183,7 @@ pub fn read<'a>(sheets: impl Into<Sheets<'a>>) -> Result<Read, Refusal> {
 
 /// The names of the sheets' shapes, in the order of their numbers: the fittings' first. They are equal when all their letters are.
 ///
-/// The sheets are read by the proved reader; picking the names out of accepted sheets is plain Rust.
+/// Where they stand is what the proved library says, which reads the sheets once.
 ///
 /// ```
 /// let sheet = b"\x01\0\x02\0\x01\x02\0\x04Port\x02\0\x04PORT\x03\0\x06\0\0\0\x01\xFF\xF2";
@@ -192,18 +201,60 @@ pub fn read<'a>(sheets: impl Into<Sheets<'a>>) -> Result<Read, Refusal> {
 /// As [`read`].
 pub fn names<'a>(sheets: impl Into<Sheets<'a>>) -> Result<Vec<&'a str>, Refusal> {
     let sheets = sheets.into();
-    let count = read(sheets)?.names;
-    let mut names = Vec::with_capacity(count);
-    for sheet in sheets.fittings.into_iter().chain([sheets.customers]) {
-        // after the header, each name is a field: its tag, two bytes of length, its letters; the formula has another tag
-        let mut rest = sheet.get(5..).unwrap_or_default();
-        while let [2, high, low, after @ ..] = rest {
-            let (name, next) = after.split_at_checked(usize::from(u16::from_be_bytes([*high, *low]))).unwrap_or_default();
-            names.push(std::str::from_utf8(name).unwrap_or_default());
-            rest = next;
-        }
-    }
-    Ok(names)
+    let (mut which, mut firsts, mut pasts) = ([0; MOST_NAMES], [0; MOST_NAMES], [0; MOST_NAMES]);
+    let count = names_into(sheets, &mut NameLists { sheets: &mut which, firsts: &mut firsts, pasts: &mut pasts })?;
+    let stands = which.into_iter().zip(firsts).zip(pasts).take(count);
+    Ok(stands.map(|((which, first), past)| std::str::from_utf8(sheets.part(which, first..past)).unwrap_or_default()).collect())
+}
+
+/// Lists that say where names stand, an entry a name, lent to [`names_into`].
+#[derive(Debug)]
+pub struct NameLists<'a> {
+    /// The sheet that holds the name: 1 the fittings sheet, 2 the customer's.
+    pub sheets: &'a mut [u8],
+    /// The offset of its first byte in that sheet.
+    pub firsts: &'a mut [usize],
+    /// The offset past its last.
+    pub pasts: &'a mut [usize],
+}
+
+/// Where the names of the sheets' shapes stand, into three lists; gives their number.
+///
+/// [`MOST_NAMES`] entries are enough for any sheets.
+///
+/// ```
+/// use kressedach::{names_into, NameLists, Sheets};
+/// let fittings = b"\x01\0\x02\0\x01\x02\0\x03lug";
+/// let sheet = b"\x01\0\x02\0\x01\x02\0\x05block\x03\0\x06\0\0\0\x01\xFF\xF0";
+/// let (mut sheets, mut firsts, mut pasts) = ([9; 3], [9; 3], [9; 3]);
+/// let mut lists = NameLists { sheets: &mut sheets, firsts: &mut firsts, pasts: &mut pasts };
+/// assert_eq!(names_into(Sheets::beside(fittings, sheet), &mut lists), Ok(2));
+/// assert_eq!((sheets, firsts, pasts), ([1, 2, 9], [8, 8, 9], [11, 13, 9]));
+/// ```
+///
+/// # Errors
+///
+/// 1 to 7 and 17 as [`read`], then 9 for the lists in their order.
+#[inline]
+pub fn names_into<'a>(sheets: impl Into<Sheets<'a>>, lists: &mut NameLists) -> Result<usize, Refusal> {
+    let (fitted, fittings, sheet) = sheets.into().parts();
+    // SAFETY: slices are pointers to that many entries; those that are written are borrowed by nobody else.
+    let r = unsafe {
+        ffi::kressedach_names(
+            fitted,
+            fittings.as_ptr(),
+            fittings.len(),
+            sheet.as_ptr(),
+            sheet.len(),
+            lists.sheets.as_mut_ptr(),
+            lists.sheets.len(),
+            lists.firsts.as_mut_ptr(),
+            lists.firsts.len(),
+            lists.pasts.as_mut_ptr(),
+            lists.pasts.len(),
+        )
+    };
+    unless_refused(r.number, r.sheet, r.place, r.names)
 }
 
 /// The name of a shape: its bytes as they stand in whichever of the two sheets holds it, by the proved look-up.
@@ -226,8 +277,7 @@ pub fn name<'a>(sheets: impl Into<Sheets<'a>>, shape: usize) -> Result<&'a [u8],
     let (fitted, fittings, sheet) = sheets.parts();
     // SAFETY: a slice is a pointer to that many bytes, which nobody writes while it is borrowed.
     let r = unsafe { ffi::kressedach_name(fitted, fittings.as_ptr(), fittings.len(), sheet.as_ptr(), sheet.len(), shape) };
-    let holds = if r.sheet == 1 { fittings } else { sheet };
-    unless_refused(r.number, r.sheet, r.place, holds.get(r.first..r.past).unwrap_or_default())
+    unless_refused(r.number, r.sheet, r.place, sheets.part(r.sheet, r.first..r.past))
 }
 
 /// Builds the dwarf tree of a sheet.

@@ -3,7 +3,7 @@
 //! Answers and refusals are compared, and every answer list from end to end, with entries before and after it that were not lent.
 //! `KRESSEDACH_CASES` and `KRESSEDACH_SEED` say how many cases and from which seed. A difference prints its case whole.
 
-use kressedach::{WallLists, Which};
+use kressedach::{NameLists, WallLists, Which};
 use peer::lines::{Crossing, Crossings};
 use peer::make::{self, Dice, Form};
 use peer::{say, Refused};
@@ -111,6 +111,10 @@ fn compare(case: &Case) -> Result<u8, String> {
                 let due = peer::name(sheet.theirs(), shape);
                 same(kressedach::name(sheet.ours(), shape).map(<[u8]>::to_vec), due.as_ref().map(Clone::clone))?;
             }
+            // all names, with each list too short in turn, and with none
+            for short in 0..4 {
+                compare_names(sheet, [0, 1, 2].map(|list| if list == short { names.saturating_sub(1) } else { names + list % 2 }))?;
+            }
             same(got, due.as_ref().map(|s| (s.names.len(), s.leaves, s.first, s.past)))
         }
         Case::Build { sheet, rooms } => {
@@ -158,6 +162,23 @@ fn compare(case: &Case) -> Result<u8, String> {
             Ok(number)
         }
     }
+}
+
+/// Where all names stand, and what they are.
+fn compare_names(sheet: &Given, rooms: [usize; 3]) -> Result<u8, String> {
+    let mut sheets = Lent::new(rooms[0], |k| k as u8);
+    let (mut firsts, mut pasts) = (Lent::new(rooms[1], |k| k as usize), Lent::new(rooms[2], |k| k as usize));
+    let mut lists = NameLists { sheets: sheets.list(), firsts: firsts.list(), pasts: pasts.list() };
+    let got = kressedach::names_into(sheet.ours(), &mut lists);
+    let due = peer::names(sheet.theirs(), rooms);
+    let number = same(got, due.as_ref().map(Vec::len))?;
+    sheets.check("sheets", due.iter().flatten().map(|place| place.0))?;
+    firsts.check("firsts", due.iter().flatten().map(|place| place.1))?;
+    pasts.check("pasts", due.iter().flatten().map(|place| place.2))?;
+    let named = peer::read(sheet.theirs()).map(|sheet| sheet.names);
+    let got = kressedach::names(sheet.ours()).map(|names| names.iter().map(|name| name.as_bytes().to_vec()).collect());
+    same(got, named.as_ref().map(Clone::clone))?;
+    Ok(number)
 }
 
 /// The lengths of answer lists that need so much room: mostly enough, sometimes too short.

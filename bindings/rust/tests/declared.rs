@@ -77,10 +77,12 @@ fn the_declarations_agree() {
         let (c, rust): (Vec<_>, Vec<_>) = parameters.split(", ").map(parameter).unzip();
         declared(format!("{} {name}({});", c_type(result), c.join(", ")), format!("pub fn {name}({}) -> {result};", rust.join(", ")));
     }
-    assert!(text("../c/kressedach.h").contains(&format!("#define KRESSEDACH_MOST_NODES {}\n", kressedach::MOST_NODES)));
+    for (what, most) in [("NODES", kressedach::MOST_NODES), ("NAMES", kressedach::MOST_NAMES)] {
+        assert!(text("../c/kressedach.h").contains(&format!("#define KRESSEDACH_MOST_{what} {most}\n")));
+    }
     // nothing is declared that is not exported
     let count = |s: &str, of: &str| s.matches(of).count();
-    assert_eq!((structs.len(), functions.len()), (5, 5), "structs and functions of the host");
-    assert_eq!((count(&header, "_report {"), count(&header, "_report kressedach_")), (5, 5), "of the header");
-    assert_eq!((count(&ffi, "pub struct "), count(&ffi, "pub fn ")), (5, 5), "of ffi.rs");
+    assert_eq!((structs.len(), functions.len()), (6, 6), "structs and functions of the host");
+    assert_eq!((count(&header, "_report {"), count(&header, "_report kressedach_")), (6, 6), "of the header");
+    assert_eq!((count(&ffi, "pub struct "), count(&ffi, "pub fn ")), (6, 6), "of ffi.rs");
 }

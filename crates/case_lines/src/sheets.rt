@@ -1,10 +1,14 @@
-// A sheet made word by word: `header`, `name`, `formula` and `raw` begin a field, or bytes outside of one, and pieces follow.
+// The sheets made word by word: `header`, `name`, `formula` and `raw` begin a field, or bytes outside of one, and pieces follow. What
+// stands before `beside` is the fittings sheet.
 use check::same;
 
-// The bytes of a sheet so far.
+// The bytes of the sheets so far.
 pub struct Draft {
     pub bytes: [u8; 13200],
     pub length: usize,
+    // Whether there is a fittings sheet, and how many of the bytes are its.
+    pub fitted: bool,
+    pub fittings: usize,
     // The tag of the field that is open, and where its bytes begin; 0 where none is.
     pub tag: u8,
     pub body: usize,
@@ -19,6 +23,8 @@ pub fn empty() -> Draft {
     Draft {
         bytes: [0u8; 13200],
         length: 0,
+        fitted: false,
+        fittings: 0,
         tag: 0,
         body: 0,
         half: 17,
@@ -71,6 +77,15 @@ fn opened(d: Draft, tag: u8) -> Draft {
     let mut t = push(push(push(closed(d), tag), 0), 0);
     t.tag = tag;
     t.body = t.length;
+    t
+}
+
+// The bytes so far are a fittings sheet, the first and only one.
+fn beside(d: Draft) -> Draft {
+    let mut t = closed(d);
+    t.good = t.good && !t.fitted;
+    t.fitted = true;
+    t.fittings = t.length;
     t
 }
 
@@ -184,6 +199,9 @@ pub fn word(d: Draft, w: &[u8], times: usize) -> Draft {
     }
     if same(w, b"raw") {
         return closed(d);
+    }
+    if same(w, b"beside") {
+        return beside(d);
     }
     piece(d, w, 0)
 }

@@ -22,6 +22,7 @@ use case_lines::case::READ;
 use case_lines::case::RUN;
 use case_lines::lists::Lists;
 use case_lines::sheets::closed;
+use case_lines::words::between;
 use job_build::BuildAnswer;
 use job_classify::ClassifyAnswer;
 use job_run::RunAnswer;
@@ -34,8 +35,8 @@ fn unfit(number: u8, place: usize) {
 }
 
 // Names, leaves, the formula's first offset and the one past its end.
-fn read(sheet: &[u8]) {
-    match sheet_reading::read_sheets(false, b"", sheet) {
+fn read(fitted: bool, fittings: &[u8], sheet: &[u8]) {
+    match sheet_reading::read_sheets(fitted, fittings, sheet) {
         ReadAnswer::Read {
             names,
             leaves,
@@ -86,13 +87,13 @@ fn records(kinds: &[u16; 3072], firsts: &[u16; 3072], seconds: &[u16; 3072], n: 
     show_u16(b", seconds", seconds, n);
 }
 
-fn build(sheet: &[u8], room: [usize; 8]) {
+fn build(fitted: bool, fittings: &[u8], sheet: &[u8], room: [usize; 8]) {
     let mut kinds = [99u16; 3072];
     let mut firsts = [99u16; 3072];
     let mut seconds = [99u16; 3072];
     let nodes = built(job_build::build(
-        false,
-        b"",
+        fitted,
+        fittings,
         sheet,
         lend_u16(&mut kinds, room[0]),
         lend_u16(&mut firsts, room[1]),
@@ -126,13 +127,13 @@ fn toggled(roots: &[u8; 3072], counts: &[u32; 3072], labels: &[u8; 3072], n: usi
     show_u8(b", labels", labels, nodes);
 }
 
-fn run(sheet: &[u8], toggles: &[u16], room: [usize; 8]) {
+fn run(fitted: bool, fittings: &[u8], sheet: &[u8], toggles: &[u16], room: [usize; 8]) {
     let mut roots = [99u8; 3072];
     let mut counts = [99u32; 3072];
     let mut labels = [99u8; 3072];
     let nodes = ran(job_run::run(
-        false,
-        b"",
+        fitted,
+        fittings,
         sheet,
         toggles,
         lend_u8(&mut roots, room[0]),
@@ -173,15 +174,23 @@ fn faces(start_shapes: &[u16; 3072], end_shapes: &[u16; 3072], n: usize) {
     show_u16(b", end shapes", end_shapes, n);
 }
 
-fn classify(sheet: &[u8], l: &[u32], p: &[i32], s: &[u16], room: [usize; 8]) {
+fn classify(
+    fitted: bool,
+    fittings: &[u8],
+    sheet: &[u8],
+    l: &[u32],
+    p: &[i32],
+    s: &[u16],
+    room: [usize; 8],
+) {
     let mut lines = [99u32; 3072];
     let mut starts = [99i32; 3072];
     let mut ends = [99i32; 3072];
     let mut start_shapes = [99u16; 3072];
     let mut end_shapes = [99u16; 3072];
     let n = classified(job_classify::classify(
-        false,
-        b"",
+        fitted,
+        fittings,
         sheet,
         l,
         p,
@@ -207,20 +216,22 @@ fn takes(job: usize, given: usize, rooms: usize) -> bool {
     }
 }
 
-fn of_toggles(sheet: &[u8], g: Lists) {
+fn of_toggles(fitted: bool, fittings: &[u8], sheet: &[u8], g: Lists) {
     let n = g.lengths;
     let room = g.room;
     let shapes = g.shapes;
-    run(sheet, part_u16(&shapes, n[3]), room);
+    run(fitted, fittings, sheet, part_u16(&shapes, n[3]), room);
 }
 
-fn of_lines(sheet: &[u8], g: Lists) {
+fn of_lines(fitted: bool, fittings: &[u8], sheet: &[u8], g: Lists) {
     let n = g.lengths;
     let room = g.room;
     let lines = g.lines;
     let positions = g.positions;
     let shapes = g.shapes;
     classify(
+        fitted,
+        fittings,
         sheet,
         part_u32(&lines, n[1]),
         part_i32(&positions, n[2]),
@@ -229,13 +240,13 @@ fn of_lines(sheet: &[u8], g: Lists) {
     );
 }
 
-fn call(job: usize, sheet: &[u8], g: Lists) {
+fn call(job: usize, fitted: bool, fittings: &[u8], sheet: &[u8], g: Lists) {
     let room = g.room;
     match job {
-        READ => read(sheet),
-        BUILD => build(sheet, room),
-        RUN => of_toggles(sheet, g),
-        _ => of_lines(sheet, g),
+        READ => read(fitted, fittings, sheet),
+        BUILD => build(fitted, fittings, sheet, room),
+        RUN => of_toggles(fitted, fittings, sheet, g),
+        _ => of_lines(fitted, fittings, sheet, g),
     }
 }
 
@@ -252,7 +263,15 @@ pub fn answer(c: Case) {
         let m = c.marks;
         let s = closed(c.sheet);
         let bytes = s.bytes;
-        call(m.job, part_u8(&bytes, s.length), c.lists);
+        let all = part_u8(&bytes, s.length);
+        let fittings = between(all, 0, s.fittings);
+        call(
+            m.job,
+            s.fitted,
+            fittings,
+            between(all, s.fittings, s.length),
+            c.lists,
+        );
         say(b"\n");
     } else {
         say(b" malformed\n");

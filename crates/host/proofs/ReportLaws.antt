@@ -2,7 +2,6 @@
 use Prim.Native.Nat.{ℕ, _≤_, _<_}
 use mathlib.Core.Path.{_≡_, sym, ap, _∙_}
 use mathlib.Core.List.{List}
-use lib.IntN.{ℤ}
 use borrow.Author.Tests.{le-leb, lt-leb, eq-eqb, ne-eqb}
 use Rattle.outcome.specs.Outcome.{Outcome, given, refused, unfit}
 use Rattle.formula.specs.Formula.{Formula}
@@ -14,6 +13,9 @@ use Rattle.job_name.specs.Naming.{Stand, stand}
 use Rattle.job_name.specs.Named.{placedOf}
 use Rattle.job_name.specs.declared.NameAnswer.{NameAnswer}
 use Rattle.job_name.specs.declared.NameAnswer.the-variants as name
+use Rattle.job_names.specs.NamedAll.{countOf, NamedAll}
+use Rattle.job_names.specs.declared.NamesAnswer.{NamesAnswer}
+use Rattle.job_names.specs.declared.NamesAnswer.the-variants as names
 use Rattle.job_build.specs.Building.{Summary, summary}
 use Rattle.job_build.specs.Built.{builtOf, Built}
 use Rattle.toggles.specs.Toggles.{Answers}
@@ -25,7 +27,7 @@ use Rattle.job_run.specs.declared.RunAnswer.{RunAnswer}
 use Rattle.job_run.specs.declared.RunAnswer.the-variants as run
 use Rattle.job_classify.specs.declared.ClassifyAnswer.{ClassifyAnswer}
 use Rattle.job_classify.specs.declared.ClassifyAnswer.the-variants as classify
-use Rattle.host.specs.Report.{sheetOf, readReport, nameReport, buildReport, runReport, classifyReport, BuildReported, RunReported, ClassifyReported}
+use Rattle.host.specs.Report.{sheetOf, readReport, nameReport, namesReport, buildReport, runReport, classifyReport, NamesReported, BuildReported, RunReported, ClassifyReported}
 
 -- ---- sheetOf, by the number
 
@@ -63,6 +65,24 @@ module _ {o : Outcome Stand} {a : NameAnswer} (said : placedOf a ≡ o) where
 
   pub name-unfit : {k p : ℕ} → a ≡ name.Unfit k p → nameReport (unfit k p) ≡ nameReport o
   name-unfit is = ap nameReport (sym (ap placedOf is) ∙ said)
+
+module _ {o : Outcome (List Stand)} {ss fs ps : List ℕ} {a : NamesAnswer} {ss′ fs′ ps′ : List ℕ} (named : NamedAll o ss fs ps a ss′ fs′ ps′) where
+  names-as : (v : Outcome ℕ) → countOf a ≡ v → NamesReported o ss fs ps (namesReport v) ss′ fs′ ps′
+  names-as v is =
+      record {
+        report = ap namesReport (sym is ∙ named .answer);
+        lists = named .lists;
+      }
+
+  pub names-reported : {n : ℕ} → a ≡ names.Names n → NamesReported o ss fs ps (namesReport (given n)) ss′ fs′ ps′
+  names-reported {n} is = names-as (given n) (ap countOf is)
+
+  pub names-refused : {k p v : ℕ} → v ≡ sheetOf k → a ≡ names.Refused k p
+      → NamesReported o ss fs ps (record { number = k; sheet = v; place = p; names = 0 }) ss′ fs′ ps′
+  names-refused {k} {p} in-sheet is = rw in-sheet (names-as (refused k p) (ap countOf is))
+
+  pub names-unfit : {k p : ℕ} → a ≡ names.Unfit k p → NamesReported o ss fs ps (namesReport (unfit k p)) ss′ fs′ ps′
+  names-unfit {k} {p} is = names-as (unfit k p) (ap countOf is)
 
 module _ {o : Outcome Formula} {ks fs ss : List ℕ} {a : BuildAnswer} {ks′ fs′ ss′ : List ℕ} (built : Built o ks fs ss a ks′ fs′ ss′) where
   build-as : (v : Outcome Summary) → builtOf a ≡ v → BuildReported o ks fs ss (buildReport v) ks′ fs′ ss′

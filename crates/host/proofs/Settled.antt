@@ -3,7 +3,6 @@ use Prim.Native.Nat.{ℕ}
 use native.Mathlib.Omega.{arith}
 use mathlib.Core.Path.{_≡_, refl, sym, _∙_}
 use mathlib.Core.List.{List}
-use lib.IntN.{ℤ}
 use lib.ListN.{length}
 use Rattle.outcome.specs.Outcome.{Outcome, given, refused, unfit, part}
 use Rattle.outcome.specs.Numbered.{Numbered}
@@ -14,7 +13,10 @@ use Rattle.sheet_reading.specs.Reading.{Numbers, numbersOf, told}
 use Rattle.sheet.proofs.Numbered.{reading-numbered}
 use Rattle.lines.specs.Lines.{CrossingLists, AnswerLists, Wall}
 use Rattle.lines.proofs.GivenLaws.{lists-unique}
-use Rattle.job_name.specs.Naming.{placing}
+use Rattle.job_name.specs.Naming.{Stand, placing}
+use Rattle.job_name.proofs.Settled.{name-numbered}
+use Rattle.job_names.specs.Names.{namingAll}
+use Rattle.job_names.proofs.Settled.{names-numbered}
 use Rattle.job_build.specs.Building.{Summary, summaryOf, building}
 use Rattle.job_build.proofs.Settled.{build-numbered}
 use Rattle.toggles.specs.Toggles.{Answers}
@@ -22,9 +24,10 @@ use Rattle.job_run.specs.Running.{running}
 use Rattle.job_run.proofs.Settled.{run-numbered}
 use Rattle.job_classify.specs.Classifying.{classifying}
 use Rattle.job_classify.proofs.Settled.{classify-numbered}
-use Rattle.host.specs.Report.{readReport, nameReport, buildReport, runReport, classifyReport, BuildReported, RunReported, ClassifyReported}
+use Rattle.host.specs.Report.{readReport, nameReport, namesReport, buildReport, runReport, classifyReport, NamesReported, BuildReported, RunReported, ClassifyReported}
 use Rattle.host.specs.declared.ReadReport.{ReadReport}
 use Rattle.host.specs.declared.NameReport.{NameReport}
+use Rattle.host.specs.declared.NamesReport.{NamesReport}
 use Rattle.host.specs.declared.BuildReport.{BuildReport}
 use Rattle.host.specs.declared.RunReport.{RunReport}
 use Rattle.host.specs.declared.ClassifyReport.{ClassifyReport}
@@ -36,6 +39,15 @@ read-report-unique s r q a b = a ∙ sym b
 
 pub name-report-unique : (s : Sheets) (k : ℕ) (r q : NameReport) → r ≡ nameReport (placing s k) → q ≡ nameReport (placing s k) → r ≡ q
 name-report-unique s k r q a b = a ∙ sym b
+
+pub names-report-unique : (o : Outcome (List Stand)) (ss fs ps : List ℕ) (r q : NamesReport) (ss₁ fs₁ ps₁ ss₂ fs₂ ps₂ : List ℕ)
+    → NamesReported o ss fs ps r ss₁ fs₁ ps₁ → NamesReported o ss fs ps q ss₂ fs₂ ps₂ → (r ≡ q) × (ss₁ ≡ ss₂) × (fs₁ ≡ fs₂) × (ps₁ ≡ ps₂)
+names-report-unique o ss fs ps r q ss₁ fs₁ ps₁ ss₂ fs₂ ps₂ a b = (
+  a .report ∙ sym (b .report),
+  a .lists .sheets-list ∙ sym (b .lists .sheets-list),
+  a .lists .firsts-list ∙ sym (b .lists .firsts-list),
+  a .lists .pasts-list ∙ sym (b .lists .pasts-list),
+)
 
 pub build-report-unique : (o : Outcome Formula) (ks fs ss : List ℕ) (r q : BuildReport) (ks₁ fs₁ ss₁ ks₂ fs₂ ss₂ : List ℕ)
     → BuildReported o ks fs ss r ks₁ fs₁ ss₁ → BuildReported o ks fs ss q ks₂ fs₂ ss₂ → (r ≡ q) × (ks₁ ≡ ks₂) × (fs₁ ≡ fs₂) × (ss₁ ≡ ss₂)
@@ -70,6 +82,12 @@ module _ {A : Type 0} where
 pub read-given : (s : Sheets) → readReport (told s) .number ≡ 0 → (v : Numbers) × (told s ≡ given v)
 unfolding told
 read-given s = told-given (λ o. readReport o .number) (λ k p. refl) (λ k p. refl) (told s) (part-numbered numbersOf (reading s) (reading-numbered s))
+
+pub name-given : (s : Sheets) (k : ℕ) → nameReport (placing s k) .number ≡ 0 → (v : Stand) × (placing s k ≡ given v)
+name-given s k = told-given (λ o. nameReport o .number) (λ k p. refl) (λ k p. refl) (placing s k) (name-numbered s k)
+
+pub names-given : (s : Sheets) (a b c : ℕ) → namesReport (part length (namingAll s a b c)) .number ≡ 0 → (v : ℕ) × (part length (namingAll s a b c) ≡ given v)
+names-given s a b c = told-given (λ o. namesReport o .number) (λ k p. refl) (λ k p. refl) (part length (namingAll s a b c)) (part-numbered length (namingAll s a b c) (names-numbered s a b c))
 
 pub build-given : (s : Sheets) (a b c : ℕ) → buildReport (part summaryOf (building s a b c)) .number ≡ 0 → (v : Summary) × (part summaryOf (building s a b c) ≡ given v)
 build-given s a b c =

@@ -5,7 +5,6 @@ use mathlib.Core.Path.{_≡_}
 use mathlib.Core.List.{List}
 use mathlib.Core.Bool.{cond}
 use lib.Dec.{leb, eqb}
-use lib.IntN.{ℤ}
 use lib.ListN.{length}
 use Rattle.outcome.specs.Outcome.{Outcome, given, refused, unfit, part}
 use Rattle.formula.specs.Formula.{Formula}
@@ -13,12 +12,14 @@ use Rattle.sheet_reading.specs.Reading.{Numbers, numbers}
 use Rattle.lines.specs.Lines.{AnswerLists, Wall}
 use Rattle.lines.specs.Given.{WallLists}
 use Rattle.job_name.specs.Naming.{Stand, stand}
+use Rattle.job_names.specs.NamedAll.{NameLists}
 use Rattle.job_build.specs.Building.{Summary, summary, summaryOf}
 use Rattle.job_build.specs.Built.{BuiltLists}
 use Rattle.toggles.specs.Toggles.{Answers}
 use Rattle.job_run.specs.Ran.{RanLists}
 use Rattle.host.specs.declared.ReadReport.{ReadReport}
 use Rattle.host.specs.declared.NameReport.{NameReport}
+use Rattle.host.specs.declared.NamesReport.{NamesReport}
 use Rattle.host.specs.declared.BuildReport.{BuildReport}
 use Rattle.host.specs.declared.RunReport.{RunReport}
 use Rattle.host.specs.declared.ClassifyReport.{ClassifyReport}
@@ -41,6 +42,12 @@ nameReport (given (stand sheet first past)) = record { number = 0; sheet = sheet
 nameReport (refused number place) = record { number = number; sheet = sheetOf number; place = place; first = 0; past = 0 }
 nameReport (unfit number place) = record { number = number; sheet = 1; place = place; first = 0; past = 0 }
 
+-- Where all names stand: how many they are.
+abbrev pub namesReport : Outcome ℕ → NamesReport
+namesReport (given names) = record { number = 0; sheet = 0; place = 0; names = names }
+namesReport (refused number place) = record { number = number; sheet = sheetOf number; place = place; names = 0 }
+namesReport (unfit number place) = record { number = number; sheet = 1; place = place; names = 0 }
+
 abbrev pub buildReport : Outcome Summary → BuildReport
 buildReport (given (summary leaves nodes rounds height)) =
     record { number = 0; sheet = 0; place = 0; leaves = leaves; nodes = nodes; rounds = rounds; height = height }
@@ -62,6 +69,10 @@ classifyReport (unfit number place) =
     record { number = number; sheet = 1; place = place; walls = 0 }
 
 -- Of the job's outcome and the lists as lent: the report r, and the lists after the call.
+pub record NamesReported (o : Outcome (List Stand)) (sheets firsts pasts : List ℕ) (r : NamesReport) (sheets′ firsts′ pasts′ : List ℕ) : Type 0 where
+  pub report : r ≡ namesReport (part length o)
+  pub lists : NameLists o sheets firsts pasts sheets′ firsts′ pasts′
+
 pub record BuildReported (o : Outcome Formula) (kinds firsts seconds : List ℕ) (r : BuildReport) (kinds′ firsts′ seconds′ : List ℕ) : Type 0 where
   pub report : r ≡ buildReport (part summaryOf o)
   pub lists : BuiltLists o kinds firsts seconds kinds′ firsts′ seconds′

@@ -5,14 +5,16 @@ ghost use lib.ListN.{length};
 ghost use Rattle.sheet.specs.Sheet.{sheetsOf};
 ghost use Rattle.sheet_reading.specs.Reading.{told};
 ghost use Rattle.job_name.specs.Naming.{placing};
+ghost use Rattle.job_names.specs.Names.{namingAll};
 ghost use Rattle.job_build.specs.Building.{building};
 ghost use Rattle.job_run.specs.Running.{running};
 ghost use Rattle.lines.specs.Lines.{crossingLists, answerLists};
 ghost use Rattle.job_classify.specs.Classifying.{classifying};
-ghost use Rattle.host.specs.Report.{sheetOf, readReport, nameReport, BuildReported, RunReported, ClassifyReported};
+ghost use Rattle.host.specs.Report.{sheetOf, readReport, nameReport, NamesReported, BuildReported, RunReported, ClassifyReported};
 use job_build::BuildAnswer;
 use job_classify::ClassifyAnswer;
 use job_name::NameAnswer;
+use job_names::NamesAnswer;
 use job_run::RunAnswer;
 use sheet_reading::ReadAnswer;
 
@@ -61,6 +63,14 @@ pub struct NameReport {
     pub place: usize,
     pub first: usize,
     pub past: usize,
+}
+
+#[repr(C)]
+pub struct NamesReport {
+    pub number: u8,
+    pub sheet: u8,
+    pub place: usize,
+    pub names: usize,
 }
 
 // Which sheet the place of a refusal is in: 2, the customer's; or 0, none.
@@ -155,6 +165,41 @@ pub extern "C" fn kressedach_name(
             place,
             first: 0,
             past: 0,
+        },
+    }
+}
+
+// Asks where the name of every shape stands.
+#[no_mangle]
+pub extern "C" fn kressedach_names(
+    fitted: bool,
+    fittings: &[u8],
+    sheet: &[u8],
+    sheets: &mut [u8],
+    firsts: &mut [usize],
+    pasts: &mut [usize],
+) -> NamesReport
+    ensures { λ r. ⌜ NamesReported (namingAll (sheetsOf fitted (now (fittings .entry)) (now (sheet .entry))) (length (now (sheets .entry))) (length (now (firsts .entry))) (length (now (pasts .entry))))
+        (now (sheets .entry)) (now (firsts .entry)) (now (pasts .entry)) r (now (sheets .exit)) (now (firsts .exit)) (now (pasts .exit)) ⌝ }
+{
+    match job_names::place_names(fitted, fittings, sheet, sheets, firsts, pasts) {
+        NamesAnswer::Names { count } => NamesReport {
+            number: 0,
+            sheet: 0,
+            place: 0,
+            names: count,
+        },
+        NamesAnswer::Refused { number, place } => NamesReport {
+            number,
+            sheet: sheet_of(number),
+            place,
+            names: 0,
+        },
+        NamesAnswer::Unfit { number, place } => NamesReport {
+            number,
+            sheet: 1,
+            place,
+            names: 0,
         },
     }
 }

@@ -12,8 +12,8 @@ use Rattle.sheet.specs.Sheet.{Sheets, alone, beside, Sheet, Setting, unaided, b
 use Rattle.sheet.specs.Walk.{walkEnd, walkNames}
 use Rattle.sheet.specs.Guaranteed.{Own, Fitted}
 use Rattle.sheet.proofs.Guaranteed.{own-guaranteed, fitted}
-use Rattle.sheet.proofs.Names.{GoodNames-none, walk-length, walkEnd-more, bytes-between}
-use Rattle.job_name.specs.Naming.{naming, Stand, stand, fieldIn, standOf, placing, bytesOf}
+use Rattle.sheet.proofs.Names.{GoodNames-none, walk-length, bytes-between}
+use Rattle.job_name.specs.Naming.{naming, fieldIn, standOf, placing, bytesOf}
 
 -- the n-th name that a walk passes
 walk-name : (s : List ℕ) (at m n : ℕ) → n < m → getD (walkNames s at m) n [] ≡ between s (walkEnd s at n + 3) (walkEnd s at (suc n))

@@ -1,13 +1,13 @@
 -- The names of a fittings sheet counted: so many are left from an offset on, and with those counted they are all.
 use Prim.Native.Nat.{ℕ, zero, suc, _+_, _≤_, _<_}
 use native.Mathlib.Omega.{arith}
-use mathlib.Core.Path.{_≡_, refl, sym, _∙_}
+use mathlib.Core.Path.{_≡_}
 use mathlib.Core.List.{List}
 use lib.ListN.{length}
 use Rattle.sheet.specs.Sheet.{pastAt}
 use Rattle.sheet.specs.Walk.{walkEnd}
 use Rattle.job_name.specs.Steps.{Whole}
-use Rattle.job_name.proofs.Walking.{walk-on, walk-inside}
+use Rattle.job_name.proofs.Walking.{walk-on}
 
 pub record Counting (f : List ℕ) (m at n : ℕ) : Type 0 where
   pub left : ℕ

@@ -8,11 +8,11 @@ use mathlib.Core.Logic.{_⊎_, inl, inr}
 use lib.Dec.{ltb}
 use lib.ListN.{length}
 use borrow.Author.Tests.{ltb-true, ltb-false}
-use Rattle.outcome.specs.Outcome.{Outcome, given, refused, unfit, need, _>>=_, _>>_, part, ofFittings}
-use Rattle.outcome.proofs.Questions.{need-given, bind-given, given-same, fittings-given, part-given}
-use Rattle.sheet.specs.Sheet.{Sheets, alone, beside, sheetsOf, Sheet, unaided, between, lengthAt, pastAt, own, fittingNames, reading}
+use Rattle.outcome.specs.Outcome.{Outcome, given, refused, unfit, need, _>>=_, _>>_, part}
+use Rattle.outcome.proofs.Questions.{need-given, bind-given, given-same}
+use Rattle.sheet.specs.Sheet.{alone, beside, sheetsOf, Sheet, unaided, between, lengthAt, pastAt, own, fittingNames, reading}
 use Rattle.sheet.specs.Walk.{walkEnd}
-use Rattle.sheet.specs.Guaranteed.{Own, Fitted}
+use Rattle.sheet.specs.Guaranteed.{Own}
 use Rattle.sheet.proofs.Guaranteed.{own-guaranteed, fitted}
 use Rattle.sheet.proofs.Names.{GoodNames-none, walkEnd-more}
 use Rattle.job_name.specs.Naming.{naming, Stand, stand, fieldIn, standOf, placing, bytesOf}

@@ -3,10 +3,11 @@ use Prim.Native.Nat.{ℕ, _+_, _-_, _≤_}
 use native.Mathlib.Omega.{arith}
 use mathlib.Core.Path.{_≡_, refl, sym, ap, _∙_}
 use mathlib.Core.Bool.{Bool, true, false}
-use mathlib.Core.List.{List, [], _++_}
+use mathlib.Core.List.{List, []}
 use lib.ListN.{length, length-append}
+use lib.Dec.{ltb}
 use borrow.Author.Tests.{le-ltb}
-use Rattle.outcome.specs.Outcome.{Outcome, given, refused, unfit, _>>=_, ofFittings}
+use Rattle.outcome.specs.Outcome.{Outcome, given, refused, unfit, need, _>>=_, _>>_, ofFittings}
 use Rattle.outcome.proofs.Questions.{bind-given, fittings-given}
 use Rattle.sheet.specs.Sheet.{Sheets, alone, beside, sheetsOf, Sheet, Setting, unaided, own, fittingNames, reading}
 use Rattle.sheet.specs.Walk.{walkEnd, walkNames}
@@ -17,41 +18,35 @@ use Rattle.sheet_reading.specs.Reading.{told, answerOf}
 use Rattle.sheet_reading.specs.declared.ReadAnswer.{ReadAnswer}
 use Rattle.sheet_reading.specs.declared.ReadAnswer.the-variants as read
 use Rattle.sheet_reading.proofs.Settled.{read-refusal, read-unfit}
-use Rattle.sheet_reading.proofs.Told.{Known, read-known}
-use Rattle.job_name.specs.Naming.{Stand, placing}
-use Rattle.job_name.specs.Steps.{Held, placedIn, lengthGiven, fittedNumber, Whole, ReadAs}
+use Rattle.sheet_reading.proofs.Told.{read-known}
+use Rattle.job_name.specs.Naming.{Stand, fittedIn, standOf, placing}
+use Rattle.job_name.specs.Steps.{Held, placedIn, lengthGiven, fittedNumber, fittedAmong, Whole, ReadAs}
 use Rattle.job_name.proofs.Walking.{walk-on}
 
--- ---- a sheet is refused
+-- ---- what is asked after the sheets are read, of the number of fittings and of what the sheets hold
 
-pair-refused : (f s : List ℕ) (k n p : ℕ) (o : Outcome (List (List ℕ))) → fittingNames f ≡ o → reading (beside f s) ≡ refused n p → placing (beside f s) k ≡ refused n p
-unfolding placing reading
-pair-refused f s k n p (given fs) e h = let g : own (record { fittings = fs }) s ≡ refused n p = rw e at h in rw (e, g)
-pair-refused f s k n p (refused i q) e h = let g : _≡_ {A = Outcome Sheet} (unfit i q) (refused n p) = rw e at h in let z : _≡_ {A = ℕ} 0 1 = cc in absurd (omega arith)
-pair-refused f s k n p (unfit i q) e h = let g : _≡_ {A = Outcome Sheet} (unfit i q) (refused n p) = rw e at h in let z : _≡_ {A = ℕ} 0 1 = cc in absurd (omega arith)
+module _ {A : Type 0} (ask : ℕ → Sheet → Outcome A) where
+  pair-asked : (f s : List ℕ) (o : Outcome (List (List ℕ))) → fittingNames f ≡ o
+      → (fittedIn (beside f s) >>= λ m. reading (beside f s) >>= ask m) ≡ (reading (beside f s) >>= ask (lengthGiven o))
+  unfolding reading
+  pair-asked f s (given fs) e = rw e
+  pair-asked f s (refused n p) e = rw e
+  pair-asked f s (unfit n p) e = rw e
 
-placing-refused : (c : Sheets) (k n p : ℕ) → reading c ≡ refused n p → placing c k ≡ refused n p
+  pub asked-after : (c : Sheets) → (fittedIn c >>= λ m. reading c >>= ask m) ≡ (reading c >>= ask (fittedAmong c))
+  asked-after (alone s) = refl
+  asked-after (beside f s) = pair-asked f s (fittingNames f) refl
+
+pub asked-place : (c : Sheets) (k : ℕ) → placing c k ≡ (reading c >>= λ r. need (ltb k (length (r .names))) 10 0 >> given (standOf c (fittedAmong c) k))
 unfolding placing
-placing-refused (alone s) k n p h = rw h
-placing-refused (beside f s) k n p h = pair-refused f s k n p (fittingNames f) refl h
-
-pair-unfit : (f s : List ℕ) (k n p : ℕ) (o : Outcome (List (List ℕ))) → fittingNames f ≡ o → reading (beside f s) ≡ unfit n p → placing (beside f s) k ≡ unfit n p
-unfolding placing reading
-pair-unfit f s k n p (given fs) e h = let g : own (record { fittings = fs }) s ≡ unfit n p = rw e at h in rw (e, g)
-pair-unfit f s k n p (refused i q) e h = let g : _≡_ {A = Outcome Sheet} (unfit i q) (unfit n p) = rw e at h in let a : i ≡ n = cc in let b : q ≡ p = cc in rw (e, a, b)
-pair-unfit f s k n p (unfit i q) e h = let g : _≡_ {A = Outcome Sheet} (unfit i q) (unfit n p) = rw e at h in let a : i ≡ n = cc in let b : q ≡ p = cc in rw (e, a, b)
-
-placing-unfit : (c : Sheets) (k n p : ℕ) → reading c ≡ unfit n p → placing c k ≡ unfit n p
-unfolding placing
-placing-unfit (alone s) k n p h = rw h
-placing-unfit (beside f s) k n p h = pair-unfit f s k n p (fittingNames f) refl h
+asked-place c k = asked-after (λ m r. need (ltb k (length (r .names))) 10 0 >> given (standOf c m k)) c
 
 module _ (c : Sheets) (k : ℕ) (a : ReadAnswer) (said : answerOf a ≡ told c) where
   pub sheet-refused : (n p : ℕ) → a ≡ read.Refused n p → refused n p ≡ placing c k
-  sheet-refused n p is = sym (placing-refused c k n p (read-refusal c a said n p is))
+  sheet-refused n p is = sym (asked-place c k ∙ rw (read-refusal c a said n p is))
 
   pub sheet-unfit : (n p : ℕ) → a ≡ read.Unfit n p → unfit n p ≡ placing c k
-  sheet-unfit n p is = sym (placing-unfit c k n p (read-unfit c a said n p is))
+  sheet-unfit n p is = sym (asked-place c k ∙ rw (read-unfit c a said n p is))
 
   pub sheets-read : (n l first past : ℕ) → a ≡ read.Read n l first past → ReadAs c n
   sheets-read n l first past is =

@@ -2,14 +2,12 @@
 use Prim.Native.Nat.{ℕ, zero, suc, _+_, _-_, _≤_, _<_}
 use native.Mathlib.Omega.{arith}
 use native.Mathlib.Numerals.{add-one}
-use mathlib.Core.Path.{_≡_, refl, sym, ap, _∙_}
-use mathlib.Core.Bool.{true, false}
+use mathlib.Core.Path.{_≡_, sym, _∙_}
 use mathlib.Core.List.{List}
 use lib.ListN.{length}
-use lib.Dec.{ltb}
 use borrow.Author.Tests.{lt-ltb, le-ltb}
 use Rattle.outcome.specs.Outcome.{given, refused}
-use Rattle.sheet.specs.Sheet.{lengthAt, pastAt}
+use Rattle.sheet.specs.Sheet.{pastAt}
 use Rattle.sheet.specs.Walk.{walkEnd}
 use Rattle.job_name.specs.Naming.{stand}
 use Rattle.job_name.specs.Steps.{Held, placedIn}

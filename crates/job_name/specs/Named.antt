@@ -1,14 +1,10 @@
 -- The promise of asking for a name: the paper's numbers and values for each case of the answer, and the bytes given back.
-use Prim.Native.Nat.{ℕ, suc, _+_, _-_, _≤_}
+use Prim.Native.Nat.{ℕ}
 use mathlib.Core.Path.{_≡_}
-use mathlib.Core.Bool.{cond}
 use mathlib.Core.List.{List, []}
-use lib.Dec.{ltb}
-use lib.ListN.{length}
-use Rattle.outcome.specs.Outcome.{Outcome, given, refused, unfit, need, _>>_}
-use Rattle.sheet.specs.Sheet.{Sheets, between}
-use Rattle.sheet.specs.Walk.{walkEnd}
-use Rattle.job_name.specs.Naming.{naming, Stand, stand, fieldIn, placing}
+use Rattle.outcome.specs.Outcome.{Outcome, given, refused, unfit, _>>_}
+use Rattle.sheet.specs.Sheet.{Sheets}
+use Rattle.job_name.specs.Naming.{naming, Stand, stand, placing}
 use Rattle.job_name.specs.declared.NameAnswer.{NameAnswer}
 use Rattle.job_name.specs.declared.NameAnswer.the-variants as answer
 

@@ -5,7 +5,7 @@ use mathlib.Core.List.{List, []}
 use lib.Dec.{ltb, eqb}
 use lib.ListN.{length, getD}
 use Rattle.outcome.specs.Outcome.{Outcome, given, need, _>>=_, _>>_, part, ofFittings}
-use Rattle.sheet.specs.Sheet.{Sheets, alone, beside, ownSheet, Sheet, between, fittingNames, reading}
+use Rattle.sheet.specs.Sheet.{Sheets, alone, beside, between, fittingNames, reading}
 use Rattle.sheet.specs.Walk.{walkEnd}
 
 -- The sheets first, 1 to 7 and 17; then 10, place 0, for a number past the joined names.

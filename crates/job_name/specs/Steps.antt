@@ -6,7 +6,7 @@ use mathlib.Core.List.{List, []}
 use lib.Dec.{ltb}
 use lib.ListN.{length}
 use Rattle.outcome.specs.Outcome.{Outcome, given, refused, unfit, need, _>>_}
-use Rattle.sheet.specs.Sheet.{Sheets, Sheet, between, fittingNames, reading}
+use Rattle.sheet.specs.Sheet.{Sheets, alone, beside, Sheet, between, fittingNames, reading}
 use Rattle.sheet.specs.Walk.{walkEnd}
 use Rattle.job_name.specs.Naming.{Stand, fieldIn}
 use Rattle.job_name.specs.declared.NameAnswer.{NameAnswer}
@@ -29,6 +29,10 @@ lengthGiven (unfit number place) = 0
 
 abbrev pub fittedNumber : List ℕ → ℕ
 fittedNumber f = lengthGiven (fittingNames f)
+
+abbrev pub fittedAmong : Sheets → ℕ
+fittedAmong (alone s) = 0
+fittedAmong (beside f s) = fittedNumber f
 
 -- A fittings sheet that is read: it ends after its names, 256 at most.
 pub record Whole (f : List ℕ) (m : ℕ) : Type 0 where

@@ -33,7 +33,7 @@ fn after(sheet: &[u8], n: usize) -> usize
 }
 
 // How many names a fittings sheet has that is read.
-fn count(fittings: &[u8]) -> usize
+pub fn count(fittings: &[u8]) -> usize
     requires { ⌜ Whole (now fittings) (fittedNumber (now fittings)) ⌝ }
     ensures { λ r. ⌜ r ≡ fittedNumber (now (fittings .entry)) ⌝ }
 {

@@ -11,11 +11,11 @@ use lib.Dec.{leb, eqb, lit<}
 use borrow.Author.Tests.{lt-ltb, le-ltb, le-leb, lt-leb, eq-eqb, ne-eqb}
 use Rattle.outcome.specs.Outcome.{Outcome, given, refused, unfit, need, _>>_, _>>=_, part}
 use Rattle.formula.specs.Formula.{Formula, leaves}
-use Rattle.sheet.specs.Sheet.{Setting, between, twoAt, lengthAt, pastAt, bytesAt, allGood, taken, codesOf, formulaOf, header, formulaAt, fieldAt, formulaField}
+use Rattle.sheet.specs.Sheet.{Setting, between, twoAt, lengthAt, pastAt, bytesAt, allGood, taken, codesOf, formulaOf, header, nameAt, formulaAt, fieldAt, formulaField}
 use Rattle.sheet.specs.Walk.{walkNames, fittedBy}
 use Rattle.sheet_fields.specs.Fields.{Seen, seen, name, formula}
 use Rattle.sheet_codes.specs.Codes.{formedOf}
-use Rattle.sheet_names.specs.Keys.{whoseIs}
+use Rattle.sheet_names.specs.Keys.{keyOf, whoseIs}
 use Rattle.sheet_names.specs.declared.Whose.{Whose}
 use Rattle.sheet_names.specs.declared.Whose.the-variants.{Customers, Fittings, Nobodys}
 use Rattle.sheet_codes.specs.declared.Formed.{Formed}
@@ -131,8 +131,8 @@ module _ (y z : List ℕ) (r : Whose) (fs ns : List (List ℕ)) (is : r ≡ whos
   pub new-via : r ≡ Nobodys → y ≡ z → not (taken fs z) ≡ true
   new-via e g = rw (← g) (whose-nobody (taken ns y) (taken fs y) (sym e ∙ is) .1)
 
-pub name-via : (y z : List ℕ) (e f : ℕ) → y ≡ z → e ≡ f → given (name y e) ≡ given (name z f)
-name-via y z e f p q = rw (p, q)
+pub name-via : (y z : List ℕ) (e f k : ℕ) → y ≡ z → e ≡ f → k ≡ keyOf y → given (name y e k) ≡ given (name z f (keyOf z))
+name-via y z e f k p q r = rw (r, p, q)
 
 pub ruleset asked = (
   need-no,
@@ -185,6 +185,15 @@ module _ (s : List ℕ) (n m : ℕ) (some : 0 < length s) (tag : getD s 0 0 ≡ 
   pub header-good : m ≡ 1 → given m ≡ header s
   unfolding header lengthAt
   header-good h = let e : m ≡ twoAt s 3 = reads ∙ edition-part s in search asked depth 20
+
+-- every question of a name was answered yes
+module _ (f : List ℕ) (m : ℕ) (s : List ℕ) (at j n : ℕ) (few : m + j < 256) (headed : at + 3 ≤ length s) (is : n ≡ twoAt s (at + 1)) (some : 1 ≤ n) (short : n ≤ 32)
+    (all : at + 3 + n ≤ length s) (good : Bool) (good-is : good ≡ allGood (between s (at + 3) (at + 3 + n))) (yes : good ≡ true)
+    (r : Whose) (whose : r ≡ whoseIs (walkNames f 5 m) (walkNames s 5 j) (between s (at + 3) (at + 3 + n))) (new : r ≡ Nobodys)
+    (k : ℕ) (key : k ≡ keyOf (between s (at + 3) (at + 3 + n))) where
+  pub name-good : given (name (between s (at + 3) (at + 3 + n)) (at + 3 + n) k) ≡ part seen (nameAt (fittedBy f m) s at (walkNames s 5 j))
+  unfolding nameAt lengthAt pastAt bytesAt
+  name-good = rw (walk-length f 5 m, walk-length s 5 j) (search asked depth 20)
 
 -- the codes were judged
 judged-good : (o : Outcome Formula) (l a e : ℕ) → given l ≡ part leaves o → given (formula l a e) ≡ part seen (o >>= λ f. given (formulaField f a e))

@@ -11,11 +11,12 @@ ghost use Rattle.sheet_names.specs.Keys.{NamesRead};
 ghost use Rattle.sheet_fields.specs.Fields.{seen, fieldOf, headOf};
 
 // What one field is: a name or the formula, with the offset of its first byte and the one past its last; the end; or a refusal, its
-// number and place.
+// number and place. A name comes with its key, so that it is worked out once.
 pub enum Field {
     Name {
         first: usize,
         past: usize,
+        key: u32,
     },
     Formula {
         first: usize,
@@ -63,10 +64,15 @@ fn name_field(
         return Field::Refused(1, sheet.len());
     }
     if sheet_names::good_bytes(&sheet[a..e]) {
-        match sheet_names::taken(fittings, fitted, sheet, names, keys, &sheet[a..e]) {
+        let key = sheet_names::key(&sheet[a..e]);
+        match sheet_names::taken(fittings, fitted, sheet, names, keys, &sheet[a..e], key) {
             Whose::Customers => Field::Refused(5, at),
             Whose::Fittings => Field::Refused(17, at),
-            Whose::Nobodys => Field::Name { first: a, past: e },
+            Whose::Nobodys => Field::Name {
+                first: a,
+                past: e,
+                key,
+            },
         }
     } else {
         Field::Refused(4, at)

@@ -11,7 +11,7 @@ use lib.Dec.{leb, eqb}
 use borrow.Author.Tests.{le-leb, lt-leb, eq-eqb, not-true, not-false}
 use Rattle.sheet.specs.Sheet.{mostNames, between, pastAt, bytesAt, allGood, same, taken}
 use Rattle.sheet.specs.Walk.{walkEnd, walkNames}
-use Rattle.sheet_names.specs.Keys.{mixed, keyFrom, keyOf, has, NamesRead, whoseIs}
+use Rattle.sheet_names.specs.Keys.{mixed, keyFrom, keyOf, has, Walkable, NamesRead, whoseIs}
 use Rattle.sheet_names.specs.declared.Whose.the-variants.{Customers, Fittings, Nobodys}
 use Rattle.sheet.proofs.Names.{or-false, or-assoc, same-equal, taken-append, bytes-between, walk-length}
 
@@ -69,15 +69,15 @@ unfolding walkEnd pastAt
 walk-on s at zero = omega arith
 walk-on s at (suc n) = omega (arith, walk-on s (pastAt s at) n)
 
-pub walk-inside : (s : List ℕ) (at n : ℕ) → 0 < n → walkEnd s at n ≤ length s → pastAt s at ≤ length s
+pub walk-inside : (s : List ℕ) (at n : ℕ) → 0 < n → Walkable s at n → pastAt s at ≤ length s
 unfolding walkEnd
 walk-inside s at zero h k = absurd (omega arith)
-walk-inside s at (suc n) h k = omega (arith, walk-on s (pastAt s at) n)
+walk-inside s at (suc n) h k = omega (arith, walk-on s (pastAt s at) n, k .ends h)
 
-pub walk-less : (s : List ℕ) (at n e : ℕ) → 0 < n → e ≡ pastAt s at → walkEnd s at n ≤ length s → walkEnd s e (n - 1) ≤ length s
+pub walk-less : (s : List ℕ) (at n e : ℕ) → 0 < n → e ≡ pastAt s at → Walkable s at n → Walkable s e (n - 1)
 unfolding walkEnd
 walk-less s at zero e h q k = absurd (omega arith)
-walk-less s at (suc n) e h q k = let m : suc n - 1 ≡ n = omega arith in rw (m, q) k
+walk-less s at (suc n) e h q k = let m : suc n - 1 ≡ n = omega arith in record { ends = λ some. rw (m, q) (k .ends h) }
 
 walk-first : (s : List ℕ) (at n : ℕ) → 0 < n → walkNames s at n ≡ bytesAt s at ∷ walkNames s (pastAt s at) (n - 1)
 unfolding walkNames

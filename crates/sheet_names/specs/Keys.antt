@@ -1,5 +1,5 @@
 -- Keys of names, which the reader keeps in an array: names with unlike keys are unlike.
-use Prim.Native.Nat.{ℕ, _+_, _*_, _%_, _≤_}
+use Prim.Native.Nat.{ℕ, _+_, _*_, _%_, _≤_, _<_}
 use mathlib.Core.Path.{_≡_}
 use mathlib.Core.Bool.{Bool, false, cond, _||_}
 use mathlib.Core.List.{List, [], _∷_, _++_, map}
@@ -29,10 +29,14 @@ pub record Keyed (array : List ℕ) (ns : List (List ℕ)) : Type 0 where
   pub are : take (length ns) array ≡ map keyOf ns
   pub sized : length array ≡ mostNames
 
+-- The names that are walked, so many from an offset on, are all there.
+pub record Walkable (s : List ℕ) (at n : ℕ) : Type 0 where
+  pub ends : 0 < n → walkEnd s at n ≤ length s
+
 -- So many names of the fittings sheet f and so many of s were read, from offset 5 on in each, and the array has their keys.
 pub record NamesRead (f : List ℕ) (m : ℕ) (s : List ℕ) (n : ℕ) (array : List ℕ) : Type 0 where
-  pub fittings-inside : walkEnd f 5 m ≤ length f
-  pub inside : walkEnd s 5 n ≤ length s
+  pub fittings-there : Walkable f 5 m
+  pub there : Walkable s 5 n
   pub few : m + n ≤ mostNames
   pub keyed : Keyed array (walkNames f 5 m ++ walkNames s 5 n)
 

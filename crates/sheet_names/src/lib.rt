@@ -5,8 +5,8 @@ ghost use Prim.Native.Nat.{_≤_, _<_};
 ghost use lib.ListN.{length, take};
 ghost use lib.Dec.{eqb};
 ghost use Rattle.sheet.specs.Sheet.{allGood, same as sameBytes, taken as takenIn};
-ghost use Rattle.sheet.specs.Walk.{walkEnd, walkNames};
-ghost use Rattle.sheet_names.specs.Keys.{mixed as mixedIn, keyOf, has, NamesRead, whoseIs};
+ghost use Rattle.sheet.specs.Walk.{walkNames};
+ghost use Rattle.sheet_names.specs.Keys.{mixed as mixedIn, keyOf, has, Walkable, NamesRead, whoseIs};
 
 // Is each byte of a name good?
 pub fn good_bytes(b: &[u8]) -> bool
@@ -52,7 +52,7 @@ fn same(a: &[u8], b: &[u8]) -> bool
 
 // Is a name among the first names of the sheet? The fields before are walked again.
 fn among(sheet: &[u8], names: usize, name: &[u8]) -> bool
-    requires { ⌜ walkEnd (now sheet) 5 names ≤ length (now sheet) ⌝ }
+    requires { ⌜ Walkable (now sheet) 5 names ⌝ }
     ensures { λ r. ⌜ r ≡ takenIn (walkNames (now (sheet .entry)) 5 names) (now (name .entry)) ⌝ }
 {
     let mut at = 5;
@@ -119,7 +119,7 @@ pub enum Whose {
 
 // Whose name it is already, byte by byte.
 fn compared(fittings: &[u8], fitted: usize, sheet: &[u8], names: usize, name: &[u8]) -> Whose
-    requires { ⌜ (walkEnd (now fittings) 5 fitted ≤ length (now fittings)) × (walkEnd (now sheet) 5 names ≤ length (now sheet)) ⌝ }
+    requires { ⌜ Walkable (now fittings) 5 fitted × Walkable (now sheet) 5 names ⌝ }
     ensures { λ r. ⌜ r ≡ whoseIs (walkNames (now (fittings .entry)) 5 fitted) (walkNames (now (sheet .entry)) 5 names) (now (name .entry)) ⌝ }
 {
     if among(sheet, names, name) {
@@ -131,7 +131,7 @@ fn compared(fittings: &[u8], fitted: usize, sheet: &[u8], names: usize, name: &[
     Whose::Nobodys
 }
 
-// Whose name it is already. Its key only spares the comparison: names with one key are compared byte by byte.
+// Whose name it is already. Its key, which the caller has, only spares the comparison: names with one key are compared byte by byte.
 pub fn taken(
     fittings: &[u8],
     fitted: usize,
@@ -139,11 +139,12 @@ pub fn taken(
     names: usize,
     keys: &[u32; 256],
     name: &[u8],
+    key: u32,
 ) -> Whose
-    requires { ⌜ NamesRead (now fittings) fitted (now sheet) names (now keys) ⌝ }
+    requires { ⌜ NamesRead (now fittings) fitted (now sheet) names (now keys) × (key ≡ keyOf (now name)) ⌝ }
     ensures { λ r. ⌜ r ≡ whoseIs (walkNames (now (fittings .entry)) 5 fitted) (walkNames (now (sheet .entry)) 5 names) (now (name .entry)) ⌝ }
 {
-    if key_among(keys, fitted + names, key(name)) {
+    if key_among(keys, fitted + names, key) {
         return compared(fittings, fitted, sheet, names, name);
     }
     Whose::Nobodys

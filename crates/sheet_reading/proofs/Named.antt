@@ -1,15 +1,15 @@
 -- A name more of a sheet, whatever it is read beside: where it ends, and its key put into the array.
-use Prim.Native.Nat.{ℕ, suc, _+_, _-_, _≤_, _<_}
+use Prim.Native.Nat.{ℕ, suc, _+_, _≤_, _<_}
 use native.Mathlib.Omega.{arith}
 use native.Mathlib.Numerals.{add-one}
 use mathlib.Core.Path.{_≡_, sym, ap, _∙_}
 use mathlib.Core.List.{List, [], _∷_, _++_, map, map-append, append-assoc}
-use lib.ListN.{length, take, set, length-set, length-take, length-drop, length-append}
+use lib.ListN.{length, take, set, length-set, length-append}
 use lib.Seq.{take-suc-set}
-use Rattle.sheet.specs.Sheet.{Setting, nameField, between, lengthAt, pastAt, bytesAt}
+use Rattle.sheet.specs.Sheet.{Setting, nameField, between, pastAt, bytesAt}
 use Rattle.sheet.specs.Walk.{walkEnd, walkNames}
 use Rattle.sheet_names.specs.Keys.{keyOf, Keyed}
-use Rattle.sheet.proofs.Names.{walk-length, walkNames-more, walkEnd-more, length-bytesAt}
+use Rattle.sheet.proofs.Names.{walk-length, walkNames-more, walkEnd-more}
 use Rattle.sheet.proofs.Fields.{IsName}
 
 module _ (w : Setting) (s : List ℕ) (at n a e : ℕ) (it : IsName w s at (walkNames s 5 n) (nameField (between s a e) e)) where
@@ -21,12 +21,6 @@ module _ (w : Setting) (s : List ℕ) (at n a e : ℕ) (it : IsName w s at (walk
 
   pub named-inside : e ≤ length s
   named-inside = omega (arith, it .inside, past)
-
-  -- a name has a byte at least
-  pub named-ordered : a ≤ e
-  named-ordered =
-      let l : length (between s a e) ≡ lengthAt s at = ap length bytes ∙ length-bytesAt s at (it .inside) in
-      omega (arith, simp (length-take, length-drop) at l, it .some)
 
   pub named-room : length (w .fittings) + n < 256
   named-room = omega (arith, it .room, walk-length s 5 n)

@@ -2,16 +2,16 @@
 use Prim.Native.Nat.{ℕ, suc, _+_, _-_, _≤_, _<_}
 use native.Mathlib.Omega.{arith}
 use mathlib.Core.Path.{_≡_, refl, sym, ap, _∙_}
-use mathlib.Core.Bool.{Bool, true, false}
+use mathlib.Core.Bool.{true, false}
 use mathlib.Core.List.{List, [], _++_, append-nil}
 use mathlib.Core.Logic.{_⊎_, inl, inr}
 use lib.ListN.{length, set, length-append}
 use Rattle.outcome.specs.Outcome.{Outcome, given, refused, unfit, _>>_, _>>=_, part}
 use Rattle.formula.specs.Formula.{Formula, leaves}
 use Rattle.sheet.specs.Sheet as paper
-use Rattle.sheet.specs.Sheet.{alone, beside, sheetsOf, Sheet, Setting, nameField, formulaField, endField, between, fieldAt, onward, fields, header, own, reading}
+use Rattle.sheet.specs.Sheet.{Sheet, Setting, nameField, formulaField, endField, between, fieldAt, onward, fields, header, own}
 use Rattle.sheet.specs.Walk.{walkEnd, walkNames, fittedBy}
-use Rattle.sheet_reading.specs.Reading.{Numbers, numbers, numbersOf, told}
+use Rattle.sheet_reading.specs.Reading.{Numbers, numbers, numbersOf}
 use Rattle.sheet_reading.specs.Steps.{toldOwn, toldFrom, toldEnd, FittingsRead}
 use Rattle.sheet_fields.specs.Fields.{Seen, name, formula, finish, seen, fieldOf, headOf}
 use Rattle.sheet_names.specs.Keys.{keyOf, NamesRead}
@@ -22,14 +22,14 @@ use Rattle.sheet_fields.specs.declared.Head.the-variants as head
 use Rattle.outcome.proofs.Questions.{given-same, part-given, part-refused}
 use Rattle.sheet.proofs.Names.{walk-length}
 use Rattle.sheet.proofs.Fields.{IsName, IsFormula, header-given, field-given, end-given}
-use Rattle.sheet_reading.proofs.Named.{named-inside, named-ordered, named-room, named-more, named-here, named-keyed}
+use Rattle.sheet_reading.proofs.Named.{named-inside, named-room, named-more, named-here, named-keyed}
 
 -- ---- seen: the field from what is seen of it
 
-pub seen-name : (v : paper.Field) (x : List ℕ) (e : ℕ) → seen v ≡ name x e → v ≡ nameField x e
-seen-name (nameField y d) x e h = cc
-seen-name (formulaField f a d) x e h = let z : _≡_ {A = ℕ} 0 1 = cc in absurd (omega arith)
-seen-name endField x e h = let z : _≡_ {A = ℕ} 0 1 = cc in absurd (omega arith)
+pub seen-name : (v : paper.Field) (x : List ℕ) (e k : ℕ) → seen v ≡ name x e k → (v ≡ nameField x e) × (k ≡ keyOf x)
+seen-name (nameField y d) x e k h = let i : y ≡ x = cc in let j : keyOf y ≡ k = cc in (cc, sym j ∙ ap keyOf i)
+seen-name (formulaField f a d) x e k h = let z : _≡_ {A = ℕ} 0 1 = cc in absurd (omega arith)
+seen-name endField x e k h = let z : _≡_ {A = ℕ} 0 1 = cc in absurd (omega arith)
 
 pub seen-formula : (v : paper.Field) (l a e : ℕ) → seen v ≡ formula l a e → (f : Formula) × (v ≡ formulaField f a e) × (leaves f ≡ l)
 seen-formula (nameField y d) l a e h = let z : _≡_ {A = ℕ} 0 1 = cc in absurd (omega arith)
@@ -60,9 +60,9 @@ module _ (f : List ℕ) (m : ℕ) (s : List ℕ) (r : Field) (n l a e : ℕ) (sa
       let d : endField ≡ g .0 = given-same _ _ (end-given (fittedBy f m) s e (walkNames s 5 n) (g .0) (g .1) .1) in
       sym (g .2) ∙ ap seen (sym d)
 
-  pub closed-name : (b d : ℕ) (v : Outcome Numbers) → r ≡ field.Name b d → v ≡ toldEnd (fittedBy f m) s (walkNames s 5 n) l a e
-  closed-name b d v is =
-      let g : name (between s b d) d ≡ finish = never _ (rw is at said) in
+  pub closed-name : (b d k : ℕ) (v : Outcome Numbers) → r ≡ field.Name b d k → v ≡ toldEnd (fittedBy f m) s (walkNames s 5 n) l a e
+  closed-name b d k v is =
+      let g : name (between s b d) d k ≡ finish = never _ (rw is at said) in
       let z : _≡_ {A = ℕ} 0 1 = cc in
       absurd (omega arith)
 
@@ -106,11 +106,16 @@ module _ (f : List ℕ) (m : ℕ) (s : List ℕ) (r : Field) (at n : ℕ) (said 
         h ∙ sym (next (given (formulaField (k .0) a e)) (g .1 ∙ ap given (k .1))
         ∙ rw (end-told (fieldAt (fittedBy f m) s e (walkNames s 5 n) true) (record { names = walkNames f 5 m ++ walkNames s 5 n; formula = k .0; first = a; past = e }), k .2, length-append (walkNames f 5 m) (walkNames s 5 n)))
 
-  module _ (a e : ℕ) (is : r ≡ field.Name a e) where
+  module _ (a e k : ℕ) (is : r ≡ field.Name a e k) where
     it-is : fieldAt (fittedBy f m) s at (walkNames s 5 n) false ≡ given (nameField (between s a e) e)
     it-is =
-        let g = part-given seen (fieldAt (fittedBy f m) s at (walkNames s 5 n) false) (name (between s a e) e) (rw is at said) in
-        g .1 ∙ ap given (seen-name (g .0) (between s a e) e (g .2))
+        let g = part-given seen (fieldAt (fittedBy f m) s at (walkNames s 5 n) false) (name (between s a e) e k) (rw is at said) in
+        g .1 ∙ ap given (seen-name (g .0) (between s a e) e k (g .2) .0)
+
+    key : k ≡ keyOf (between s a e)
+    key =
+        let g = part-given seen (fieldAt (fittedBy f m) s at (walkNames s 5 n) false) (name (between s a e) e k) (rw is at said) in
+        seen-name (g .0) (between s a e) e k (g .2) .1
 
     it : IsName (fittedBy f m) s at (walkNames s 5 n) (nameField (between s a e) e)
     it = is-name (fittedBy f m) s at (walkNames s 5 n) (between s a e) e (field-given (fittedBy f m) s at (walkNames s 5 n) (nameField (between s a e) e) it-is)
@@ -118,21 +123,18 @@ module _ (f : List ℕ) (m : ℕ) (s : List ℕ) (r : Field) (at n : ℕ) (said 
     pub name-room : m + n < 256
     name-room = omega (arith, named-room (fittedBy f m) s at n a e it, walk-length f 5 m)
 
-    pub name-inside : e ≤ length s
+    name-inside : e ≤ length s
     name-inside = named-inside (fittedBy f m) s at n a e it
-
-    pub name-ordered : a ≤ e
-    name-ordered = named-ordered (fittedBy f m) s at n a e it
 
     module _ (here : at ≡ walkEnd s 5 n) where
       pub name-here : e ≡ walkEnd s 5 (n + 1)
       name-here = named-here (fittedBy f m) s at n a e it here
 
-      pub name-known : (ks : List ℕ) (k : ℕ) → NamesRead f m s n ks → k ≡ keyOf (between s a e) → NamesRead f m s (n + 1) (set ks (m + n) k)
-      name-known ks k known key =
+      pub name-known : (ks : List ℕ) → NamesRead f m s n ks → NamesRead f m s (n + 1) (set ks (m + n) k)
+      name-known ks known =
           record {
-            fittings-inside = known .fittings-inside;
-            inside = omega (arith, name-inside, name-here);
+            fittings-there = known .fittings-there;
+            there = record { ends = λ some. omega (arith, name-inside, name-here) };
             few = omega (arith, name-room);
             keyed = named-keyed (fittedBy f m) s at n a e it here (walkNames f 5 m) m (walk-length f 5 m) ks k name-room (known .keyed) key;
           }
@@ -156,36 +158,13 @@ module _ (s : List ℕ) (r : Head) (said : headOf r ≡ header s) where
   unfolding toldOwn own
   head-refused f m k p is = rw (← said, is)
 
-  -- beside no fittings sheet
-  pub alone-good : (ed : ℕ) (v : Outcome Numbers) → r ≡ head.Good ed → v ≡ toldFrom (fittedBy s 0) 257 s 5 [] → v ≡ told (alone s)
-  unfolding toldFrom told reading own walkNames
-  alone-good ed v is e = e ∙ rw (← said, is)
-
-  pub alone-refused : (k p : ℕ) → r ≡ head.Refused k p → refused k p ≡ told (alone s)
-  unfolding told reading own
-  alone-refused k p is = rw (← said, is)
-
-  -- no name is read yet
-  pub alone-known : (ed : ℕ) (ks : List ℕ) → r ≡ head.Good ed → length ks ≡ 256 → NamesRead s 0 s 0 ks
-  unfolding walkEnd walkNames
-  alone-known ed ks is sized =
-      let i : 5 ≤ length s = head-inside ed is in
-      record { fittings-inside = i; inside = i; few = omega arith; keyed = record { are = refl; sized = sized } }
-
+  -- none of its names is read yet
   pub beside-known : (f : List ℕ) (m : ℕ) (ed : ℕ) (ks : List ℕ) → r ≡ head.Good ed → FittingsRead f m ks → NamesRead f m s 0 ks
-  unfolding walkEnd walkNames
+  unfolding walkNames
   beside-known f m ed ks is known =
       record {
-        fittings-inside = known .inside;
-        inside = head-inside ed is;
+        fittings-there = known .there;
+        there = record { ends = λ some. absurd (omega arith) };
         few = omega (arith, known .few);
         keyed = rw (append-nil (walkNames f 5 m)) (known .keyed);
       }
-
--- ---- the flag
-
-pub flag-beside : (b : Bool) (f s : List ℕ) (v : Outcome Numbers) → b ≡ true → v ≡ told (beside f s) → v ≡ told (sheetsOf b f s)
-flag-beside b f s v e h = rw e h
-
-pub flag-alone : (b : Bool) (f s : List ℕ) (v : Outcome Numbers) → b ≡ false → v ≡ told (alone s) → v ≡ told (sheetsOf b f s)
-flag-alone b f s v e h = rw e h

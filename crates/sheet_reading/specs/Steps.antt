@@ -1,13 +1,13 @@
 -- What is told from a field on, and what is read of a fittings sheet: what the reader's functions promise each other.
 use Prim.Native.Nat.{ℕ, _+_, _≤_}
 use mathlib.Core.Path.{_≡_}
-use mathlib.Core.Bool.{true}
-use mathlib.Core.List.{List}
+use mathlib.Core.Bool.{Bool, true, false}
+use mathlib.Core.List.{List, []}
 use lib.ListN.{length}
 use Rattle.outcome.specs.Outcome.{Outcome, given, refused, _>>_, part}
-use Rattle.sheet.specs.Sheet.{Setting, mostNames, fieldAt, fields, own}
-use Rattle.sheet.specs.Walk.{walkEnd, walkNames}
-use Rattle.sheet_names.specs.Keys.{Keyed}
+use Rattle.sheet.specs.Sheet.{Setting, mostNames, fieldAt, fields, own, fittingNames}
+use Rattle.sheet.specs.Walk.{walkNames}
+use Rattle.sheet_names.specs.Keys.{Keyed, Walkable}
 use Rattle.sheet_reading.specs.Reading.{Numbers, numbers, numbersOf}
 use Rattle.sheet_reading.specs.declared.Fittings.{Fittings}
 use Rattle.sheet_reading.specs.declared.Fittings.the-variants.{Names, Refused}
@@ -25,9 +25,14 @@ toldEnd w s ns leaves first past = fieldAt w s past ns true >> given (numbers (l
 
 -- ---- The fittings sheet
 
+-- Its names; none where there is no fittings sheet.
+abbrev pub fittingsOf : Bool → List ℕ → Outcome (List (List ℕ))
+fittingsOf true f = fittingNames f
+fittingsOf false f = given []
+
 -- So many names of the fittings sheet f were read, from offset 5 on, and the array has their keys.
 pub record FittingsRead (f : List ℕ) (m : ℕ) (array : List ℕ) : Type 0 where
-  pub inside : walkEnd f 5 m ≤ length f
+  pub there : Walkable f 5 m
   pub few : m ≤ mostNames
   pub keyed : Keyed array (walkNames f 5 m)
 

@@ -5,11 +5,11 @@ ghost use mathlib.Core.Path.{_≡_};
 ghost use mathlib.Core.List.{[]};
 ghost use Prim.Native.Nat.{_≤_};
 ghost use lib.ListN.{length};
-ghost use Rattle.sheet.specs.Sheet.{alone, beside, sheetsOf, fittingFields, fittingNames};
+ghost use Rattle.sheet.specs.Sheet.{sheetsOf, fittingFields, fittingNames};
 ghost use Rattle.sheet.specs.Walk.{walkNames, fittedBy};
 ghost use Rattle.sheet_names.specs.Keys.{NamesRead};
 ghost use Rattle.sheet_reading.specs.Reading.{told, answerOf};
-ghost use Rattle.sheet_reading.specs.Steps.{toldOwn, toldFrom, toldEnd, FittingsRead, FittingsAre};
+ghost use Rattle.sheet_reading.specs.Steps.{toldOwn, toldFrom, toldEnd, fittingsOf, FittingsRead, FittingsAre};
 
 // What reading the sheets answers; `Unfit` is a refusal of the fittings sheet.
 pub enum ReadAnswer {
@@ -39,32 +39,22 @@ enum Fittings {
 pub fn read_sheets(fitted: bool, fittings: &[u8], sheet: &[u8]) -> ReadAnswer
     ensures { λ r. ⌜ answerOf r ≡ told (sheetsOf fitted (now (fittings .entry)) (now (sheet .entry))) ⌝ }
 {
-    if fitted {
-        return read_beside(fittings, sheet);
-    }
-    read_alone(sheet)
-}
-
-// Reads a customer's sheet alone.
-fn read_alone(sheet: &[u8]) -> ReadAnswer
-    ensures { λ r. ⌜ answerOf r ≡ told (alone (now (sheet .entry))) ⌝ }
-{
     let mut keys: [u32; 256] = [0; 256];
-    match sheet_fields::header(sheet) {
-        Head::Good(_) => read_fields(sheet, 0, sheet, &mut keys),
-        Head::Refused(number, place) => ReadAnswer::Refused { number, place },
-    }
-}
-
-// Reads a fittings sheet, and beside it the customer's.
-fn read_beside(fittings: &[u8], sheet: &[u8]) -> ReadAnswer
-    ensures { λ r. ⌜ answerOf r ≡ told (beside (now (fittings .entry)) (now (sheet .entry))) ⌝ }
-{
-    let mut keys: [u32; 256] = [0; 256];
-    match fit(fittings, &mut keys) {
-        Fittings::Names(fitted) => read_own(fittings, fitted, sheet, &mut keys),
+    match fit_first(fitted, fittings, &mut keys) {
+        Fittings::Names(count) => read_own(fittings, count, sheet, &mut keys),
         Fittings::Refused(number, place) => ReadAnswer::Unfit { number, place },
     }
+}
+
+// Reads the fittings sheet where there is one; where there is none it has no names.
+fn fit_first(fitted: bool, fittings: &[u8], keys: &mut [u32; 256]) -> Fittings
+    requires { ⌜ length (now keys) ≡ 256 ⌝ }
+    ensures { λ r. ⌜ FittingsAre (now (fittings .entry)) (fittingsOf fitted (now (fittings .entry))) (now (keys .exit)) r ⌝ }
+{
+    if fitted {
+        return fit(fittings, keys);
+    }
+    Fittings::Names(0)
 }
 
 // Reads a fittings sheet; the array then has the keys of its names.
@@ -87,8 +77,12 @@ fn fit_fields(sheet: &[u8], keys: &mut [u32; 256]) -> Fittings
     let mut names: usize = 0;
     loop {
         match sheet_fields::one_fitting(sheet, at, names, keys) {
-            Field::Name { first, past } => {
-                keys[names] = sheet_names::key(&sheet[first..past]);
+            Field::Name {
+                first: _,
+                past,
+                key,
+            } => {
+                keys[names] = key;
                 at = past;
                 names += 1;
             }
@@ -129,8 +123,12 @@ fn read_fields(fittings: &[u8], fitted: usize, sheet: &[u8], keys: &mut [u32; 25
     let mut names: usize = 0;
     loop {
         match sheet_fields::one_field(fittings, fitted, sheet, at, names, keys, false) {
-            Field::Name { first, past } => {
-                keys[fitted + names] = sheet_names::key(&sheet[first..past]);
+            Field::Name {
+                first: _,
+                past,
+                key,
+            } => {
+                keys[fitted + names] = key;
                 at = past;
                 names += 1;
             }
@@ -176,7 +174,11 @@ fn closed(
             past,
         },
         Field::Refused(number, place) => ReadAnswer::Refused { number, place },
-        Field::Name { first: _, past: _ } => ReadAnswer::Refused {
+        Field::Name {
+            first: _,
+            past: _,
+            key: _,
+        } => ReadAnswer::Refused {
             number: 2,
             place: past,
         },

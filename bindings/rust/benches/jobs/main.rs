@@ -23,6 +23,9 @@ fn main() {
     let said: Vec<Said> = rows.into_iter().map(|mut row| line(&mut row)).collect();
     verdict(&said, "above 1.5 times the plain one", |row| row.plain > 1.5);
     verdict(&said, "at 256 leaves or more less than 5 times faster than walking", |row| row.walk.is_some_and(|walk| walk < 5.0));
+    let [mut pair, mut one] = rows::pair_and_one();
+    let times = best(&mut [&mut pair, &mut one]);
+    println!("\nReading 128 names beside 128 fittings takes {:.2} of the time of 256 in one sheet.\n", times[0] / times[1]);
     for leaves in [256, 1024] {
         let walks = said.iter().filter(|row| row.leaves == leaves).filter_map(|row| row.walk);
         let (least, most) = walks.fold((f64::INFINITY, 0.0), |(least, most): (f64, f64), walk| (least.min(walk), most.max(walk)));

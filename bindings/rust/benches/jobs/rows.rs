@@ -51,6 +51,7 @@ fn sheet(formula: &str, leaves: usize) -> (Vec<u8>, usize) {
 /// All rows. Toggle lists have a tenth of `crossings`.
 pub fn all(crossings: usize) -> Vec<Row> {
     let mut rows: Vec<Row> = SIZES.into_iter().map(|leaves| read("chain", leaves)).collect();
+    rows.push(read_pair("chain", 128, 256));
     for formula in ["chain", "balanced"] {
         rows.extend(SIZES.into_iter().map(|leaves| build(formula, leaves)));
     }
@@ -95,6 +96,45 @@ fn read(formula: &'static str, leaves: usize) -> Row {
             assert_eq!((read.names, read.leaves, read.formula), (due.names.len(), due.leaves, due.first..due.past));
         }),
     }
+}
+
+/// The sheet of so many leaves, its first names taken out into a fittings sheet.
+fn pair(formula: &str, fitted: usize, leaves: usize) -> (Vec<u8>, Vec<u8>) {
+    let (sheet, count) = sheet(formula, leaves);
+    let names: Vec<String> = (0..count).map(|shape| format!("rib{shape:03}")).collect();
+    let codes = &sheet[make::fittings(&names).len()..];
+    (make::fittings(&names[..fitted]), [&make::fittings(&names[fitted..]), codes].concat())
+}
+
+fn read_pair(formula: &'static str, fitted: usize, leaves: usize) -> Row {
+    let (fittings, own) = pair(formula, fitted, leaves);
+    let (a, b, c) = ((fittings.clone(), own.clone()), (fittings.clone(), own.clone()), [&fittings[..], &own].concat());
+    Row {
+        job: "read",
+        formula,
+        leaves,
+        lists: format!("{} and {} bytes", fittings.len(), own.len()),
+        items: leaves,
+        library: Box::new(move || _ = black_box(kressedach::read(black_box(kressedach::Sheets::beside(&a.0, &a.1))))),
+        plain: Box::new(move || _ = black_box(plain::read_pair(black_box(&b.0), black_box(&b.1)))),
+        walk: None,
+        copy: Box::new(copying(c)),
+        check: Box::new(move || {
+            let read = kressedach::read(kressedach::Sheets::beside(&fittings, &own)).unwrap();
+            assert_eq!(plain::read_pair(&fittings, &own), Ok((read.names, read.leaves, read.formula.start, read.formula.end)));
+            let due = peer::read(Sheets { fittings: Some(&fittings), own: &own }).unwrap();
+            assert_eq!((read.names, read.leaves, read.formula), (due.names.len(), due.leaves, due.first..due.past));
+        }),
+    }
+}
+
+/// Reading 128 and 128 names of a pair, and the same 256 of one sheet.
+pub fn pair_and_one() -> [Box<dyn FnMut()>; 2] {
+    let ((fittings, own), (one, _)) = (pair("chain", 128, 256), sheet("chain", 256));
+    [
+        Box::new(move || _ = black_box(kressedach::read(black_box(kressedach::Sheets::beside(&fittings, &own))))),
+        Box::new(move || _ = black_box(kressedach::read(black_box(&one)))),
+    ]
 }
 
 fn build(formula: &'static str, leaves: usize) -> Row {

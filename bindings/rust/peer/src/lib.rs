@@ -69,6 +69,24 @@ pub fn name(sheets: Sheets, shape: usize) -> Result<Vec<u8>, Refused> {
     sheet::read(sheets)?.names.get(shape).cloned().map_or_else(|| refuse(10, 0), Ok)
 }
 
+/// Asking for all names: for each the sheet that holds it, its first offset there and the one past its end. After the header, names
+/// follow each other, each with three bytes before it; the fittings sheet ends after its own.
+pub fn names(sheets: Sheets, rooms: [usize; 3]) -> Result<Vec<(u8, usize, usize)>, Refused> {
+    let names = sheet::read(sheets)?.names;
+    enough(rooms, [names.len(); 3])?;
+    let fittings = sheets.fittings.map_or(5, <[u8]>::len);
+    let (mut sheet, mut at) = (1, 5);
+    let mut places = Vec::new();
+    for name in names {
+        if sheet == 1 && at == fittings {
+            (sheet, at) = (2, 5);
+        }
+        places.push((sheet, at + 3, at + 3 + name.len()));
+        at += 3 + name.len();
+    }
+    Ok(places)
+}
+
 /// The sheets' formula and its dwarf tree, unless that is too high.
 fn contracted(sheets: Sheets) -> Result<(Sheet, Dwarf), Refused> {
     let sheet = sheet::read(sheets)?;

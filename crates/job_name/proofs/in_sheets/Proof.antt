@@ -1,6 +1,5 @@
 -- `job_name::in_sheets` meets its contract, by the flag.
 use Rattle.job_name.proofs.Placing.{whole, less, held-beside, few-beside, placed-beside, held-alone, few-alone, placed-alone}
-use borrow.Author.Needs.{needs}
 use Rattle.job_name.proofs.in_sheets.Statement.{statement}
 use Rattle.job_name.proofs.in_sheets.Tie as tie
 

@@ -1,7 +1,7 @@
 -- `sheet_fields::name_field` meets its contract: at each return the tests that led there answer the definition's questions one by one.
 use Rattle.sheet.specs.Sheet as paper
 use Rattle.sheet.proofs.Names.{walk-length}
-use Rattle.sheet_fields.proofs.Asked.{asked}
+use Rattle.sheet_fields.proofs.Asked.{asked, name-good}
 use Rattle.sheet.proofs.Bounds.{bounds}
 use borrow.Author.Needs.{needs}
 use Rattle.sheet_fields.proofs.name_field.Statement.{statement}
@@ -54,6 +54,18 @@ part-good-bytes-end c = search needs
 good-bytes-requires : tie.Need-good-bytes-requires
 good-bytes-requires c κs = search needs
 
+sub-key : tie.Need-sub-key
+sub-key c = search needs
+
+part-key-start : tie.Need-part-key-start
+part-key-start c = search needs
+
+part-key-end : tie.Need-part-key-end
+part-key-end c = search needs
+
+key-requires : tie.Need-key-requires
+key-requires c κs = search needs
+
 sub-taken : tie.Need-sub-taken
 sub-taken c = search needs
 
@@ -84,8 +96,7 @@ unfolding paper.nameAt paper.lengthAt paper.pastAt paper.bytesAt
 returns-7 c = rw (walk-length, walk-length) (search asked depth 20)
 
 returns-8 : tie.Need-returns-8
-unfolding paper.nameAt paper.lengthAt paper.pastAt paper.bytesAt
-returns-8 c = rw (walk-length, walk-length) (search asked depth 20)
+returns-8 c = search name-good
 
 returns-9 : tie.Need-returns-9
 unfolding paper.nameAt paper.lengthAt paper.pastAt paper.bytesAt
@@ -109,6 +120,10 @@ name-field-spec =
     part-good-bytes-start
     part-good-bytes-end
     good-bytes-requires
+    sub-key
+    part-key-start
+    part-key-end
+    key-requires
     sub-taken
     part-taken-start
     part-taken-end

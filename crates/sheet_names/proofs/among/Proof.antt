@@ -1,17 +1,16 @@
 -- `sheet_names::among` meets its contract. The invariant: the name is taken exactly if it is among those that are left to walk.
 use mathlib.Core.Path.{_≡_, refl}
-use Prim.Native.Nat.{_≤_}
 use borrow.Author.Needs.{needs}
-use lib.ListN.{length}
 use Rattle.sheet.specs.Sheet as paper
-use Rattle.sheet.specs.Walk.{walkEnd, walkNames}
+use Rattle.sheet.specs.Walk.{walkNames}
+use Rattle.sheet_names.specs.Keys.{Walkable}
 use Rattle.sheet_names.proofs.NameSteps.{walk-inside, walk-less, taken-here, taken-on, taken-none}
 use Rattle.sheet_names.proofs.among.Statement.{statement}
 use Rattle.sheet_names.proofs.among.Tie as tie
 
 abbrev Inv-loop : tie.InvT-loop
 Inv-loop sheet names name at₀ left₀ at left =
-    (walkEnd sheet at left ≤ length sheet) × (paper.taken (walkNames sheet 5 names) name ≡ paper.taken (walkNames sheet at left) name)
+    Walkable sheet at left × (paper.taken (walkNames sheet 5 names) name ≡ paper.taken (walkNames sheet at left) name)
 
 abbrev μ-loop : tie.MeasureT-loop
 μ-loop sheet names name at₀ left₀ at left = left

@@ -7,9 +7,6 @@ use Rattle.sheet_names.proofs.taken.Tie as tie
 add-key-among : tie.Need-add-key-among
 add-key-among c = search needs
 
-key-requires : tie.Need-key-requires
-key-requires c κs = search needs
-
 key-among-requires : tie.Need-key-among-requires
 key-among-requires c κs = search needs
 
@@ -23,4 +20,4 @@ returns-2 : tie.Need-returns-2
 returns-2 c = search taken-unkeyed
 
 pub taken-spec : {M : Type 1} → statement M
-taken-spec = tie.close (tie.spec add-key-among key-requires key-among-requires compared-requires returns returns-2)
+taken-spec = tie.close (tie.spec add-key-among key-among-requires compared-requires returns returns-2)

@@ -6,7 +6,7 @@ use borrow.Author.Needs.{needs}
 use Rattle.sheet.specs.Sheet.{fittingFields}
 use Rattle.sheet.specs.Walk.{walkEnd, walkNames}
 use Rattle.sheet_names.specs.Keys.{NamesRead}
-use Rattle.sheet_reading.proofs.Fitting.{fit-start, fit-room, fit-inside, fit-ordered, fit-here, fit-known, fit-name, fit-formula, fit-end, fit-refused}
+use Rattle.sheet_reading.proofs.Fitting.{fit-start, fit-room, fit-here, fit-known, fit-name, fit-formula, fit-end, fit-refused}
 use Rattle.sheet_reading.proofs.fit_fields.Statement.{statement}
 use Rattle.sheet_reading.proofs.fit_fields.Tie as tie
 
@@ -25,20 +25,8 @@ loop-holds c = (search fit-start, refl, refl)
 one-fitting-requires : tie.Need-one-fitting-requires Inv-loop μ-loop
 one-fitting-requires c κs = search needs
 
-enum-known-first : tie.Need-enum-known-first Inv-loop μ-loop
-enum-known-first c = search needs
-
-sub-key : tie.Need-sub-key Inv-loop μ-loop
-sub-key c = search (fit-ordered, needs)
-
-part-key-start : tie.Need-part-key-start Inv-loop μ-loop
-part-key-start c = search (fit-ordered, needs)
-
-part-key-end : tie.Need-part-key-end Inv-loop μ-loop
-part-key-end c = search (fit-inside, needs)
-
-key-requires : tie.Need-key-requires Inv-loop μ-loop
-key-requires c κs = search needs
+enum-known-past : tie.Need-enum-known-past Inv-loop μ-loop
+enum-known-past c = search needs
 
 mul-keys : tie.Need-mul-keys Inv-loop μ-loop
 mul-keys c = search needs
@@ -81,11 +69,7 @@ fit-fields-spec =
     μ-loop
     loop-holds
     one-fitting-requires
-    enum-known-first
-    sub-key
-    part-key-start
-    part-key-end
-    key-requires
+    enum-known-past
     mul-keys
     element-write-keys
     add-names

@@ -6,7 +6,7 @@ use borrow.Author.Needs.{needs}
 use Rattle.sheet.specs.Walk.{walkEnd, walkNames, fittedBy}
 use Rattle.sheet_names.specs.Keys.{NamesRead}
 use Rattle.sheet_reading.specs.Steps.{toldFrom}
-use Rattle.sheet_reading.proofs.Reading.{read-refused, read-end, read-formula, read-name, name-room, name-inside, name-ordered, name-here, name-known}
+use Rattle.sheet_reading.proofs.Reading.{read-refused, read-end, read-formula, read-name, name-room, name-here, name-known}
 use Rattle.sheet_reading.proofs.read_fields.Statement.{statement}
 use Rattle.sheet_reading.proofs.read_fields.Tie as tie
 
@@ -25,20 +25,8 @@ loop-holds c = (search needs, refl, refl)
 one-field-requires : tie.Need-one-field-requires Inv-loop μ-loop
 one-field-requires c κs = search needs
 
-enum-known-first : tie.Need-enum-known-first Inv-loop μ-loop
-enum-known-first c = search needs
-
-sub-key : tie.Need-sub-key Inv-loop μ-loop
-sub-key c = search (name-ordered, needs)
-
-part-key-start : tie.Need-part-key-start Inv-loop μ-loop
-part-key-start c = search (name-ordered, needs)
-
-part-key-end : tie.Need-part-key-end Inv-loop μ-loop
-part-key-end c = search (name-inside, needs)
-
-key-requires : tie.Need-key-requires Inv-loop μ-loop
-key-requires c κs = search needs
+enum-known-past : tie.Need-enum-known-past Inv-loop μ-loop
+enum-known-past c = search needs
 
 add-keys : tie.Need-add-keys Inv-loop μ-loop
 add-keys c = search needs
@@ -58,8 +46,8 @@ loop-less c = search needs
 loop-again : tie.Need-loop-again Inv-loop μ-loop
 loop-again c = (search name-known, search name-here, search read-name)
 
-enum-known-first-2 : tie.Need-enum-known-first-2 Inv-loop μ-loop
-enum-known-first-2 c = search needs
+enum-known-first : tie.Need-enum-known-first Inv-loop μ-loop
+enum-known-first c = search needs
 
 closed-requires : tie.Need-closed-requires Inv-loop μ-loop
 closed-requires c κs = search needs
@@ -87,18 +75,14 @@ read-fields-spec =
     μ-loop
     loop-holds
     one-field-requires
-    enum-known-first
-    sub-key
-    part-key-start
-    part-key-end
-    key-requires
+    enum-known-past
     add-keys
     mul-keys
     element-write-keys
     add-names
     loop-less
     loop-again
-    enum-known-first-2
+    enum-known-first
     closed-requires
     returns
     enum-told

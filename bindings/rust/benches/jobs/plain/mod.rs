@@ -9,7 +9,7 @@ mod walls;
 
 pub use dwarf::build;
 use dwarf::{contracted, Dwarf};
-pub use read::read;
+pub use read::{read, read_pair};
 pub use run::run;
 pub use walls::{by_walk, by_words};
 

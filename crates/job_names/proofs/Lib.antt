@@ -1,0 +1,4 @@
+pub mod Listing
+pub mod Giving
+pub mod Each
+pub mod Settled

@@ -1,0 +1,3 @@
+pub mod Names
+pub mod NamedAll
+pub mod Steps
