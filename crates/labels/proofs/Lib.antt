@@ -7,3 +7,4 @@ pub mod Fills
 pub mod Held
 pub mod Links
 pub mod Columns
+pub mod Tabled

@@ -1,17 +1,21 @@
 -- What the passes over the arrays need: the shape of the records that they hold, and the lists that are filled from them.
-use Prim.Native.Nat.{ℕ, suc, _-_, _<_, _≤_}
+use Prim.Native.Nat.{ℕ, suc, _-_, _/_, _%_, _<_, _≤_}
 use mathlib.Core.Path.{_≡_}
 use mathlib.Core.Bool.{Bool, true, false}
 use mathlib.Core.List.{List, [], _∷_}
 use lib.ListN.{getD, set}
 use Rattle.contraction.specs.Records.{Rec, absent, isLeaf, over}
 use Rattle.contraction.specs.Steps.{kindAt, recAt, recs}
-use Rattle.labels.specs.Labels.{isOf}
+use Rattle.labels.specs.Labels.{rule, isOf}
 
 -- The number of the first record that passes, of records numbered from j on; 65535 where there is none.
 unfoldable pub seek : (Rec → Bool) → ℕ → List Rec → ℕ
 seek p j [] = absent
 seek p j (r ∷ rs) = elim (p r) [ true ↦ j | false ↦ seek p (suc j) rs ]
+
+-- What each kind makes of the labels x and y, with every shape outside: entry 16 * kind + 4 * x + y.
+pub record Rules (rules : List ℕ) : Type 0 where
+  pub so : (i : ℕ) → i < 256 → getD rules i 0 ≡ rule (kindAt (i / 16)) false (i / 4 % 4) (i % 4)
 
 -- What the passes rely on: leaves come first, they are few, children have smaller numbers, and a node is a child of one node at most.
 pub record Shaped (ks fs ss : List ℕ) (leaves nodes : ℕ) : Type 0 where

@@ -9,7 +9,7 @@ ghost use Rattle.formula.specs.States.{outside};
 ghost use Rattle.contraction.specs.Records.{left, right, children};
 ghost use Rattle.labels.specs.Labels.{bit as bitOf, on as isOn, pair as pairOf, pick as pickOf, raked, rule, label as labelOf, labels as afresh};
 ghost use Rattle.contraction.specs.Steps.{entry, kindAt, recOf, recAt, recs};
-ghost use Rattle.labels.specs.Steps.{Shaped, adopted, Parents, Chains};
+ghost use Rattle.labels.specs.Steps.{Rules, Shaped, adopted, Parents, Chains};
 
 fn bit(b: bool) -> u8
     ensures { λ r. ⌜ (r ≡ bitOf b) × (r ≤ 1) ⌝ }
@@ -91,6 +91,40 @@ pub fn wide(x: u16) -> usize
     x as usize
 }
 
+// A label as a part of an index.
+fn digit(x: u8) -> usize
+    ensures { λ r. ⌜ r ≡ x ⌝ }
+{
+    x as usize
+}
+
+// What each kind makes of two labels, worked out once.
+pub fn fill_rules(rules: &mut [u8; 256])
+    ensures { λ _. ⌜ Rules (now (rules .exit)) ⌝ }
+{
+    *rules = [0u8; 256];
+    let mut i: u16 = 0;
+    while i < 256 {
+        let x = (i / 4 % 4) as u8;
+        let y = (i % 4) as u8;
+        let j = wide(i);
+        rules[j] = label(i / 16, false, x, y);
+        i += 1;
+    }
+}
+
+// A label by kind, with every shape outside: looked up where it is listed.
+fn rule_of(rules: &[u8; 256], kind: u16, x: u8, y: u8) -> u8
+    requires { ⌜ Rules (now rules) ⌝ }
+    ensures { λ r. ⌜ r ≡ rule (kindAt kind) false x y ⌝ }
+{
+    if kind < 16 && x < 4 && y < 4 {
+        let i = wide(kind) * 16 + digit(x) * 4 + digit(y);
+        return rules[i];
+    }
+    label(kind, false, x, y)
+}
+
 // The label of node i, 0 where there is no such node.
 fn label_at(labels: &[u8; 3072], i: u16) -> u8
     ensures { λ r. ⌜ r ≡ getD (now (labels .entry)) i 0 ⌝ }
@@ -102,22 +136,24 @@ fn label_at(labels: &[u8; 3072], i: u16) -> u8
 
 // The label of node i worked out from its children's, with every shape outside.
 pub fn work(
+    rules: &[u8; 256],
     kinds: &[u16; 3072],
     firsts: &[u16; 3072],
     seconds: &[u16; 3072],
     labels: &[u8; 3072],
     i: usize,
 ) -> u8
-    requires { ⌜ i < 3072 ⌝ }
+    requires { ⌜ Rules (now rules) × (i < 3072) ⌝ }
     ensures { λ r. ⌜ r ≡ labelOf outside (now (labels .entry)) (recAt (now (kinds .entry)) (now (firsts .entry)) (now (seconds .entry)) i) ⌝ }
 {
     let x = label_at(labels, firsts[i]);
     let y = label_at(labels, seconds[i]);
-    label(kinds[i], false, x, y)
+    rule_of(rules, kinds[i], x, y)
 }
 
 // All labels worked out afresh in rising order, with every shape outside.
 pub fn fill_labels(
+    rules: &[u8; 256],
     kinds: &[u16; 3072],
     firsts: &[u16; 3072],
     seconds: &[u16; 3072],
@@ -125,14 +161,14 @@ pub fn fill_labels(
     nodes: usize,
     labels: &mut [u8; 3072],
 )
-    requires { ⌜ Shaped (now kinds) (now firsts) (now seconds) leaves nodes ⌝ }
+    requires { ⌜ Rules (now rules) × Shaped (now kinds) (now firsts) (now seconds) leaves nodes ⌝ }
     ensures { λ _. ⌜ length (now (labels .exit)) ≡ 3072 ⌝ }
     ensures { λ _. ⌜ take nodes (now (labels .exit)) ≡ afresh outside (recs (now (kinds .entry)) (now (firsts .entry)) (now (seconds .entry)) 0 nodes) ⌝ }
 {
     *labels = [0u8; 3072];
     let mut j = 0;
     while j < nodes {
-        labels[j] = work(kinds, firsts, seconds, labels, j);
+        labels[j] = work(rules, kinds, firsts, seconds, labels, j);
         j += 1;
     }
 }

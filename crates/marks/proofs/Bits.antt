@@ -1,6 +1,6 @@
 -- Digits of a word after an or and an exclusive or with one digit, and its zeros at the low end; so a set of words after a store.
-use Prim.Native.Nat.{ℕ, zero, suc, _+_, _*_, _^_, _/_, _%_, _<_, _≤_, max}
-use mathlib.Core.Path.{_≡_, refl, sym, ap, ap₂, _∙_}
+use Prim.Native.Nat.{ℕ, zero, suc, _*_, _^_, _/_, _%_, _<_, max}
+use mathlib.Core.Path.{_≡_, refl, sym, ap, _∙_}
 use mathlib.Core.Bool.{Bool, true, false, not, cond, _&&_, _||_, or-false, and-true}
 use mathlib.Core.List.{List}
 use native.Mathlib.Decide.{ℕ-discrete}
@@ -15,9 +15,9 @@ use lib.Seq.{getD-set-same, getD-set-other}
 use lib.Pow.{shl-exact, shr-lt}
 use native.Mathlib.Numerals.{add-one}
 use borrow.Author.Tests.{eq-eqb, ne-eqb, eqb-true}
-use Rattle.marks.specs.Marks.{digit, marked, Added, Removed, Clear, LowDigit, Lowest}
+use Rattle.marks.specs.Marks.{digit, marked, LowDigit}
 
-bit-zero : (c : ℕ) → digit 0 c ≡ 0
+pub bit-zero : (c : ℕ) → digit 0 c ≡ 0
 unfolding digit
 bit-zero zero = refl
 bit-zero (suc c) = bit-zero c
@@ -55,24 +55,24 @@ bit-one (suc b) zero = shifted-even 1 b ∙ rw (eqb·suc-zero b)
 bit-one (suc b) (suc c) = ap (λ (x : ℕ). digit x c) (shifted-half 1 b) ∙ bit-one b c ∙ rw (eqb·suc-suc b c)
 
 -- a digit put in, and one that is there taken out
-put-here : (x b : ℕ) → digit (bitOr x (1 * 2 ^ b)) b ≡ 1
+pub put-here : (x b : ℕ) → digit (bitOr x (1 * 2 ^ b)) b ≡ 1
 put-here x b = bit-or x (1 * 2 ^ b) b ∙ rw (bit-one b b, eq-eqb b b refl) (omega (arith, bit-small x b))
 
-put-other : (x b c : ℕ) → (b ≡ c → ⊥) → digit (bitOr x (1 * 2 ^ b)) c ≡ digit x c
+pub put-other : (x b c : ℕ) → (b ≡ c → ⊥) → digit (bitOr x (1 * 2 ^ b)) c ≡ digit x c
 put-other x b c n = bit-or x (1 * 2 ^ b) c ∙ rw (bit-one b c, ne-eqb b c n) (omega arith)
 
 differ-zero : (x : ℕ) → differ x 0 ≡ x
 differ-zero zero = refl
 differ-zero (suc x) = refl
 
-drop-here : (x b : ℕ) → digit x b ≡ 1 → digit (bitXor x (1 * 2 ^ b)) b ≡ 0
+pub drop-here : (x b : ℕ) → digit x b ≡ 1 → digit (bitXor x (1 * 2 ^ b)) b ≡ 0
 drop-here x b e = bit-xor x (1 * 2 ^ b) b ∙ rw (bit-one b b, eq-eqb b b refl, e)
 
-drop-other : (x b c : ℕ) → (b ≡ c → ⊥) → digit (bitXor x (1 * 2 ^ b)) c ≡ digit x c
+pub drop-other : (x b c : ℕ) → (b ≡ c → ⊥) → digit (bitXor x (1 * 2 ^ b)) c ≡ digit x c
 drop-other x b c n = bit-xor x (1 * 2 ^ b) c ∙ rw (bit-one b c, ne-eqb b c n) (differ-zero (digit x c))
 
 -- by whether two numbers are one
-same? : {A : Type 0} (i p : ℕ) → (i ≡ p → A) → ((i ≡ p → ⊥) → A) → A
+pub same? : {A : Type 0} (i p : ℕ) → (i ≡ p → A) → ((i ≡ p → ⊥) → A) → A
 same? i p f g = elim (ℕ-discrete i p) [ yes e ↦ f e | no n ↦ g n ]
 
 or-one : (x : Bool) → (x || true) ≡ true
@@ -115,13 +115,6 @@ unmark-set ws k i l h =
 pub shifted : (b : ℕ) → b < 64 → (1 * 2 ^ b) % 2 ^ 64 ≡ 1 * 2 ^ b
 shifted b h = shl-exact 1 b 64 (omega arith) (omega arith)
 
-pub marking : (ws : List ℕ) (k : ℕ) → k < 3072 → length ws ≡ 48 → Added ws k (set ws (k / 64) (bitOr (getD ws (k / 64) 0) ((1 * 2 ^ (k % 64)) % 2 ^ 64)))
-marking ws k h e = record { so = λ i. rw (shifted (k % 64) (omega arith)) (mark-set ws k i (omega arith)) }
-
-pub unmarking : (ws : List ℕ) (k : ℕ) → k < 3072 → marked ws k ≡ true → length ws ≡ 48
-    → Removed ws k (set ws (k / 64) (bitXor (getD ws (k / 64) 0) ((1 * 2 ^ (k % 64)) % 2 ^ 64)))
-unmarking ws k h m e = record { so = λ i. rw (shifted (k % 64) (omega arith)) (unmark-set ws k i (omega arith) m) }
-
 -- the zeros at the low end
 zeros-odd : (k n : ℕ) → (n % 2 ≡ 0 → ⊥) → trailingZeros (suc k) n ≡ 0
 unfolding trailingZeros
@@ -152,40 +145,6 @@ zeros-some (suc k) n h o =
     same? (n % 2) 0
     (λ e. omega (arith, zeros-even k n e, zeros-some k (n / 2) (shr-lt k 1 (rw (add-one k) h)) (λ z. o (omega arith))))
     (λ q. omega (arith, zeros-odd k n q))
-
--- a search that has come to word w
-pub record Seeking (ws : List ℕ) (w : ℕ) : Type 0 where
-  pub inside : w ≤ 48
-  pub low : (i : ℕ) → i < 64 * w → marked ws i ≡ false
-
-pub seeking-start : {ws : List ℕ} {from : ℕ} → Clear ws from → Seeking ws (from / 64)
-seeking-start c = record { inside = omega (arith, c .most); low = λ i l. c .low i (omega arith) }
-
-pub seeking-end : {ws : List ℕ} {w : ℕ} → Seeking ws w → 48 ≤ w → Lowest ws 3072
-seeking-end s h = record { most = omega arith; here = λ l. absurd (omega arith); low = λ i l. s .low i (omega arith) }
-
-pub seeking-on : (ws : List ℕ) (w : ℕ) → Seeking ws w → w < 48 → getD ws w 0 ≡ 0 → Seeking ws (w + 1)
-seeking-on ws w s h e =
-    record {
-      inside = omega arith;
-      low = λ i l.
-          same? (i / 64) w
-          (λ q. rw (q, e, bit-zero (i % 64)))
-          (λ n. s .low i (omega arith));
-    }
-
-pub seeking-found : {ws : List ℕ} {w d : ℕ} → Seeking ws w → w < 48 → LowDigit (getD ws w 0) d → Lowest ws (w * 64 + d)
-seeking-found {ws} {w} {d} s h f =
-    let q : (w * 64 + d) / 64 ≡ w = omega (arith, f .small) in
-    let m : (w * 64 + d) % 64 ≡ d = omega (arith, f .small) in
-    record {
-      most = omega (arith, f .small);
-      here = λ l. rw (q, m) (eq-eqb _ 1 (f .here));
-      low = λ i l.
-          same? (i / 64) w
-          (λ e. rw e (ne-eqb (digit (getD ws w 0) (i % 64)) 1 (λ z. omega (arith, f .low (i % 64) (omega arith)))))
-          (λ o. s .low i (omega (arith, f .small)));
-    }
 
 pub low-digit : (n : ℕ) → (n ≡ 0 → ⊥) → n < 2 ^ 64 → LowDigit n (trailingZeros 64 n)
 low-digit n o f =

@@ -1,10 +1,11 @@
--- A set of numbers below 3072, a bit each, in 48 words of 64.
+-- A set of numbers below 3072, a bit each, in 48 words of 64. One word is in hand, and nothing is below it.
 use Prim.Native.Nat.{ℕ, zero, suc, _/_, _%_, _≤_, _<_}
 use mathlib.Core.Path.{_≡_}
-use mathlib.Core.Bool.{Bool, true, false, not, _&&_, _||_}
+use mathlib.Core.Bool.{Bool, false, not, _&&_, _||_}
 use mathlib.Core.List.{List}
 use lib.Dec.{eqb}
-use lib.ListN.{getD}
+use lib.ListN.{length, getD, set}
+use Rattle.marks.specs.declared.Marks.{Marks}
 
 -- Digit b of w.
 unfoldable pub digit : ℕ → ℕ → ℕ
@@ -15,17 +16,45 @@ digit w (suc b) = digit (w / 2) b
 abbrev pub marked : List ℕ → ℕ → Bool
 marked ws k = eqb (digit (getD ws (k / 64) 0) (k % 64)) 1
 
--- k put into the set ms, or taken out of it.
+-- All words: the one in hand in its place.
+abbrev pub all : List ℕ → Marks → List ℕ
+all ws m = set ws (m .at) (m .word)
+
+-- The list holds nothing up to the word in hand, and the words after it that have something in them are those held.
+pub record Rising (ws : List ℕ) (m : Marks) : Type 0 where
+  pub long : length ws ≡ 48
+  pub here : m .at < 48
+  pub low : (i : ℕ) → i / 64 ≤ m .at → marked ws i ≡ false
+  pub later : (w : ℕ) → digit (m .held) w ≡ 1 → (m .at < w) × (w < 48) × (getD ws w 0 ≡ 0 → ⊥)
+  pub rest : (w : ℕ) → m .at < w → digit (m .held) w ≡ 0 → getD ws w 0 ≡ 0
+
+-- k put into the set ms, or taken out of it; the same set; an empty one.
 pub record Added (ms : List ℕ) (k : ℕ) (ms′ : List ℕ) : Type 0 where
   pub so : (i : ℕ) → marked ms′ i ≡ (marked ms i || eqb i k)
 
 pub record Removed (ms : List ℕ) (k : ℕ) (ms′ : List ℕ) : Type 0 where
   pub so : (i : ℕ) → marked ms′ i ≡ (marked ms i && not (eqb i k))
 
--- Nothing below `from` is in the set.
-pub record Clear (ms : List ℕ) (from : ℕ) : Type 0 where
-  pub most : from ≤ 3072
-  pub low : (i : ℕ) → i < from → marked ms i ≡ false
+pub record Same (ms ms′ : List ℕ) : Type 0 where
+  pub so : (i : ℕ) → marked ms′ i ≡ marked ms i
+
+pub record Empty (ms : List ℕ) : Type 0 where
+  pub none : (i : ℕ) → marked ms i ≡ false
+
+pub record Put (ws : List ℕ) (m : Marks) (k : ℕ) (ws′ : List ℕ) (m′ : Marks) : Type 0 where
+  pub rising : Rising ws′ m′
+  pub added : Added (all ws m) k (all ws′ m′)
+  pub stays : m′ .at ≡ m .at
+
+pub record Taken (m : Marks) (k : ℕ) (m′ : Marks) : Type 0 where
+  pub stays : m′ .at ≡ m .at
+  pub removed : (ws : List ℕ) → Rising ws m → Removed (all ws m) k (all ws m′)
+  pub rising : (ws : List ℕ) → Rising ws m → Rising ws m′
+
+pub record Opened (ws : List ℕ) (m : Marks) (ws′ : List ℕ) (m′ : Marks) : Type 0 where
+  pub rising : Rising ws′ m′
+  pub same : Same (all ws m) (all ws′ m′)
+  pub empty : m′ .word ≡ 0 → Empty (all ws′ m′)
 
 -- Digit r is the lowest of w that is 1.
 pub record LowDigit (w r : ℕ) : Type 0 where
@@ -33,8 +62,8 @@ pub record LowDigit (w r : ℕ) : Type 0 where
   pub here : digit w r ≡ 1
   pub low : (c : ℕ) → c < r → digit w c ≡ 0
 
--- r is the lowest in the set; 3072 where there is none.
-pub record Lowest (ws : List ℕ) (r : ℕ) : Type 0 where
-  pub most : r ≤ 3072
-  pub here : r < 3072 → marked ws r ≡ true
-  pub low : (i : ℕ) → i < r → marked ws i ≡ false
+-- r is the lowest in the set: it is in the word in hand.
+pub record Lowest (m : Marks) (r : ℕ) : Type 0 where
+  pub place : r / 64 ≡ m .at
+  pub here : digit (m .word) (r % 64) ≡ 1
+  pub low : (c : ℕ) → c < r % 64 → digit (m .word) c ≡ 0

@@ -1,29 +1,66 @@
-// A set of numbers below 3072, a bit each: one put in, one taken out, the lowest found.
+// A set of numbers below 3072, a bit each, from which the lowest is taken first. The word that holds the lowest is in hand.
 ghost use mathlib.Core.Path.{_≡_};
-ghost use mathlib.Core.Bool.{true};
-ghost use Prim.Native.Nat.{_<_};
-ghost use Rattle.marks.specs.Marks.{marked, Added, Removed, Clear, LowDigit, Lowest};
+ghost use Prim.Native.Nat.{_*_, _/_, _%_, _<_, _≤_};
+ghost use Rattle.marks.specs.Marks.{digit, Rising, Put, Taken, LowDigit, Lowest, Opened};
 
-// Puts k into the set.
-pub fn mark(words: &mut [u64; 48], k: usize)
-    requires { ⌜ k < 3072 ⌝ }
-    ensures { λ _. ⌜ Added (now (words .entry)) k (now (words .exit)) ⌝ }
-{
-    let s: &mut [u64] = words;
-    let w = k / 64;
-    let b = k % 64;
-    s[w] = s[w] | (1 << b);
+// Word `at` is in hand, `word` are its digits, and digit w of `held` says whether word w, a later one, has something in it.
+pub struct Marks {
+    pub at: usize,
+    pub word: u64,
+    pub held: u64,
 }
 
-// Takes k out of the set.
-pub fn unmark(words: &mut [u64; 48], k: usize)
-    requires { ⌜ (k < 3072) × (marked (now words) k ≡ true) ⌝ }
-    ensures { λ _. ⌜ Removed (now (words .entry)) k (now (words .exit)) ⌝ }
+// Nothing is in the set.
+pub fn none() -> Marks
+    ensures { λ r. ⌜ (r .at ≡ 0) × (r .word ≡ 0) × (r .held ≡ 0) ⌝ }
 {
-    let s: &mut [u64] = words;
+    Marks {
+        at: 0,
+        word: 0,
+        held: 0,
+    }
+}
+
+// Puts k into the set, of which nothing is below the word in hand.
+pub fn mark(words: &mut [u64; 48], m: Marks, k: usize) -> Marks
+    requires { ⌜ Rising (now words) m × (64 * m .at ≤ k) × (k < 3072) ⌝ }
+    ensures { λ r. ⌜ Put (now (words .entry)) m k (now (words .exit)) r ⌝ }
+{
+    let at = m.at;
+    let word = m.word;
+    let held = m.held;
     let w = k / 64;
     let b = k % 64;
-    s[w] = s[w] ^ (1 << b);
+    if w == at {
+        return Marks {
+            at: at,
+            word: word | (1 << b),
+            held: held,
+        };
+    }
+    let s: &mut [u64] = words;
+    s[w] = s[w] | (1 << b);
+    Marks {
+        at: at,
+        word: word,
+        held: held | (1 << w),
+    }
+}
+
+// Takes k, which is in the word in hand, out of the set.
+pub fn unmark(m: Marks, k: usize) -> Marks
+    requires { ⌜ (k / 64 ≡ m .at) × (digit (m .word) (k % 64) ≡ 1) ⌝ }
+    ensures { λ r. ⌜ Taken m k r ⌝ }
+{
+    let at = m.at;
+    let word = m.word;
+    let held = m.held;
+    let b = k % 64;
+    Marks {
+        at: at,
+        word: word ^ (1 << b),
+        held: held,
+    }
 }
 
 // The place of the lowest digit of a word that is 1.
@@ -34,19 +71,36 @@ fn lowest_digit(x: u64) -> usize
     u64::trailing_zeros(x) as usize
 }
 
-// The lowest number in the set, of which none is below from; 3072 where there is none.
-pub fn first_mark(words: &[u64; 48], from: usize) -> usize
-    requires { ⌜ Clear (now words) from ⌝ }
-    ensures { λ r. ⌜ Lowest (now (words .entry)) r ⌝ }
+// The lowest number of the word in hand, in which there is one.
+pub fn lowest(m: Marks) -> usize
+    requires { ⌜ (m .word ≡ 0 → ⊥) × (m .at < 48) ⌝ }
+    ensures { λ r. ⌜ Lowest m r ⌝ }
 {
-    let s: &[u64] = words;
-    let mut w = from / 64;
-    while w < 48 {
-        let x = s[w];
-        if x != 0 {
-            return w * 64 + lowest_digit(x);
-        }
-        w += 1;
+    let at = m.at;
+    let word = m.word;
+    at * 64 + lowest_digit(word)
+}
+
+// The same set, with the word in hand that holds the lowest number; no digit of it is 1 where the set is empty.
+pub fn next(words: &mut [u64; 48], m: Marks) -> Marks
+    requires { ⌜ Rising (now words) m ⌝ }
+    ensures { λ r. ⌜ Opened (now (words .entry)) m (now (words .exit)) r ⌝ }
+{
+    let word = m.word;
+    let held = m.held;
+    if word != 0 {
+        return m;
     }
-    3072
+    if held == 0 {
+        return m;
+    }
+    let w = lowest_digit(held);
+    let s: &mut [u64] = words;
+    let x = s[w];
+    s[w] = 0;
+    Marks {
+        at: w,
+        word: x,
+        held: held ^ (1 << w),
+    }
 }

@@ -1,42 +1,38 @@
 -- The leaves of a shape flipped one after the other, and the nodes above them marked; so a toggle of one leaf and of several.
-use Prim.Native.Nat.{ℕ, zero, suc, _+_, _-_, _/_, _%_, _<_, _≤_}
-use native.Mathlib.Nat.{zero-add}
+use Prim.Native.Nat.{ℕ, zero, suc, _+_, _-_, _<_, _≤_}
 use native.Mathlib.Omega.{arith}
 use mathlib.Core.Path.{_≡_, refl, sym, ap, _∙_}
-use mathlib.Core.Bool.{Bool, true, false, not, cond, _&&_, _||_, or-false, true≢false, false≢true}
+use mathlib.Core.Bool.{Bool, true, false, _&&_, _||_, or-false, true≢false, false≢true}
 use mathlib.Core.List.{List, [], _∷_}
 use mathlib.Core.Logic.{⊎-elim}
 use lib.Dec.{eqb, ltb}
 use borrow.Author.Tests.{eqb-true, eqb-false, eq-eqb, ne-eqb, lt-ltb, le-ltb, ltb-true, ltb-false}
-use lib.ListN.{length, getD, set, take, replicate, length-set, getD-replicate}
+use lib.ListN.{length, getD, set, take, replicate, length-set}
 use lib.Seq.{getD-take, getD-set-same, getD-set-other, take-set-lt}
 use Rattle.contraction.specs.Records.{Rec, isLeaf, children, listed, over}
 use Rattle.contraction.specs.Steps.{kindAt, recAt, recs}
 use Rattle.contraction.proofs.Steps.{recs-more}
-use Rattle.marks.specs.Marks.{digit, marked, Added}
+use Rattle.marks.specs.declared.Marks.{Marks}
+use Rattle.marks.specs.Marks.{marked, all, Rising, Put}
+use Rattle.marks.proofs.Sets.{rising-none, empty-none}
 use Rattle.labels.specs.Labels.{isOf}
 use Rattle.labels.specs.Steps.{seek, Shaped, Linked, Ready}
-use Rattle.labels.proofs.Links.{cases, found, jump, done, parent-is, parent-over, parent-after}
+use Rattle.labels.proofs.Links.{cases, found, jump, done, parent-is, parent-over}
 use Rattle.toggles.specs.Toggles.{steps, flip, flipLeaves, changed, rework, toggle}
 use Rattle.toggles.specs.Steps.{Alone, Due, Within, Bare, AddedNode, Flipped}
 use Rattle.toggles.proofs.Toggles.{rework-skip, leaf-none}
 use Rattle.toggles.proofs.Upwards.{changed-set}
 
 -- a node marked, where there is one
-pub node-marked : {ms ms′ : List ℕ} {p nodes : ℕ} → p < nodes → Added ms p ms′ → AddedNode nodes p ms ms′
-node-marked {p = p} {nodes = nodes} h on = record { so = λ i. on .so i ∙ rw (lt-ltb p nodes h) }
+pub node-marked : {ws ws′ : List ℕ} {m m′ : Marks} {p nodes : ℕ} → p < nodes → m .at ≡ 0 → Put ws m p ws′ m′ → AddedNode nodes p ws m ws′ m′
+node-marked {p = p} {nodes = nodes} h f on = record { rising = on .rising; first = on .stays ∙ f; so = λ i. on .added .so i ∙ rw (lt-ltb p nodes h) }
 
-pub node-none : {ms : List ℕ} {p nodes : ℕ} → nodes ≤ p → AddedNode nodes p ms ms
-node-none {ms} {p} {nodes} h = record { so = λ i. rw (le-ltb p nodes h) (sym (or-false (marked ms i))) }
+pub node-none : {ws : List ℕ} {m : Marks} {p nodes : ℕ} → nodes ≤ p → m .at ≡ 0 → Rising ws m → AddedNode nodes p ws m ws m
+node-none {ws} {m} {p} {nodes} h f r = record { rising = r; first = f; so = λ i. rw (le-ltb p nodes h) (sym (or-false (marked (all ws m) i))) }
 
 -- a set with nothing in it
-pub unmarked : Bare (replicate 48 0)
-unfolding digit
-unmarked = record { none = λ k l. rw (getD-replicate {A = ℕ} 48 (k / 64) 0 0 (omega arith)) (empty (k % 64)) }
-  where
-    empty : (b : ℕ) → eqb (digit 0 b) 1 ≡ false
-    empty zero = refl
-    empty (suc b) = empty b
+pub unmarked : {m : Marks} → m .at ≡ 0 → m .word ≡ 0 → m .held ≡ 0 → Bare (replicate 48 0) m
+unmarked a w h = record { rising = rising-none a w h; first = a; empty = empty-none a w h }
 
 -- the two ways of a leaf's record
 flip-skip : (s : ℕ) (r : Rec) (rs : List Rec) (i : ℕ) (ls : List ℕ) → isOf s r ≡ false → flipLeaves s (r ∷ rs) i ls ≡ flipLeaves s rs (suc i) ls
@@ -90,11 +86,13 @@ module _ (ks fs ss : List ℕ) (leaves nodes : ℕ) (ps hs ns : List ℕ) (s : �
     pub long : length ls ≡ 3072
 
   -- and the nodes above them are marked
-  pub record Flipping (a : ℕ) (ls ms : List ℕ) : Type 0 where
+  pub record Flipping (a : ℕ) (ls ws : List ℕ) (m : Marks) : Type 0 where
     pub turning : Turning a ls
-    pub within : Within nodes ms
-    pub low : (k : ℕ) → k < leaves → marked ms k ≡ false
-    pub dues : (k : ℕ) → k < nodes → changed (take nodes old) ls (children (recAt ks fs ss k)) ≡ marked ms k
+    pub rising : Rising ws m
+    pub first : m .at ≡ 0
+    pub within : Within nodes (all ws m)
+    pub low : (k : ℕ) → k < leaves → marked (all ws m) k ≡ false
+    pub dues : (k : ℕ) → k < nodes → changed (take nodes old) ls (children (recAt ks fs ss k)) ≡ marked (all ws m) k
 
 module _ {ks fs ss : List ℕ} {leaves nodes : ℕ} {ps hs ns : List ℕ} (rd : Ready ks fs ss leaves nodes ps hs ns) {s : ℕ} {old : List ℕ} where
   pub turning-start : {a : ℕ} → s < 256 → a ≡ getD hs s 0 → length old ≡ 3072 → Turning ks fs ss leaves nodes ps hs ns s old a old
@@ -110,20 +108,20 @@ module _ {ks fs ss : List ℕ} {leaves nodes : ℕ} {ps hs ns : List ℕ} (rd : 
       }
 
   module _ {a : ℕ} {ls : List ℕ} (g : Turning ks fs ss leaves nodes ps hs ns s old a ls) where
-    all : g .from + (nodes - g .from) ≡ nodes
-    all = omega (arith, g .inside, rd .linked .shaped .within)
+    nodes-left : g .from + (nodes - g .from) ≡ nodes
+    nodes-left = omega (arith, g .inside, rd .linked .shaped .within)
 
     -- a leaf of the shape is one of the leaves, which come first
     past-leaves : leaves ≤ a → nodes ≤ a
     past-leaves h =
         ⊎-elim (λ e. omega (arith, e, g .here, rd .linked .shaped .room))
-        (λ w. absurd (true≢false (sym (ap (λ k. isLeaf (kindAt (getD ks k 0))) (g .here) ∙ and-both _ _ (w .0) .0) ∙ rd .linked .shaped .inner a h (omega (arith, w .2, g .here, all)))))
+        (λ w. absurd (true≢false (sym (ap (λ k. isLeaf (kindAt (getD ks k 0))) (g .here) ∙ and-both _ _ (w .0) .0) ∙ rd .linked .shaped .inner a h (omega (arith, w .2, g .here, nodes-left)))))
         (found ks fs ss (isOf s) (nodes - g .from) (g .from))
 
     pub turning-end : leaves ≤ a → take nodes ls ≡ flipLeaves s (recs ks fs ss 0 nodes) 0 (take nodes old)
     turning-end h =
         sym (g .same ∙ done (isOf s) (λ rs i. flipLeaves s rs i (take nodes ls)) (take nodes ls) (λ i. refl) (λ r rs i q. flip-skip s r rs i (take nodes ls) q)
-        ks fs ss (nodes - g .from) (g .from) (omega (arith, all, g .here, past-leaves h)))
+        ks fs ss (nodes - g .from) (g .from) (omega (arith, nodes-left, g .here, past-leaves h)))
 
     is-here : a < leaves → (isOf s (recAt ks fs ss a) ≡ true) × (g .from ≤ a)
     is-here h =
@@ -140,8 +138,8 @@ module _ {ks fs ss : List ℕ} {leaves nodes : ℕ} {ps hs ns : List ℕ} (rd : 
       at-leaf =
           let rs = recs ks fs ss (suc a) (nodes - suc a) in
           g .same ∙ jump (isOf s) (λ rs i. flipLeaves s rs i (take nodes ls)) (take nodes ls) (λ i. refl) (λ r rs i q. flip-skip s r rs i (take nodes ls) q)
-          ks fs ss (nodes - g .from) (g .from) (omega (arith, all, rd .linked .shaped .room)) (omega (arith, all, g .here, rd .linked .shaped .within))
-          ∙ rw (all, ← (g .here)) (flip-here s (recAt ks fs ss a) rs a (take nodes ls) (is-here h .0)) ∙ ap (flipLeaves s rs (suc a)) flipped-here
+          ks fs ss (nodes - g .from) (g .from) (omega (arith, nodes-left, rd .linked .shaped .room)) (omega (arith, nodes-left, g .here, rd .linked .shaped .within))
+          ∙ rw (nodes-left, ← (g .here)) (flip-here s (recAt ks fs ss a) rs a (take nodes ls) (is-here h .0)) ∙ ap (flipLeaves s rs (suc a)) flipped-here
 
       pub turning-on : {b : ℕ} → b ≡ getD ns a 0 → Turning ks fs ss leaves nodes ps hs ns s old b (set ls a v)
       turning-on {b} q =
@@ -187,25 +185,27 @@ toggle-one {ks} {fs} {ss} {leaves} {nodes} rd {s} {a} {b} {v} ls ms h e past q f
 
 -- the marks on the way
 module _ {ks fs ss : List ℕ} {leaves nodes : ℕ} {ps hs ns : List ℕ} (rd : Ready ks fs ss leaves nodes ps hs ns) {s : ℕ} {old : List ℕ} where
-  pub flipping-start : {a : ℕ} {ms : List ℕ} → s < 256 → a ≡ getD hs s 0 → length old ≡ 3072 → Bare ms → Flipping ks fs ss leaves nodes ps hs ns s old a old ms
+  pub flipping-start : {a : ℕ} {ws : List ℕ} {m : Marks} → s < 256 → a ≡ getD hs s 0 → length old ≡ 3072 → Bare ws m → Flipping ks fs ss leaves nodes ps hs ns s old a old ws m
   flipping-start h e long bare =
-      let room = rd .linked .shaped .room in
       record {
         turning = turning-start rd h e long;
-        within = record { node = λ k l m. absurd (true≢false (sym m ∙ bare .none k l)) };
-        low = λ k l. bare .none k (omega (arith, rd .linked .shaped .few));
+        rising = bare .rising;
+        first = bare .first;
+        within = record { node = λ k l o. absurd (true≢false (sym o ∙ bare .empty .none k)) };
+        low = λ k l. bare .empty .none k;
         dues = λ k l.
             changed-none (take nodes old) old (children (recAt ks fs ss k)) (λ c o. sym (getD-take nodes old c 0 (omega (arith, rd .linked .shaped .below k c l o))))
-            ∙ sym (bare .none k (omega arith));
+            ∙ sym (bare .empty .none k);
       }
 
-  module _ {a : ℕ} {ls ms : List ℕ} (g : Flipping ks fs ss leaves nodes ps hs ns s old a ls ms) where
-    pub flipping-end : leaves ≤ a → Flipped ks fs ss leaves nodes s old ls ms
+  module _ {a : ℕ} {ls ws : List ℕ} {m : Marks} (g : Flipping ks fs ss leaves nodes ps hs ns s old a ls ws m) where
+    pub flipping-end : leaves ≤ a → Flipped ks fs ss leaves nodes s old ls ws m
     flipping-end h =
         let t = g .turning in
         record {
           labels-are = turning-end rd t h;
           long = t .long;
+          rising = g .rising;
           within = g .within;
           due =
               record {
@@ -216,7 +216,7 @@ module _ {ks fs ss : List ℕ} {leaves nodes : ℕ} {ps hs ns : List ℕ} (rd : 
               };
         }
 
-    module _ {p v : ℕ} {ms′ : List ℕ} (h : a < leaves) (e : v ≡ flip (getD ls a 0)) (u : p ≡ getD ps a 0) (on : AddedNode nodes p ms ms′) where
+    module _ {p v : ℕ} {ws′ : List ℕ} {m′ : Marks} (h : a < leaves) (e : v ≡ flip (getD ls a 0)) (u : p ≡ getD ps a 0) (on : AddedNode nodes p ws m ws′ m′) where
       in-nodes : a < nodes
       in-nodes = omega (arith, rd .linked .shaped .within)
 
@@ -239,21 +239,23 @@ module _ {ks fs ss : List ℕ} {leaves nodes : ℕ} {ps hs ns : List ℕ} (rd : 
       either false true false q w = absurd (true≢false (sym q))
       either false false z q w = absurd (true≢false (sym q))
 
-      pub flipping-on : {b : ℕ} → b ≡ getD ns a 0 → Flipping ks fs ss leaves nodes ps hs ns s old b (set ls a v) ms′
+      pub flipping-on : {b : ℕ} → b ≡ getD ns a 0 → Flipping ks fs ss leaves nodes ps hs ns s old b (set ls a v) ws′ m′
       flipping-on q =
           record {
             turning = turning-on rd (g .turning) h e q;
+            rising = on .rising;
+            first = on .first;
             within =
                 record {
-                  node = λ k l m.
-                      cases (marked ms k) (λ y. g .within .node k l y)
-                      (λ y. let w = either (marked ms k) (ltb p nodes) (eqb k p) (sym (on .so k) ∙ m) y in omega (arith, eqb-true k p (w .1), ltb-true p nodes (w .0)));
+                  node = λ k l o.
+                      cases (marked (all ws m) k) (λ y. g .within .node k l y)
+                      (λ y. let w = either (marked (all ws m) k) (ltb p nodes) (eqb k p) (sym (on .so k) ∙ o) y in omega (arith, eqb-true k p (w .1), ltb-true p nodes (w .0)));
                 };
             low = λ k l.
-                cases (marked ms′ k)
-                (λ m. let w = either (marked ms k) (ltb p nodes) (eqb k p) (sym (on .so k) ∙ m) (g .low k l) in
+                cases (marked (all ws′ m′) k)
+                (λ o. let w = either (marked (all ws m) k) (ltb p nodes) (eqb k p) (sym (on .so k) ∙ o) (g .low k l) in
                 absurd (omega (arith, eqb-true k p (w .1), above-leaves (ltb-true p nodes (w .0)))))
-                (λ m. m);
+                (λ o. o);
             dues = λ k l.
                 changed-set (take nodes old) ls a v (omega (arith, g .turning .long, rd .linked .shaped .few)) as-before (children (recAt ks fs ss k))
                 ∙ rw (g .dues k l, parent-is (rd .linked) a k in-nodes l, ← u, e, flip-other (getD ls a 0)) (joined k l) ∙ sym (on .so k);
@@ -262,17 +264,17 @@ module _ {ks fs ss : List ℕ} {leaves nodes : ℕ} {ps hs ns : List ℕ} (rd : 
           as-before : getD ls a 0 ≡ getD (take nodes old) a 0
           as-before = g .turning .kept a (is-here rd (g .turning) h .1) ∙ sym (getD-take nodes old a 0 in-nodes)
 
-          joined : (k : ℕ) → k < nodes → (marked ms k || (eqb k p && true)) ≡ (marked ms k || (ltb p nodes && eqb k p))
-          joined k l = cases (eqb k p) (λ z. rw (z, lt-ltb p nodes (omega (arith, eqb-true k p z)))) (λ z. rw z (ap (λ w. marked ms k || w) (sym (none (ltb p nodes)))))
+          joined : (k : ℕ) → k < nodes → (marked (all ws m) k || (eqb k p && true)) ≡ (marked (all ws m) k || (ltb p nodes && eqb k p))
+          joined k l = cases (eqb k p) (λ z. rw (z, lt-ltb p nodes (omega (arith, eqb-true k p z)))) (λ z. rw z (ap (λ w. marked (all ws m) k || w) (sym (none (ltb p nodes)))))
             where
               none : (x : Bool) → (x && false) ≡ false
               none true = refl
               none false = refl
 
 -- a toggle whose shape has several leaves
-pub toggle-several : {ks fs ss : List ℕ} {leaves nodes : ℕ} {ps : List ℕ} → Linked ks fs ss leaves nodes ps → {s n : ℕ} (old ls ms ls′ : List ℕ) → Flipped ks fs ss leaves nodes s old ls ms
-    → ((before : List ℕ) (j : ℕ) → Due ks fs ss nodes before ls ms j → steps (take nodes ls′) n ≡ rework before (recs ks fs ss j (nodes - j)) j (take nodes ls))
+pub toggle-several : {ks fs ss : List ℕ} {leaves nodes : ℕ} {ps : List ℕ} → Linked ks fs ss leaves nodes ps → {s n : ℕ} (old ls ws : List ℕ) (m : Marks) (ls′ : List ℕ) → Flipped ks fs ss leaves nodes s old ls ws m
+    → ((before : List ℕ) (j : ℕ) → Due ks fs ss nodes before ls (all ws m) j → steps (take nodes ls′) n ≡ rework before (recs ks fs ss j (nodes - j)) j (take nodes ls))
     → steps (take nodes ls′) n ≡ toggle (recs ks fs ss 0 nodes) s (take nodes old)
-toggle-several {ks} {fs} {ss} {leaves} {nodes} lk old ls ms ls′ f settled =
+toggle-several {ks} {fs} {ss} {leaves} {nodes} lk old ls ws m ls′ f settled =
     settled (take nodes old) leaves (f .due) ∙ sym (leaves-first (lk .shaped) (take nodes old) (take nodes ls) leaves (omega arith))
     ∙ ap (rework (take nodes old) (recs ks fs ss 0 nodes) 0) (f .labels-are)

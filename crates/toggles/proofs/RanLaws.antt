@@ -15,11 +15,11 @@ use Rattle.formula.specs.States.{outside}
 use Rattle.labels.specs.Labels.{labels}
 use Rattle.labels.specs.Arrays.{Holds, Tree}
 use Rattle.contraction.specs.Steps.{recs}
-use Rattle.labels.specs.Steps.{Shaped, Parents, Chains, Ready}
+use Rattle.labels.specs.Steps.{Rules, Shaped, Parents, Chains, Ready}
 use Rattle.labels.proofs.Held.{held-records, held-shaped}
 use Rattle.toggles.specs.Toggles.{toggleEach, toggleRun}
 use Rattle.toggles.specs.Named.{firstWrong}
-use Rattle.toggles.specs.Ran.{ToggleRoom, TreeRun}
+use Rattle.toggles.specs.Ran.{RunRoom, TreeRun}
 use Rattle.toggles.specs.Steps.{Tables, RunDone}
 use Rattle.toggles.proofs.Runs.{run-roots, run-labels}
 
@@ -78,9 +78,12 @@ module _ {ks fs xs : List ℕ} {leaves nodes : ℕ} where
         → Ready ks fs xs leaves nodes ps hs ns
     narrow-ready t d e p q = record { linked = record { shaped = tree-shaped t; ups = rw e at p }; chains = rw (d, e) at q }
 
-  pub tables : {m n : ℕ} {ls ps hs ns : List ℕ} → Tree ks fs xs leaves nodes → m ≡ leaves → n ≡ nodes → length ls ≡ 3072
-      → take nodes ls ≡ labels outside (recs ks fs xs 0 nodes) → Parents ks fs xs n ps → Chains ks fs xs m n hs ns → Tables ks fs xs leaves nodes ls ps hs ns
-  tables t d e long is p q = record { ready = narrow-ready t d e p q; long = long; room = tree-room t; labels-are = is }
+  pub run-nodes : {toggles roots counts labels : List ℕ} → RunRoom ks fs xs leaves nodes toggles roots counts labels → nodes ≤ 3072
+  run-nodes r = tree-room (r .tree)
+
+  pub tables : {m n : ℕ} {rules ls ps hs ns : List ℕ} → Rules rules → Tree ks fs xs leaves nodes → m ≡ leaves → n ≡ nodes → length ls ≡ 3072
+      → take nodes ls ≡ labels outside (recs ks fs xs 0 nodes) → Parents ks fs xs n ps → Chains ks fs xs m n hs ns → Tables rules ks fs xs leaves nodes ls ps hs ns
+  tables r t d e long is p q = record { ruled = r; ready = narrow-ready t d e p q; long = long; room = tree-room t; labels-are = is }
 
   pub ran : (ss roots counts list l₀ l₁ : List ℕ) {roots′ counts′ list′ : List ℕ} → take nodes l₀ ≡ labels outside (recs ks fs xs 0 nodes)
       → RunDone (recs ks fs xs 0 nodes) (take nodes l₀) ss roots counts (take nodes l₁) roots′ counts′ → list′ ≡ filled (take nodes l₁) list

@@ -1,7 +1,7 @@
 -- What the functions of a toggle keep: one label alone has changed, marks stand on the nodes with a changed child, the answers of the first toggles.
 use Prim.Native.Nat.{ℕ, _<_, _≤_}
 use mathlib.Core.Path.{_≡_}
-use mathlib.Core.Bool.{Bool, true, false, not, _&&_, _||_}
+use mathlib.Core.Bool.{true, false, not, _&&_, _||_}
 use mathlib.Core.List.{List}
 use lib.Dec.{eqb, ltb}
 use lib.ListN.{length, getD, set, take}
@@ -9,9 +9,10 @@ use Rattle.outcome.specs.Lent.{filled}
 use Rattle.contraction.specs.Records.{Rec, children}
 use Rattle.contraction.specs.Steps.{recAt, recs}
 use Rattle.formula.specs.States.{outside}
-use Rattle.marks.specs.Marks.{marked, Clear}
+use Rattle.marks.specs.declared.Marks.{Marks}
+use Rattle.marks.specs.Marks.{marked, all, Rising, Lowest, Empty}
 use Rattle.labels.specs.Labels.{labels}
-use Rattle.labels.specs.Steps.{Linked, Ready}
+use Rattle.labels.specs.Steps.{Rules, Linked, Ready}
 use Rattle.toggles.specs.Toggles.{flipLeaves, changed, reworked, toggleEach}
 
 -- The labels ls of the nodes differ from those before, `old`, at node c and nowhere else.
@@ -30,56 +31,66 @@ pub record Due (ks fs ss : List ℕ) (nodes : ℕ) (old ls ms : List ℕ) (j : �
 pub record Within (nodes : ℕ) (ms : List ℕ) : Type 0 where
   pub node : (k : ℕ) → k < 3072 → marked ms k ≡ true → k < nodes
 
--- No mark at all.
-pub record Bare (ms : List ℕ) : Type 0 where
-  pub none : (k : ℕ) → k < 3072 → marked ms k ≡ false
+-- No mark at all, and the first word in hand.
+pub record Bare (ws : List ℕ) (m : Marks) : Type 0 where
+  pub rising : Rising ws m
+  pub first : m .at ≡ 0
+  pub empty : Empty (all ws m)
 
 -- Node p marked, where there is such a node.
-pub record AddedNode (nodes p : ℕ) (ms ms′ : List ℕ) : Type 0 where
-  pub so : (i : ℕ) → marked ms′ i ≡ (marked ms i || (ltb p nodes && eqb i p))
+pub record AddedNode (nodes p : ℕ) (ws : List ℕ) (m : Marks) (ws′ : List ℕ) (m′ : Marks) : Type 0 where
+  pub rising : Rising ws′ m′
+  pub first : m′ .at ≡ 0
+  pub so : (i : ℕ) → marked (all ws′ m′) i ≡ (marked (all ws m) i || (ltb p nodes && eqb i p))
 
 -- What goes up from one node asks for,
-pub record Climbs (ks fs ss : List ℕ) (leaves nodes : ℕ) (ps ls : List ℕ) (node : ℕ) : Type 0 where
+pub record Climbs (rules ks fs ss : List ℕ) (leaves nodes : ℕ) (ps ls : List ℕ) (node : ℕ) : Type 0 where
+  pub ruled : Rules rules
   pub linked : Linked ks fs ss leaves nodes ps
   pub long : length ls ≡ 3072
   pub inside : node < nodes
 
 -- what goes up from marks,
-pub record Settles (ks fs ss : List ℕ) (leaves nodes : ℕ) (ps ls ms : List ℕ) : Type 0 where
+pub record Settles (rules ks fs ss : List ℕ) (leaves nodes : ℕ) (ps ls ws : List ℕ) (m : Marks) : Type 0 where
+  pub ruled : Rules rules
   pub linked : Linked ks fs ss leaves nodes ps
   pub long : length ls ≡ 3072
-  pub within : Within nodes ms
+  pub rising : Rising ws m
+  pub within : Within nodes (all ws m)
 
 -- and a toggle of shape s.
-pub record Toggles (ks fs ss : List ℕ) (leaves nodes : ℕ) (ps hs ns ls : List ℕ) (s : ℕ) : Type 0 where
+pub record Toggles (rules ks fs ss : List ℕ) (leaves nodes : ℕ) (ps hs ns ls : List ℕ) (s : ℕ) : Type 0 where
+  pub ruled : Rules rules
   pub ready : Ready ks fs ss leaves nodes ps hs ns
   pub long : length ls ≡ 3072
   pub shape : s < 256
 
 -- Node k is one of the nodes and has the lowest mark, and the node above it has a larger number.
-pub record Ripe (nodes k : ℕ) (ps ms : List ℕ) : Type 0 where
+pub record Ripe (nodes k : ℕ) (ps ws : List ℕ) (m : Marks) : Type 0 where
   pub room : nodes ≤ 3072
   pub node : k < nodes
-  pub due : marked ms k ≡ true
-  pub low : (i : ℕ) → i < k → marked ms i ≡ false
+  pub rising : Rising ws m
+  pub lowest : Lowest m k
   pub rises : k < getD ps k 0
 
 -- Node k is reworked and its mark taken off; where its label was another, the node above it is marked.
-pub record Settled (ks fs ss : List ℕ) (nodes : ℕ) (ps : List ℕ) (k : ℕ) (ls ms ls′ ms′ : List ℕ) : Type 0 where
+pub record Settled (ks fs ss : List ℕ) (nodes : ℕ) (ps : List ℕ) (k : ℕ) (ls ws : List ℕ) (m : Marks) (ls′ ws′ : List ℕ) (m′ : Marks) : Type 0 where
   pub labels-are : ls′ ≡ set ls k (reworked ls (recAt ks fs ss k))
-  pub clear : Clear ms′ k
-  pub marks-are : (i : ℕ) → marked ms′ i
-      ≡ (marked ms i && not (eqb i k) || (not (eqb (reworked ls (recAt ks fs ss k)) (getD ls k 0)) && (ltb (getD ps k 0) nodes && eqb i (getD ps k 0))))
+  pub rising : Rising ws′ m′
+  pub marks-are : (i : ℕ) → marked (all ws′ m′) i
+      ≡ (marked (all ws m) i && not (eqb i k) || (not (eqb (reworked ls (recAt ks fs ss k)) (getD ls k 0)) && (ltb (getD ps k 0) nodes && eqb i (getD ps k 0))))
 
 -- The leaves of shape s are flipped, and the marks stand on the nodes above them.
-pub record Flipped (ks fs ss : List ℕ) (leaves nodes s : ℕ) (old ls ms : List ℕ) : Type 0 where
+pub record Flipped (ks fs ss : List ℕ) (leaves nodes s : ℕ) (old ls ws : List ℕ) (m : Marks) : Type 0 where
   pub labels-are : take nodes ls ≡ flipLeaves s (recs ks fs ss 0 nodes) 0 (take nodes old)
   pub long : length ls ≡ 3072
-  pub within : Within nodes ms
-  pub due : Due ks fs ss nodes (take nodes old) ls ms leaves
+  pub rising : Rising ws m
+  pub within : Within nodes (all ws m)
+  pub due : Due ks fs ss nodes (take nodes old) ls (all ws m) leaves
 
 -- All that a run fills before its first toggle.
-pub record Tables (ks fs ss : List ℕ) (leaves nodes : ℕ) (ls ps hs ns : List ℕ) : Type 0 where
+pub record Tables (rules ks fs ss : List ℕ) (leaves nodes : ℕ) (ls ps hs ns : List ℕ) : Type 0 where
+  pub ruled : Rules rules
   pub ready : Ready ks fs ss leaves nodes ps hs ns
   pub long : length ls ≡ 3072
   pub room : nodes ≤ 3072

@@ -8,11 +8,13 @@ ghost use Rattle.contraction.specs.Height.{last};
 ghost use Rattle.contraction.specs.Steps.{recs};
 ghost use Rattle.outcome.specs.Lent.{filled};
 ghost use Rattle.labels.specs.Arrays.{Holds, Tree};
-ghost use Rattle.labels.specs.Steps.{Ready};
+ghost use Rattle.marks.specs.Marks.{all, Rising};
+ghost use Rattle.labels.specs.Steps.{Rules, Ready};
 ghost use Rattle.toggles.specs.Toggles.{steps, flip as flipOf, rework, toggle as toggleOf};
 ghost use Rattle.toggles.specs.Steps.{Alone, Due, Bare, AddedNode, Climbs, Ripe, Settles, Settled, Toggles, Flipped, Tables, RunDone};
 ghost use Rattle.toggles.specs.Named.{firstWrong};
 ghost use Rattle.toggles.specs.Ran.{ToggleRoom, RunRoom, TreeRun};
+use marks::Marks;
 
 // The other bit.
 fn flip(v: u8) -> u8
@@ -23,6 +25,7 @@ fn flip(v: u8) -> u8
 
 // The nodes reworked above one node whose label alone has changed: straight up, until a label comes out as it was. How many they are.
 fn walk(
+    rules: &[u8; 256],
     kinds: &[u16; 3072],
     firsts: &[u16; 3072],
     seconds: &[u16; 3072],
@@ -32,7 +35,7 @@ fn walk(
     labels: &mut [u8; 3072],
     node: usize,
 ) -> u32
-    requires { ⌜ Climbs (now kinds) (now firsts) (now seconds) leaves nodes (now parents) (now labels) node ⌝ }
+    requires { ⌜ Climbs (now rules) (now kinds) (now firsts) (now seconds) leaves nodes (now parents) (now labels) node ⌝ }
     ensures { λ _. ⌜ length (now (labels .exit)) ≡ 3072 ⌝ }
     ensures { λ r. ⌜ ((old : List ℕ) → Alone nodes old (now (labels .entry)) node
         → steps (take nodes (now (labels .exit))) r
@@ -41,7 +44,7 @@ fn walk(
     let mut p = labels::wide(parents[node]);
     let mut count: u32 = 0;
     while p < nodes {
-        let v = labels::work(kinds, firsts, seconds, labels, p);
+        let v = labels::work(rules, kinds, firsts, seconds, labels, p);
         let worked = count + 1;
         if v == labels[p] {
             return worked;
@@ -53,35 +56,39 @@ fn walk(
     count
 }
 
-// Node k, which is marked, reworked: its mark is taken off and, where its label changes, the node above it is marked.
+// Node k, which has the lowest mark, reworked: its mark is taken off and, where its label changes, the node above it is marked.
 fn rework_node(
+    rules: &[u8; 256],
     kinds: &[u16; 3072],
     firsts: &[u16; 3072],
     seconds: &[u16; 3072],
     nodes: usize,
     parents: &[u16; 3072],
     labels: &mut [u8; 3072],
-    marks: &mut [u64; 48],
+    words: &mut [u64; 48],
+    m: Marks,
     k: usize,
-)
-    requires { ⌜ Ripe nodes k (now parents) (now marks) ⌝ }
-    ensures { λ _. ⌜ Settled (now (kinds .entry)) (now (firsts .entry)) (now (seconds .entry)) nodes (now (parents .entry)) k
-        (now (labels .entry)) (now (marks .entry)) (now (labels .exit)) (now (marks .exit)) ⌝ }
+) -> Marks
+    requires { ⌜ Rules (now rules) × Ripe nodes k (now parents) (now words) m ⌝ }
+    ensures { λ r. ⌜ Settled (now (kinds .entry)) (now (firsts .entry)) (now (seconds .entry)) nodes (now (parents .entry)) k
+        (now (labels .entry)) (now (words .entry)) m (now (labels .exit)) (now (words .exit)) r ⌝ }
 {
-    marks::unmark(marks, k);
-    let v = labels::work(kinds, firsts, seconds, labels, k);
+    let left = marks::unmark(m, k);
+    let v = labels::work(rules, kinds, firsts, seconds, labels, k);
     if v == labels[k] {
-        return;
+        return left;
     }
     labels[k] = v;
     let p = labels::wide(parents[k]);
     if p < nodes {
-        marks::mark(marks, p);
+        return marks::mark(words, left, p);
     }
+    left
 }
 
 // The marked nodes reworked in rising number, and every node above one whose label changes. How many they are.
-fn settle(
+pub fn settle(
+    rules: &[u8; 256],
     kinds: &[u16; 3072],
     firsts: &[u16; 3072],
     seconds: &[u16; 3072],
@@ -89,32 +96,46 @@ fn settle(
     nodes: usize,
     parents: &[u16; 3072],
     labels: &mut [u8; 3072],
-    marks: &mut [u64; 48],
+    words: &mut [u64; 48],
+    marked: Marks,
 ) -> u32
-    requires { ⌜ Settles (now kinds) (now firsts) (now seconds) leaves nodes (now parents) (now labels) (now marks) ⌝ }
+    requires { ⌜ Settles (now rules) (now kinds) (now firsts) (now seconds) leaves nodes (now parents) (now labels) (now words) marked ⌝ }
     ensures { λ _. ⌜ length (now (labels .exit)) ≡ 3072 ⌝ }
-    ensures { λ r. ⌜ ((old : List ℕ) (j : ℕ) → Due (now (kinds .entry)) (now (firsts .entry)) (now (seconds .entry)) nodes old (now (labels .entry)) (now (marks .entry)) j
+    ensures { λ r. ⌜ ((old : List ℕ) (j : ℕ) → Due (now (kinds .entry)) (now (firsts .entry)) (now (seconds .entry)) nodes old (now (labels .entry)) (all (now (words .entry)) marked) j
         → steps (take nodes (now (labels .exit))) r
         ≡ rework old (recs (now (kinds .entry)) (now (firsts .entry)) (now (seconds .entry)) j (nodes - j)) j (take nodes (now (labels .entry)))) ⌝ }
 {
-    let mut k = marks::first_mark(marks, 0);
+    let mut m = marks::next(words, marked);
     let mut count: u32 = 0;
-    while k < nodes {
-        rework_node(kinds, firsts, seconds, nodes, parents, labels, marks, k);
+    while m.word != 0 {
+        let k = marks::lowest(m);
+        let after = rework_node(
+            rules,
+            kinds,
+            firsts,
+            seconds,
+            nodes,
+            parents,
+            labels,
+            words,
+            m,
+            k,
+        );
         count += 1;
-        k = marks::first_mark(marks, k);
+        m = marks::next(words, after);
     }
     count
 }
 
 // Marks node p, where there is such a node.
-fn mark_node(marks: &mut [u64; 48], p: usize, nodes: usize)
-    requires { ⌜ nodes ≤ 3072 ⌝ }
-    ensures { λ _. ⌜ AddedNode nodes p (now (marks .entry)) (now (marks .exit)) ⌝ }
+fn mark_node(words: &mut [u64; 48], m: Marks, p: usize, nodes: usize) -> Marks
+    requires { ⌜ Rising (now words) m × (m .at ≡ 0) × (nodes ≤ 3072) ⌝ }
+    ensures { λ r. ⌜ AddedNode nodes p (now (words .entry)) m (now (words .exit)) r ⌝ }
 {
     if p < nodes {
-        marks::mark(marks, p);
+        return marks::mark(words, m, p);
     }
+    m
 }
 
 // The leaves of a shape flipped, from its first leaf on, and the nodes above them marked.
@@ -128,22 +149,26 @@ fn flip_leaves(
     heads: &[u16; 256],
     nexts: &[u16; 1024],
     labels: &mut [u8; 3072],
-    marks: &mut [u64; 48],
+    words: &mut [u64; 48],
+    none: Marks,
     s: usize,
-)
-    requires { ⌜ Toggles (now kinds) (now firsts) (now seconds) leaves nodes (now parents) (now heads) (now nexts) (now labels) s × Bare (now marks) ⌝ }
-    ensures { λ _. ⌜ Flipped (now (kinds .entry)) (now (firsts .entry)) (now (seconds .entry)) leaves nodes s (now (labels .entry)) (now (labels .exit)) (now (marks .exit)) ⌝ }
+) -> Marks
+    requires { ⌜ Ready (now kinds) (now firsts) (now seconds) leaves nodes (now parents) (now heads) (now nexts) × (length (now labels) ≡ 3072) × (s < 256) × Bare (now words) none ⌝ }
+    ensures { λ r. ⌜ Flipped (now (kinds .entry)) (now (firsts .entry)) (now (seconds .entry)) leaves nodes s (now (labels .entry)) (now (labels .exit)) (now (words .exit)) r ⌝ }
 {
     let mut a = labels::wide(heads[s]);
+    let mut m = none;
     while a < leaves {
         labels[a] = flip(labels[a]);
-        mark_node(marks, labels::wide(parents[a]), nodes);
+        m = mark_node(words, m, labels::wide(parents[a]), nodes);
         a = labels::wide(nexts[a]);
     }
+    m
 }
 
 // A toggle of shape s, which stands at several leaves. The number of nodes reworked.
 fn toggle_many(
+    rules: &[u8; 256],
     kinds: &[u16; 3072],
     firsts: &[u16; 3072],
     seconds: &[u16; 3072],
@@ -155,13 +180,14 @@ fn toggle_many(
     labels: &mut [u8; 3072],
     s: usize,
 ) -> u32
-    requires { ⌜ Toggles (now kinds) (now firsts) (now seconds) leaves nodes (now parents) (now heads) (now nexts) (now labels) s ⌝ }
+    requires { ⌜ Toggles (now rules) (now kinds) (now firsts) (now seconds) leaves nodes (now parents) (now heads) (now nexts) (now labels) s ⌝ }
     ensures { λ _. ⌜ length (now (labels .exit)) ≡ 3072 ⌝ }
     ensures { λ r. ⌜ steps (take nodes (now (labels .exit))) r
         ≡ toggleOf (recs (now (kinds .entry)) (now (firsts .entry)) (now (seconds .entry)) 0 nodes) s (take nodes (now (labels .entry))) ⌝ }
 {
-    let mut marks = [0u64; 48];
-    flip_leaves(
+    let mut words = [0u64; 48];
+    let none = marks::none();
+    let m = flip_leaves(
         kinds,
         firsts,
         seconds,
@@ -171,10 +197,12 @@ fn toggle_many(
         heads,
         nexts,
         labels,
-        &mut marks,
+        &mut words,
+        none,
         s,
     );
     settle(
+        rules,
         kinds,
         firsts,
         seconds,
@@ -182,12 +210,14 @@ fn toggle_many(
         nodes,
         parents,
         labels,
-        &mut marks,
+        &mut words,
+        m,
     )
 }
 
 // A toggle of shape s. The number of nodes reworked. Above a single leaf one node at a time is due, and no mark is needed.
 fn toggle(
+    rules: &[u8; 256],
     kinds: &[u16; 3072],
     firsts: &[u16; 3072],
     seconds: &[u16; 3072],
@@ -199,7 +229,7 @@ fn toggle(
     labels: &mut [u8; 3072],
     s: usize,
 ) -> u32
-    requires { ⌜ Toggles (now kinds) (now firsts) (now seconds) leaves nodes (now parents) (now heads) (now nexts) (now labels) s ⌝ }
+    requires { ⌜ Toggles (now rules) (now kinds) (now firsts) (now seconds) leaves nodes (now parents) (now heads) (now nexts) (now labels) s ⌝ }
     ensures { λ _. ⌜ length (now (labels .exit)) ≡ 3072 ⌝ }
     ensures { λ r. ⌜ steps (take nodes (now (labels .exit))) r
         ≡ toggleOf (recs (now (kinds .entry)) (now (firsts .entry)) (now (seconds .entry)) 0 nodes) s (take nodes (now (labels .entry))) ⌝ }
@@ -211,6 +241,7 @@ fn toggle(
     let b = labels::wide(nexts[a]);
     if b < leaves {
         return toggle_many(
+            rules,
             kinds,
             firsts,
             seconds,
@@ -224,7 +255,17 @@ fn toggle(
         );
     }
     labels[a] = flip(labels[a]);
-    walk(kinds, firsts, seconds, leaves, nodes, parents, labels, a)
+    walk(
+        rules,
+        kinds,
+        firsts,
+        seconds,
+        leaves,
+        nodes,
+        parents,
+        labels,
+        a,
+    )
 }
 
 // The label of the root, which is the last node.
@@ -238,6 +279,7 @@ fn root(labels: &[u8; 3072], nodes: usize) -> u8
 
 // The toggles one after the other, with a root and a count for each.
 fn toggle_each(
+    rules: &[u8; 256],
     kinds: &[u16; 3072],
     firsts: &[u16; 3072],
     seconds: &[u16; 3072],
@@ -251,7 +293,7 @@ fn toggle_each(
     roots: &mut [u8],
     counts: &mut [u32],
 )
-    requires { ⌜ Ready (now kinds) (now firsts) (now seconds) leaves nodes (now parents) (now heads) (now nexts) × (length (now labels) ≡ 3072) ⌝ }
+    requires { ⌜ Rules (now rules) × Ready (now kinds) (now firsts) (now seconds) leaves nodes (now parents) (now heads) (now nexts) × (length (now labels) ≡ 3072) ⌝ }
     requires { ⌜ ToggleRoom (now toggles) (now roots) (now counts) ⌝ }
     ensures { λ _. ⌜ RunDone (recs (now (kinds .entry)) (now (firsts .entry)) (now (seconds .entry)) 0 nodes) (take nodes (now (labels .entry))) (now (toggles .entry))
         (now (roots .entry)) (now (counts .entry)) (take nodes (now (labels .exit))) (now (roots .exit)) (now (counts .exit)) ⌝ }
@@ -260,6 +302,7 @@ fn toggle_each(
     while i < toggles.len() {
         let s = labels::wide(toggles[i]);
         counts[i] = toggle(
+            rules,
             kinds,
             firsts,
             seconds,
@@ -311,8 +354,9 @@ fn narrow(x: usize) -> u16
     x as u16
 }
 
-// The labels with every shape outside, each node's parent and the leaves of each shape.
+// The rules of the labels, the labels with every shape outside, each node's parent and the leaves of each shape.
 fn fill_tables(
+    rules: &mut [u8; 256],
     kinds: &[u16; 3072],
     firsts: &[u16; 3072],
     seconds: &[u16; 3072],
@@ -324,11 +368,12 @@ fn fill_tables(
     nexts: &mut [u16; 1024],
 )
     requires { ⌜ Tree (now kinds) (now firsts) (now seconds) leaves nodes ⌝ }
-    ensures { λ _. ⌜ Tables (now (kinds .entry)) (now (firsts .entry)) (now (seconds .entry)) leaves nodes (now (labels .exit)) (now (parents .exit)) (now (heads .exit)) (now (nexts .exit)) ⌝ }
+    ensures { λ _. ⌜ Tables (now (rules .exit)) (now (kinds .entry)) (now (firsts .entry)) (now (seconds .entry)) leaves nodes (now (labels .exit)) (now (parents .exit)) (now (heads .exit)) (now (nexts .exit)) ⌝ }
 {
     let few = narrow(leaves);
     let all = narrow(nodes);
-    labels::fill_labels(kinds, firsts, seconds, leaves, nodes, labels);
+    labels::fill_rules(rules);
+    labels::fill_labels(rules, kinds, firsts, seconds, leaves, nodes, labels);
     labels::fill_parents(kinds, firsts, seconds, all, parents);
     labels::fill_chains(kinds, firsts, seconds, few, all, heads, nexts);
 }
@@ -349,11 +394,13 @@ pub fn run_tree(
     ensures { λ _. ⌜ ((f : Formula) → Holds (now (kinds .entry)) (now (firsts .entry)) (now (seconds .entry)) leaves nodes f
         → TreeRun f (now (toggles .entry)) (now (roots .entry)) (now (counts .entry)) (now (labels .entry)) (now (roots .exit)) (now (counts .exit)) (now (labels .exit))) ⌝ }
 {
+    let mut rules = [0u8; 256];
     let mut current = [0u8; 3072];
     let mut parents = [0u16; 3072];
     let mut heads = [0u16; 256];
     let mut nexts = [0u16; 1024];
     fill_tables(
+        &mut rules,
         kinds,
         firsts,
         seconds,
@@ -365,6 +412,7 @@ pub fn run_tree(
         &mut nexts,
     );
     toggle_each(
+        &rules,
         kinds,
         firsts,
         seconds,

@@ -6,10 +6,10 @@ use Rattle.labels.proofs.fill_labels.Statement.{statement}
 use Rattle.labels.proofs.fill_labels.Tie as tie
 
 abbrev Inv-loop : tie.InvT-loop
-Inv-loop kinds firsts seconds leaves nodes labels₀ j₀ labels j = LabelsTo kinds firsts seconds nodes j labels
+Inv-loop rules kinds firsts seconds leaves nodes labels₀ j₀ labels j = LabelsTo kinds firsts seconds nodes j labels
 
 abbrev μ-loop : tie.MeasureT-loop
-μ-loop kinds firsts seconds leaves nodes labels₀ j₀ labels j = nodes - j
+μ-loop rules kinds firsts seconds leaves nodes labels₀ j₀ labels j = nodes - j
 
 loop-holds : tie.Need-loop-holds Inv-loop μ-loop
 loop-holds c = labels-start _

@@ -22,14 +22,14 @@ element-copy-out-label-at-2 c = search needs
 label-at-requires-2 : tie.Need-label-at-requires-2
 label-at-requires-2 c κs = search needs
 
-mul-label : tie.Need-mul-label
-mul-label c = search needs
+mul-rule-of : tie.Need-mul-rule-of
+mul-rule-of c = search needs
 
-element-copy-out-label : tie.Need-element-copy-out-label
-element-copy-out-label c = search needs
+element-copy-out-rule-of : tie.Need-element-copy-out-rule-of
+element-copy-out-rule-of c = search needs
 
-label-requires : tie.Need-label-requires
-label-requires c κs = search needs
+rule-of-requires : tie.Need-rule-of-requires
+rule-of-requires c κs = search needs
 
 returns : tie.Need-returns
 returns c = search label-worked
@@ -44,7 +44,7 @@ work-spec =
     mul-label-at-2
     element-copy-out-label-at-2
     label-at-requires-2
-    mul-label
-    element-copy-out-label
-    label-requires
+    mul-rule-of
+    element-copy-out-rule-of
+    rule-of-requires
     returns)

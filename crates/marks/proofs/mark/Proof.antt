@@ -1,8 +1,14 @@
 -- `marks::mark` meets its contract.
 use borrow.Author.Needs.{needs}
-use Rattle.marks.proofs.Bits.{marking}
+use Rattle.marks.proofs.Sets.{put-in-hand, put-later}
 use Rattle.marks.proofs.mark.Statement.{statement}
 use Rattle.marks.proofs.mark.Tie as tie
+
+shl-t12 : tie.Need-shl-t12
+shl-t12 c = search needs
+
+returns : tie.Need-returns
+returns c = search put-in-hand
 
 mul-s : tie.Need-mul-s
 mul-s c = search needs
@@ -19,8 +25,13 @@ mul-s-2 c = search needs
 slice-write-s : tie.Need-slice-write-s
 slice-write-s c = search needs
 
-returns : tie.Need-returns
-returns c = search marking
+shl-t18 : tie.Need-shl-t18
+shl-t18 c = search needs
+
+returns-2 : tie.Need-returns-2
+returns-2 c = search put-later
 
 pub mark-spec : {M : Type 1} → statement M
-mark-spec = tie.close (tie.spec mul-s slice-read-s shl-s mul-s-2 slice-write-s returns)
+mark-spec =
+    tie.close
+    (tie.spec shl-t12 returns mul-s slice-read-s shl-s mul-s-2 slice-write-s shl-t18 returns-2)

@@ -10,8 +10,11 @@ narrow-requires c κs = search needs
 narrow-requires-2 : tie.Need-narrow-requires-2
 narrow-requires-2 c κs = search tree-fits
 
+fill-rules-requires : tie.Need-fill-rules-requires
+fill-rules-requires c κs = search needs
+
 fill-labels-requires : tie.Need-fill-labels-requires
-fill-labels-requires c κs = search tree-shaped
+fill-labels-requires c κs = search (tree-shaped, needs)
 
 fill-parents-requires : tie.Need-fill-parents-requires
 fill-parents-requires c κs = search narrow-room
@@ -28,6 +31,7 @@ fill-tables-spec =
     (tie.spec
     narrow-requires
     narrow-requires-2
+    fill-rules-requires
     fill-labels-requires
     fill-parents-requires
     fill-chains-requires

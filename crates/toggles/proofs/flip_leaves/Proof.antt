@@ -8,10 +8,10 @@ use Rattle.toggles.proofs.flip_leaves.Statement.{statement}
 use Rattle.toggles.proofs.flip_leaves.Tie as tie
 
 abbrev Inv-loop : tie.InvT-loop
-Inv-loop kinds firsts seconds leaves nodes parents heads nexts labels₀ marks₀ s a₀ labels marks a = Flipping kinds firsts seconds leaves nodes parents heads nexts s labels₀ a labels marks
+Inv-loop kinds firsts seconds leaves nodes parents heads nexts labels₀ words₀ s a₀ m₀ labels words a m = Flipping kinds firsts seconds leaves nodes parents heads nexts s labels₀ a labels words m
 
 abbrev μ-loop : tie.MeasureT-loop
-μ-loop kinds firsts seconds leaves nodes parents heads nexts labels₀ marks₀ s a₀ labels marks a = leaves - a
+μ-loop kinds firsts seconds leaves nodes parents heads nexts labels₀ words₀ s a₀ m₀ labels words a m = leaves - a
 
 mul-wide : tie.Need-mul-wide Inv-loop μ-loop
 mul-wide c = search needs
@@ -59,7 +59,7 @@ loop-less : tie.Need-loop-less Inv-loop μ-loop
 loop-less c = search (nearer, next-after, parent-after, leaf-inside)
 
 loop-again : tie.Need-loop-again Inv-loop μ-loop
-loop-again c = search flipping-on
+loop-again c = search (flipping-on, c .before .before .mark-node .ensures, c .before .before .before .before .before .before .before .before .before .loop .inv)
 
 returns : tie.Need-returns Inv-loop μ-loop
 returns c = search flipping-end

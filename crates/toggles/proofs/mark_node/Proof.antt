@@ -14,9 +14,4 @@ returns-2 : tie.Need-returns-2
 returns-2 c = search node-none
 
 pub mark-node-spec : {M : Type 1} → statement M
-mark-node-spec =
-    tie.close
-    (tie.spec
-    mark-requires
-    returns
-    returns-2)
+mark-node-spec = tie.close (tie.spec mark-requires returns returns-2)

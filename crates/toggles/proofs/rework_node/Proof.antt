@@ -1,6 +1,6 @@
 -- `toggles::rework_node` meets its contract.
 use borrow.Author.Needs.{needs}
-use Rattle.toggles.proofs.Settles.{settled-mark, settled-top, settled-same}
+use Rattle.toggles.proofs.Settles.{above-hand, still-rising, settled-mark, settled-top, settled-same}
 use Rattle.toggles.proofs.rework_node.Statement.{statement}
 use Rattle.toggles.proofs.rework_node.Tie as tie
 
@@ -29,7 +29,7 @@ wide-requires : tie.Need-wide-requires
 wide-requires c κs = search needs
 
 mark-requires : tie.Need-mark-requires
-mark-requires c κs = search needs
+mark-requires c κs = search (still-rising, above-hand, needs)
 
 returns-2 : tie.Need-returns-2
 returns-2 c = search settled-mark

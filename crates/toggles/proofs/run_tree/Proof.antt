@@ -1,6 +1,6 @@
 -- `toggles::run_tree` meets its contract.
 use borrow.Author.Needs.{needs}
-use Rattle.toggles.proofs.RanLaws.{ran}
+use Rattle.toggles.proofs.RanLaws.{run-nodes, ran}
 use Rattle.toggles.proofs.run_tree.Statement.{statement}
 use Rattle.toggles.proofs.run_tree.Tie as tie
 
@@ -11,7 +11,7 @@ toggle-each-requires : tie.Need-toggle-each-requires
 toggle-each-requires c κs = search needs
 
 copy-labels-requires : tie.Need-copy-labels-requires
-copy-labels-requires c κs = search needs
+copy-labels-requires c κs = let asked = c .before .before .before .before .before .before .before .before .before .before .before .before .before .before .before .before .before .before .before .before .before .before .before .before .pre in (run-nodes asked, asked .for-labels)
 
 same-length : tie.Need-same-length
 same-length c = search needs

@@ -1,40 +1,44 @@
--- `toggles::settle` meets its contract. The loop keeps: the lowest mark is on k, and the pass that is left is that of the definition.
+-- `toggles::settle` meets its contract. The loop keeps: the pass that is left is that of the definition.
 use Prim.Native.Nat.{_-_}
+use lib.Dec.{lit<}
 use borrow.Author.Needs.{needs}
-use Rattle.toggles.proofs.Upwards.{nearer}
-use Rattle.toggles.proofs.Settles.{Settling, nothing-below, settling-start, settling-ripe, settling-rises, settling-on, settling-end}
+use Rattle.marks.specs.Marks.{all}
+use Rattle.toggles.proofs.Settles.{Settling, fewer, settling-start, settling-few, settling-fits, settling-ripe, settling-on, settling-ends}
 use Rattle.toggles.proofs.settle.Statement.{statement}
 use Rattle.toggles.proofs.settle.Tie as tie
 
 abbrev Inv-loop : tie.InvT-loop
-Inv-loop kinds firsts seconds leaves nodes parents labels₀ marks₀ k₀ count₀ labels marks k count = Settling kinds firsts seconds leaves nodes parents labels₀ marks₀ k labels marks count
+Inv-loop rules kinds firsts seconds leaves nodes parents labels₀ words₀ m₀ count₀ labels words m count = Settling kinds firsts seconds leaves nodes parents labels₀ (all words₀ m₀) labels words m count
 
 abbrev μ-loop : tie.MeasureT-loop
-μ-loop kinds firsts seconds leaves nodes parents labels₀ marks₀ k₀ count₀ labels marks k count = nodes - k
+μ-loop rules kinds firsts seconds leaves nodes parents labels₀ words₀ m₀ count₀ labels words m count = 3072 - count
 
-first-mark-requires : tie.Need-first-mark-requires Inv-loop μ-loop
-first-mark-requires c κs = nothing-below _
+next-requires : tie.Need-next-requires Inv-loop μ-loop
+next-requires c κs = search needs
 
 loop-holds : tie.Need-loop-holds Inv-loop μ-loop
 loop-holds c = search settling-start
 
+lowest-requires : tie.Need-lowest-requires Inv-loop μ-loop
+lowest-requires c κs = search needs
+
 rework-node-requires : tie.Need-rework-node-requires Inv-loop μ-loop
-rework-node-requires c κs = search settling-ripe
+rework-node-requires c κs = search (settling-ripe, needs)
 
 add-count : tie.Need-add-count Inv-loop μ-loop
-add-count c = search needs
+add-count c = search (settling-fits, lit<)
 
-first-mark-requires-2 : tie.Need-first-mark-requires-2 Inv-loop μ-loop
-first-mark-requires-2 c κs = search needs
+next-requires-2 : tie.Need-next-requires-2 Inv-loop μ-loop
+next-requires-2 c κs = search needs
 
 loop-less : tie.Need-loop-less Inv-loop μ-loop
-loop-less c = search (nearer, settling-rises)
+loop-less c = search (fewer, settling-few, lit<)
 
 loop-again : tie.Need-loop-again Inv-loop μ-loop
 loop-again c = search settling-on
 
 returns : tie.Need-returns Inv-loop μ-loop
-returns c = (search needs, search settling-end)
+returns c = (search needs, search settling-ends)
 
 pub settle-spec : {M : Type 1} → statement M
 settle-spec =
@@ -42,11 +46,12 @@ settle-spec =
     (tie.spec
     Inv-loop
     μ-loop
-    first-mark-requires
+    next-requires
     loop-holds
+    lowest-requires
     rework-node-requires
     add-count
-    first-mark-requires-2
+    next-requires-2
     loop-less
     loop-again
     returns)

@@ -7,10 +7,10 @@ use Rattle.toggles.proofs.walk.Statement.{statement}
 use Rattle.toggles.proofs.walk.Tie as tie
 
 abbrev Inv-loop : tie.InvT-loop
-Inv-loop kinds firsts seconds leaves nodes parents labels₀ node p₀ count₀ labels p count = Walking kinds firsts seconds leaves nodes parents node labels₀ p labels count
+Inv-loop rules kinds firsts seconds leaves nodes parents labels₀ node p₀ count₀ labels p count = Walking kinds firsts seconds leaves nodes parents node labels₀ p labels count
 
 abbrev μ-loop : tie.MeasureT-loop
-μ-loop kinds firsts seconds leaves nodes parents labels₀ node p₀ count₀ labels p count = nodes - p
+μ-loop rules kinds firsts seconds leaves nodes parents labels₀ node p₀ count₀ labels p count = nodes - p
 
 mul-wide : tie.Need-mul-wide Inv-loop μ-loop
 mul-wide c = search needs

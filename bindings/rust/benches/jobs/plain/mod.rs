@@ -5,6 +5,7 @@
 mod dwarf;
 mod read;
 mod run;
+mod walk;
 mod walls;
 
 pub use dwarf::build;

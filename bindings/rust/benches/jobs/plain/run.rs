@@ -1,4 +1,5 @@
-//! Running: parents and the leaves of each shape are lists of numbers, a walk goes up from a single leaf, and marks say which nodes are due above several.
+//! Running: parents and the leaves of each shape are lists of numbers, labels are looked up by kind and children, a walk goes up from a
+//! single leaf, and marks say which nodes are due above several.
 
 use super::{contracted, enough, Dwarf, Refused};
 
@@ -6,10 +7,12 @@ const NONE: u16 = 65535;
 const NODES: usize = 3069;
 
 /// A dwarf tree with its labels, ready for toggles.
-pub struct Labels {
-    pub dwarf: Dwarf,
-    pub labels: [u8; NODES],
+struct Labels {
+    dwarf: Dwarf,
+    labels: [u8; NODES],
     parents: [u16; NODES],
+    /// What each kind makes of two labels.
+    rules: [u8; 256],
     /// The first leaf of each shape, and the next leaf of the same shape after each leaf.
     first_leaf: [u16; 256],
     next_leaf: [u16; 1024],
@@ -17,8 +20,9 @@ pub struct Labels {
 
 impl Labels {
     /// All shapes outside.
-    pub fn outside(dwarf: Dwarf) -> Labels {
-        let mut all = Labels { dwarf, labels: [0; NODES], parents: [NONE; NODES], first_leaf: [NONE; 256], next_leaf: [NONE; 1024] };
+    fn outside(dwarf: Dwarf) -> Labels {
+        let (parents, rules) = ([NONE; NODES], std::array::from_fn(|i| rule(i / 16, (i / 4 % 4) as u8, (i % 4) as u8)));
+        let mut all = Labels { dwarf, labels: [0; NODES], parents, rules, first_leaf: [NONE; 256], next_leaf: [NONE; 1024] };
         for leaf in (0..all.dwarf.leaves).rev() {
             let shape = usize::from(all.dwarf.firsts[leaf]);
             all.next_leaf[leaf] = all.first_leaf[shape];
@@ -34,12 +38,12 @@ impl Labels {
         all
     }
 
-    pub fn root(&self) -> u8 {
+    fn root(&self) -> u8 {
         self.labels[self.dwarf.nodes - 1]
     }
 
     /// Flips the leaves of a shape and reworks each node with a changed child, in rising number; gives how many.
-    pub fn toggle(&mut self, shape: u16) -> u32 {
+    fn toggle(&mut self, shape: u16) -> u32 {
         let mut leaf = self.first_leaf[usize::from(shape)];
         if leaf == NONE {
             return 0;
@@ -48,7 +52,7 @@ impl Labels {
             self.labels[usize::from(leaf)] ^= 1;
             return self.walk(leaf);
         }
-        let mut marks = Marks([0; 48]);
+        let mut marks = Marks { words: [0; 48], held: 0 };
         while leaf != NONE {
             self.labels[usize::from(leaf)] ^= 1;
             marks.put(self.parents[usize::from(leaf)]);
@@ -60,15 +64,23 @@ impl Labels {
     /// Reworks the marked nodes, and those above a node whose label changes.
     fn settle(&mut self, marks: &mut Marks) -> u32 {
         let mut count = 0;
-        for word in 0..marks.0.len() {
-            while marks.0[word] != 0 {
-                let node = word * 64 + marks.0[word].trailing_zeros() as usize;
-                marks.0[word] &= marks.0[word] - 1;
+        while marks.held != 0 {
+            let at = marks.held.trailing_zeros() as usize;
+            marks.held &= marks.held - 1;
+            let mut word = std::mem::take(&mut marks.words[at]);
+            while word != 0 {
+                let node = at * 64 + word.trailing_zeros() as usize;
+                word &= word - 1;
                 let label = self.label(node);
                 count += 1;
                 if label != self.labels[node] {
                     self.labels[node] = label;
-                    marks.put(self.parents[node]);
+                    let up = self.parents[node];
+                    if usize::from(up) / 64 == at {
+                        word |= 1 << (up % 64);
+                    } else {
+                        marks.put(up);
+                    }
                 }
             }
         }
@@ -91,33 +103,42 @@ impl Labels {
         count
     }
 
-    /// A pair (a, b) is 2a + b.
     fn label(&self, node: usize) -> u8 {
-        let first = self.labels[usize::from(self.dwarf.firsts[node])];
-        let second = || self.labels[usize::from(self.dwarf.seconds[node])];
-        match self.dwarf.kinds[node] {
-            1 => first | second(),
-            2 => first & second(),
-            3 => first & !second() & 1,
-            4 => first ^ second(),
-            5 | 9 => 2 | first,
-            6 | 10 => first << 1,
-            7 => first,
-            8 | 12 => 2 - first,
-            11 => (1 - first) << 1,
-            13 => first >> second() & 1,
-            _ => (first >> (second() >> 1) & 1) << 1 | first >> (second() & 1) & 1,
-        }
+        let label = |child: u16| self.labels.get(usize::from(child)).map_or(0, |label| usize::from(*label));
+        let at = usize::from(self.dwarf.kinds[node]) * 16 + label(self.dwarf.firsts[node]) * 4 + label(self.dwarf.seconds[node]);
+        self.rules[at]
     }
 }
 
-/// A set of nodes, a bit each.
-struct Marks([u64; 48]);
+/// The label of a kind above the labels of first and second. A pair (a, b) is 2a + b.
+fn rule(kind: usize, first: u8, second: u8) -> u8 {
+    let bit = first & 1;
+    match kind {
+        1 => first | second,
+        2 => first & second,
+        3 => first & !second & 1,
+        4 => first ^ second,
+        5 | 9 => 2 | bit,
+        6 | 10 => bit << 1,
+        7 => bit,
+        8 | 12 => 2 - bit,
+        11 => (1 - bit) << 1,
+        13 => first >> (second & 1) & 1,
+        _ => (first >> (second >> 1) & 1) << 1 | first >> (second & 1) & 1,
+    }
+}
+
+/// A set of nodes, a bit each, and a bit for each word that has one.
+struct Marks {
+    words: [u64; 48],
+    held: u64,
+}
 
 impl Marks {
     fn put(&mut self, node: u16) {
         if node != NONE {
-            self.0[usize::from(node) / 64] |= 1 << (node % 64);
+            self.words[usize::from(node) / 64] |= 1 << (node % 64);
+            self.held |= 1 << (node / 64);
         }
     }
 }

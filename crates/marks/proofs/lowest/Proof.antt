@@ -1,0 +1,20 @@
+-- `marks::lowest` meets its contract.
+use borrow.Author.Needs.{needs}
+use Rattle.marks.proofs.Sets.{lowest-is}
+use Rattle.marks.proofs.lowest.Statement.{statement}
+use Rattle.marks.proofs.lowest.Tie as tie
+
+mul-result : tie.Need-mul-result
+mul-result c = search needs
+
+lowest-digit-requires : tie.Need-lowest-digit-requires
+lowest-digit-requires c κs = search needs
+
+add-result : tie.Need-add-result
+add-result c = search needs
+
+returns : tie.Need-returns
+returns c = search lowest-is
+
+pub lowest-spec : {M : Type 1} → statement M
+lowest-spec = tie.close (tie.spec mul-result lowest-digit-requires add-result returns)
