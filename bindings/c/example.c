@@ -1,4 +1,4 @@
-/* All four jobs on a bored block: Block less Bore. Prints what each answers, and ends with status 0 if all is as it should be. */
+/* All jobs on a bored block: Block less Bore. Prints what each answers, and ends with status 0 if all is as it should be. */
 #include "kressedach.h"
 #include <stdio.h>
 
@@ -98,6 +98,57 @@ static void classify_lines(void) {
     expect(r.number == KRESSEDACH_GIVEN && r.walls == 0, "no crossings, no walls");
 }
 
+/* The block and the bore as two boxes of a drawing, and a line through both. */
+static const double drawing[] = {
+    0, 0, 0, 100, 40, 40,     /* Block */
+    40, 10, -1, 60, 30, 41,   /* Bore */
+};
+static const uint8_t kinds[] = {KRESSEDACH_BOX, KRESSEDACH_BOX};
+
+static void cross_drawing(void) {
+    uint8_t starts[2];
+    int32_t positions[4];
+    uint16_t shapes[4];
+    struct kressedach_cross_report r = kressedach_cross(-10, 20, 20, 1, 0, 0, LIST(kinds), LIST(drawing), LIST(starts), LIST(positions),
+                                                        LIST(shapes));
+    printf("cross: %zu crossings of %zu shapes\n", r.crossings, r.shapes);
+    expect(r.number == KRESSEDACH_GIVEN && r.shapes == 2 && r.crossings == 4, "the line is crossed");
+    expect(starts[0] == 0 && starts[1] == 0, "it starts in air");
+    expect(positions[0] == 10000 && positions[1] == 50000 && positions[2] == 70000 && positions[3] == 110000, "where");
+    expect(shapes[0] == 0 && shapes[1] == 1 && shapes[2] == 1 && shapes[3] == 0, "in and out");
+
+    /* what is made here goes to classify as it is */
+    static const uint32_t lines[] = {0, 0, 0, 0};
+    uint32_t wall_lines[2];
+    int32_t wall_starts[2], wall_ends[2];
+    uint16_t start_shapes[2], end_shapes[2];
+    struct kressedach_classify_report w = kressedach_classify(ALONE(sheet), LIST(lines), positions, r.crossings, shapes, r.crossings,
+                                                              LIST(wall_lines), LIST(wall_starts), LIST(wall_ends), LIST(start_shapes),
+                                                              LIST(end_shapes));
+    expect(w.number == KRESSEDACH_GIVEN && w.walls == 2 && wall_ends[0] == 50000 && wall_starts[1] == 70000, "walls beside the bore");
+
+    r = kressedach_cross(0, 0, 0, 0, 0, 0, LIST(kinds), LIST(drawing), LIST(starts), LIST(positions), LIST(shapes));
+    printf("without a direction: refused %u at %zu\n", r.number, r.place);
+    expect(r.number == KRESSEDACH_SHAPE_WRONG && r.place == KRESSEDACH_THE_LINE && r.crossings == 0, "no direction");
+    r = kressedach_cross(-10, 20, 20, 1, 0, 0, LIST(kinds), drawing, 11, LIST(starts), LIST(positions), LIST(shapes));
+    expect(r.number == KRESSEDACH_SHAPE_WRONG && r.place == 1, "a number that the second shape lacks");
+    r = kressedach_cross(-10, 20, 20, 1, 0, 0, LIST(kinds), LIST(drawing), LIST(starts), positions, 3, LIST(shapes));
+    expect(r.number == KRESSEDACH_LIST_TOO_SHORT && r.place == 4, "room for three positions");
+}
+
+static void cross_vent(void) {
+    static const int32_t vent[] = {300, -400, 1300, 50000};
+    uint8_t starts[1];
+    int32_t positions[2];
+    uint16_t shapes[2];
+    struct kressedach_cross_report r = kressedach_cross_balls(LIST(vent), LIST(starts), LIST(positions), LIST(shapes));
+    printf("ball: %ld to %ld\n", (long)positions[0], (long)positions[1]);
+    expect(r.number == KRESSEDACH_GIVEN && r.shapes == 1 && r.crossings == 2 && starts[0] == 0, "the ball is crossed");
+    expect(positions[0] == 48800 && positions[1] == 51200 && shapes[0] == 0 && shapes[1] == 0, "a half chord of 1200");
+    r = kressedach_cross_balls(vent, 3, LIST(starts), LIST(positions), LIST(shapes));
+    expect(r.number == KRESSEDACH_BALL_WRONG && r.place == 0, "a ball begun");
+}
+
 static void read_pair(void) {
     struct kressedach_read_report r = kressedach_read(BESIDE(fittings, plate));
     printf("beside a fittings sheet: %zu names\n", r.names);
@@ -134,5 +185,7 @@ int main(void) {
     build_tree();
     run_toggles();
     classify_lines();
+    cross_drawing();
+    cross_vent();
     return failures == 0 ? 0 : 1;
 }

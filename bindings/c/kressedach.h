@@ -5,13 +5,13 @@
  * at once. Of the C library it needs memcpy, memmove and memset at most. Its working memory is on the stack, which the proofs do not
  * count: 512 kilobytes are enough.
  *
- * Each function takes the sheets of a call: the customer's, `sheet`, alone where `fitted` is false; else beside a fittings sheet,
+ * Each function but the crossing makers takes the sheets of a call: the customer's, `sheet`, alone where `fitted` is false; else beside a fittings sheet,
  * `fittings`, whose shapes are numbered first. Where `fitted` is false, `fittings` is not looked at, and may have no bytes; where it is
  * true, an empty fittings sheet is refused as any other that ends too soon.
  *
  * Each function answers a struct. Where `number` is 0, the job is done: `sheet` and `place` are 0 (but kressedach_name says in `sheet`
- * which sheet holds the name), and the rest is the answer. Else `number` and `place` are the refusal's, as the tables of documents 01
- * and 02 have them, `sheet` says which sheet the place is in, and the rest is 0.
+ * which sheet holds the name), and the rest is the answer. Else `number` and `place` are the refusal's, as documents 01 and 02 have them,
+ * `sheet` says which sheet the place is in, and the rest is 0. The crossing makers, which take no sheet, answer no `sheet`.
  *
  * A refusal writes nothing to any list. Entries of a list past the last one given stay as they were.
  *
@@ -20,7 +20,7 @@
  *
  *  - A list is a pointer, then its number of entries (not of bytes). The entries are there for the whole call. Those of a list that is
  *    read are initialised; a list that is written may hold anything, and need not be cleared.
- *  - The pointer is aligned for its entry: uint16_t to 2, uint32_t and int32_t to 4, size_t to 8. Only with no entries may it be NULL.
+ *  - The pointer is aligned for its entry: uint16_t to 2, uint32_t and int32_t to 4, size_t and double to 8. Only with no entries may it be NULL.
  *  - A list that is written (it has no `const`) overlaps no other list of the call. Lists that are only read may overlap.
  *  - No other thread writes a list of the call, or reads one that is written, until the call is over.
  *  - A list holds at most PTRDIFF_MAX bytes, as every C object does.
@@ -54,7 +54,9 @@ enum kressedach_number {
     KRESSEDACH_FALLS = 11,         /* the index */
     KRESSEDACH_ODD = 12,           /* the index of the last entry on the first line where a shape is crossed an odd number of times */
     KRESSEDACH_LENGTHS_DIFFER = 13, /* 0 */
-    KRESSEDACH_FITTINGS_NAME = 17  /* a customer's name equal to a fitting's: the tag's offset */
+    KRESSEDACH_SHAPE_WRONG = 16,   /* 256 for more than 256 shapes, 65535 for the line, else the first shape at fault */
+    KRESSEDACH_FITTINGS_NAME = 17, /* a customer's name equal to a fitting's: the tag's offset */
+    KRESSEDACH_BALL_WRONG = 18     /* 256 for more than 256 balls, else the first ball with a number out of its range */
 };
 
 /* Which sheet the place of a refusal is in. */
@@ -69,6 +71,12 @@ enum kressedach_sheet {
 
 /* No sheets have more names, both together: room for so many entries is enough for any. */
 #define KRESSEDACH_MOST_NAMES 256
+
+/* The place of 16 where the line is at fault. */
+#define KRESSEDACH_THE_LINE 65535
+
+/* A box in a list of kinds; 0, 1 and 2 are half-spaces on that axis. */
+#define KRESSEDACH_BOX 255
 
 /* What stands in a node's record where there is no number. */
 #define KRESSEDACH_NONE 65535
@@ -203,6 +211,48 @@ struct kressedach_classify_report kressedach_classify(bool fitted,
                                                       int32_t *ends, size_t ends_length,
                                                       uint16_t *start_shapes, size_t start_shapes_length,
                                                       uint16_t *end_shapes, size_t end_shapes_length);
+
+struct kressedach_cross_report {
+    uint8_t number;
+    size_t place;
+    size_t shapes;    /* how many entries were given in starts */
+    size_t crossings; /* how many entries were given in each of positions and shapes */
+};
+
+/* Crosses half-spaces and boxes with one line, from the drawing's own numbers: the line's start row, a byte a shape, 1 for inside, and its
+ * crossings by rising position, then rising shape number. All lengths are in millimetres, positions in micrometres for a direction of
+ * length 1. The line has the origin ox, oy, oz and the direction dx, dy, dz.
+ *
+ * A shape is a byte of kinds and six of numbers: 0, 1 or 2 is a half-space on that axis, solid below its face, which is the first of the
+ * six; KRESSEDACH_BOX is a box, three lows and then three highs. There are as many shapes as kinds. A number that the list lacks is not
+ * finite; numbers past the last shape are not looked at. Refusals: 16 for more than 256 shapes, for the line, for the first shape at
+ * fault; then 9 for starts, positions, shapes in this order.
+ *
+ * The caller keeps: kinds_length bytes at kinds, numbers_length entries at numbers; starts_length, positions_length and shapes_length
+ * entries at starts, positions and shapes. The last three are written: none of them overlaps another list. Starts needs an entry a shape,
+ * positions and shapes one a crossing, of which a shape has two at most.
+ */
+struct kressedach_cross_report kressedach_cross(double ox, double oy, double oz,
+                                                double dx, double dy, double dz,
+                                                const uint8_t *kinds, size_t kinds_length,
+                                                const double *numbers, size_t numbers_length,
+                                                uint8_t *starts, size_t starts_length,
+                                                int32_t *positions, size_t positions_length,
+                                                uint16_t *shapes, size_t shapes_length);
+
+/* Crosses balls with one line that is parallel to an axis, in whole micrometres. A ball is four numbers: both offsets of the line from the
+ * centre (-1000000 to 1000000), the radius (1 to 1000000), the centre along the line (-1000000000 to 1000000000). A ball begun counts, and
+ * a number that it lacks is out of range. The answer is as for kressedach_cross; every ball starts outside. Refusals: 18 for more than 256
+ * balls, for the first ball out of range; then 9 for starts, positions, shapes in this order.
+ *
+ * The caller keeps: numbers_length entries at numbers; starts_length, positions_length and shapes_length entries at starts, positions and
+ * shapes. The last three are written: none of them overlaps another list. Starts needs an entry a ball, positions and shapes one a
+ * crossing, of which a ball has two at most.
+ */
+struct kressedach_cross_report kressedach_cross_balls(const int32_t *numbers, size_t numbers_length,
+                                                      uint8_t *starts, size_t starts_length,
+                                                      int32_t *positions, size_t positions_length,
+                                                      uint16_t *shapes, size_t shapes_length);
 
 #ifdef __cplusplus
 }

@@ -68,6 +68,15 @@ pub struct ClassifyReport {
     pub walls: usize,
 }
 
+/// What a crossing maker answers.
+#[repr(C)]
+pub struct CrossReport {
+    pub number: u8,
+    pub place: usize,
+    pub shapes: usize,
+    pub crossings: usize,
+}
+
 extern "C" {
     pub fn kressedach_read(fitted: bool, fittings: *const u8, fittings_length: usize, sheet: *const u8, sheet_length: usize) -> ReadReport;
 
@@ -147,4 +156,34 @@ extern "C" {
         end_shapes: *mut u16,
         end_shapes_length: usize,
     ) -> ClassifyReport;
+
+    pub fn kressedach_cross(
+        ox: f64,
+        oy: f64,
+        oz: f64,
+        dx: f64,
+        dy: f64,
+        dz: f64,
+        kinds: *const u8,
+        kinds_length: usize,
+        numbers: *const f64,
+        numbers_length: usize,
+        starts: *mut u8,
+        starts_length: usize,
+        positions: *mut i32,
+        positions_length: usize,
+        shapes: *mut u16,
+        shapes_length: usize,
+    ) -> CrossReport;
+
+    pub fn kressedach_cross_balls(
+        numbers: *const i32,
+        numbers_length: usize,
+        starts: *mut u8,
+        starts_length: usize,
+        positions: *mut i32,
+        positions_length: usize,
+        shapes: *mut u16,
+        shapes_length: usize,
+    ) -> CrossReport;
 }

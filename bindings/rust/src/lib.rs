@@ -1,9 +1,11 @@
 #![doc = include_str!("../README.md")]
 #![warn(missing_docs)]
 
+mod cross;
 mod ffi;
 mod refusal;
 
+pub use cross::{cross, cross_balls, cross_balls_into, cross_into, Axis, Ball, Counts, Crossed, LineLists, Probe, Shape, BOX};
 pub use refusal::{Refusal, Which};
 use std::ops::Range;
 

@@ -10,7 +10,7 @@ pub enum Which {
     Customers,
 }
 
-/// Why a job gave no answer: a number of document 01's table, and the place that it fixes.
+/// Why a job gave no answer: a number of documents 01 and 02, and the place that it fixes.
 ///
 /// A refusal prints as a sentence that a person can act on:
 ///
@@ -21,11 +21,12 @@ pub enum Which {
 /// ```
 #[derive(Debug, Clone, Copy, PartialEq, Eq, Hash)]
 pub struct Refusal {
-    /// The reason, 1 to 13 or 17.
+    /// The reason, 1 to 13 or 16 to 18.
     pub number: u8,
     /// The sheet that the place is in, for 1 to 7 and 17.
     pub sheet: Option<Which>,
-    /// Where: a byte of that sheet for 1 to 7 and 17, the length needed for 9, an entry of the list for 10 to 12, and 0 for 8 and 13.
+    /// Where: a byte of that sheet for 1 to 7 and 17, the length needed for 9, an entry of the list for 10 to 12, 0 for 8 and 13. For 16
+    /// and 18 the first shape or ball at fault, or 256 for more than 256 of them; for 16 also 65535 for the line.
     pub place: usize,
 }
 
@@ -50,7 +51,12 @@ impl Refusal {
             11 => "a line number falls, or a position falls within its line",
             12 => "a shape is crossed an odd number of times on the line that ends here",
             13 => "the three crossing lists differ in length",
+            16 if self.place == 256 => "more than 256 shapes",
+            16 if self.place == 65535 => "a number of the line is not finite, or its direction is all zero",
+            16 => "an axis above 2, a number that is not finite, a low not below its high, or a position out of range",
             17 => "a name that a fitting has",
+            18 if self.place == 256 => "more than 256 balls",
+            18 => "an offset, a radius or a centre out of its range",
             _ => "unknown",
         }
     }
@@ -65,6 +71,9 @@ impl Refusal {
     /// assert_eq!(of(9, None, 6).as_deref(), Some("for want of 6 entries"));
     /// assert_eq!(of(10, None, 4).as_deref(), Some("at entry 4"));
     /// assert_eq!(of(13, None, 0), None);
+    /// assert_eq!(of(16, None, 3).as_deref(), Some("at shape 3"));
+    /// assert_eq!(of(16, None, 65535).as_deref(), Some("for the line"));
+    /// assert_eq!(of(18, None, 3).as_deref(), Some("at ball 3"));
     /// ```
     pub fn place_in_words(&self) -> Option<String> {
         match (self.sheet, self.number) {
@@ -72,6 +81,9 @@ impl Refusal {
             (Some(Which::Customers), _) => Some(format!("at byte {} of the customer's sheet", self.place)),
             (None, 9) => Some(format!("for want of {} entries", self.place)),
             (None, 10..=12) => Some(format!("at entry {}", self.place)),
+            (None, 16) if self.place == 65535 => Some("for the line".into()),
+            (None, 16) if self.place != 256 => Some(format!("at shape {}", self.place)),
+            (None, 18) if self.place != 256 => Some(format!("at ball {}", self.place)),
             _ => None,
         }
     }

@@ -3,7 +3,10 @@
 //! Answers and refusals are compared, and every answer list from end to end, with entries before and after it that were not lent.
 //! `KRESSEDACH_CASES` and `KRESSEDACH_SEED` say how many cases and from which seed. A difference prints its case whole.
 
+mod lent;
+
 use kressedach::{NameLists, WallLists, Which};
+use lent::{from_env, rooms, Lent};
 use peer::lines::{Crossing, Crossings};
 use peer::make::{self, Dice, Form};
 use peer::{say, Refused};
@@ -54,37 +57,6 @@ impl Debug for Case {
                 let sheet = hex(sheet);
                 write!(f, "classify, rooms {rooms:?}, sheet {sheet}, lines {lines:?}, positions {positions:?}, shapes {shapes:?}")
             }
-        }
-    }
-}
-
-/// An answer list as it is lent, full of noise, between entries that are not lent.
-struct Lent<T> {
-    all: Vec<T>,
-    before: Vec<T>,
-}
-
-/// Entries on each side of a lent list; odd, so that lists begin at odd offsets too.
-const BESIDE: usize = 7;
-
-impl<T: Copy + PartialEq + Debug> Lent<T> {
-    fn new(room: usize, noise: impl Fn(u64) -> T) -> Lent<T> {
-        let all: Vec<T> = (0..room + 2 * BESIDE).map(|k| noise((k as u64 + 3).wrapping_mul(0x9E37_79B9_7F4A_7C15) >> 17)).collect();
-        Lent { before: all.clone(), all }
-    }
-
-    fn list(&mut self) -> &mut [T] {
-        let end = self.all.len() - BESIDE;
-        &mut self.all[BESIDE..end]
-    }
-
-    /// Is it what it was, but for these entries at its front?
-    fn check(&self, what: &str, given: impl Iterator<Item = T>) -> Result<(), String> {
-        let mut due = self.before.clone();
-        given.enumerate().for_each(|(k, entry)| due[BESIDE + k] = entry);
-        match (0..due.len()).find(|k| self.all[*k] != due[*k]) {
-            Some(k) => Err(format!("{what}[{}] is {:?}, due is {:?}", k as isize - BESIDE as isize, self.all[k], due[k])),
-            None => Ok(()),
         }
     }
 }
@@ -181,19 +153,6 @@ fn compare_names(sheet: &Given, rooms: [usize; 3]) -> Result<u8, String> {
     Ok(number)
 }
 
-/// The lengths of answer lists that need so much room: mostly enough, sometimes too short.
-fn rooms<const LISTS: usize>(dice: &mut Dice, needed: [usize; LISTS]) -> [usize; LISTS] {
-    let often_good = dice.below(4) > 0;
-    needed.map(|need| match dice.below(if often_good { 3 } else { 6 }) {
-        0 => need,
-        1 => need + 1,
-        2 => need + dice.below(70),
-        3 => need.saturating_sub(1),
-        4 => 0,
-        _ => dice.below(need + 1),
-    })
-}
-
 /// The sheets of a call, one time in three with a fittings sheet.
 fn any_given(dice: &mut Dice) -> Given {
     if dice.once_in(3) {
@@ -265,10 +224,6 @@ fn make_case(dice: &mut Dice, job: u64) -> Case {
             Case::Classify { sheet, lines, positions, shapes, rooms }
         }
     }
-}
-
-fn from_env(name: &str, otherwise: u64) -> u64 {
-    std::env::var(name).map_or(otherwise, |value| value.parse().unwrap_or_else(|_| panic!("{name} is no number: {value}")))
 }
 
 const JOBS: [&str; 4] = ["read", "build", "run", "classify"];

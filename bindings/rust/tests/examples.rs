@@ -1,8 +1,9 @@
 //! What `examples/README.md` says is so: its sheets are the files, and its commands print what stands under them.
 
 use kressedach::Sheets;
+use std::io::Write;
 use std::path::Path;
-use std::process::Command;
+use std::process::{Command, Stdio};
 
 const EXAMPLES: &str = concat!(env!("CARGO_MANIFEST_DIR"), "/../../examples");
 
@@ -41,7 +42,7 @@ fn sheet_file(name: &str, lines: &[String]) -> Vec<u8> {
 #[test]
 fn the_sheets_are_as_written() {
     let sheets = blocks("sheet");
-    assert_eq!(sheets.len(), 4);
+    assert_eq!(sheets.len(), 5);
     for (heading, lines) in &sheets {
         let (name, fittings) = heading.split_once(" beside ").unwrap_or((heading, ""));
         let own = sheet_file(name, lines);
@@ -60,19 +61,33 @@ fn the_sheets_are_as_written() {
     }
 }
 
+/// What a command says that is given this on standard input.
+fn said_to(given: &[u8], command: &str) -> Vec<u8> {
+    let mut words = command.split(' ');
+    assert_eq!(words.next(), Some("wallcheck"));
+    let mut child = Command::new(env!("CARGO_BIN_EXE_wallcheck"))
+        .args(words)
+        .current_dir(EXAMPLES)
+        .stdin(Stdio::piped())
+        .stdout(Stdio::piped())
+        .stderr(Stdio::piped())
+        .spawn()
+        .unwrap();
+    child.stdin.take().unwrap().write_all(given).unwrap();
+    let output = child.wait_with_output().unwrap();
+    [output.stdout, output.stderr].concat()
+}
+
 #[test]
 fn the_commands_print_as_written() {
     let mut commands = 0;
     for (_, lines) in blocks("console") {
         for said in lines.join("\n").split("$ ").skip(1) {
             let (command, due) = said.split_once('\n').unwrap_or((said, ""));
-            let mut words = command.split(' ');
-            assert_eq!(words.next(), Some("wallcheck"));
-            let output = Command::new(env!("CARGO_BIN_EXE_wallcheck")).args(words).current_dir(EXAMPLES).output().unwrap();
-            let got = [output.stdout, output.stderr].concat();
+            let got = command.split(" | ").fold(vec![], |given, command| said_to(&given, command));
             assert_eq!(String::from_utf8_lossy(&got).trim_end(), due.trim_end(), "{command}");
             commands += 1;
         }
     }
-    assert_eq!(commands, 13);
+    assert_eq!(commands, 19);
 }

@@ -187,6 +187,56 @@ fn unreadable_files() {
     assert_eq!(said(b"line,position,name\n\xFF"), unreadable("standard input: is not text"));
 }
 
+/// Half-spaces, boxes and balls of a drawing, by name or by number, on lines.
+#[test]
+fn crossings_of_a_drawing() {
+    let lines = file("lines.csv", b"line,x,y,z,dx,dy,dz\n3,0,0,0,1,0,0\n9,10,0,0,-1,0,0\n");
+    let said = |shapes: &str| wallcheck(&["cross", "-", &lines], shapes.as_bytes());
+    let all = "name,high_x,high_y,high_z,low_x,low_y,low_z,radius,x,y,z\nball,,,,,,,2,5,0,0\nface,5,,,,,,,,,\n\"a,b\",7,1,1,3,-1,-1,,,,\n";
+    let due = "3,3000,ball\n3,3000,\"a,b\"\n3,5000,face\n3,7000,ball\n3,7000,\"a,b\"\n9,3000,ball\n9,3000,\"a,b\"\n9,5000,face\n9,7000,ball\n9,7000,\"a,b\"\n";
+    assert_eq!(said(all), answered(&format!("line,position,name\n{due}")));
+    assert_eq!(wallcheck(&["cross", "--starts", "-", &lines], all.as_bytes()), answered("line,name\n3,face\n"));
+    let by_number = "shape,high_x,high_y,high_z\n4,2.5,,\n7,,0,\n";
+    assert_eq!(said(by_number), answered("line,position,shape\n3,2500,4\n9,7500,4\n"));
+    assert_eq!(wallcheck(&["cross", "--starts", "-", &lines], by_number.as_bytes()), answered("line,shape\n3,4\n"));
+    assert_eq!(said("name,x\n"), answered("line,position,name\n"));
+}
+
+#[test]
+fn refused_drawings() {
+    let shapes = file("ball.csv", b"name,high_z,x,y,z,radius\nface,1,,,,\nball,,5,0,0,2\nlarge,,5,0,0,1000.001\n");
+    let lines = |rows: &str| wallcheck(&["cross", &shapes, "-"], format!("line,x,y,z,dx,dy,dz\n{rows}").as_bytes());
+    let radius = "refused 18 at ball 1: an offset, a radius or a centre out of its range";
+    assert_eq!(lines("1,0,0,0,1,0,0\n"), refused(&format!("{radius}\n  line 1, row 2 of standard input; \"large\", row 4 of {shapes}")));
+    let still =
+        "refused 16 for the line: a number of the line is not finite, or its direction is all zero\n  line 1, row 2 of standard input";
+    let faces = file("faces.csv", b"name,high_z\nface,1\nfar,1e300\n");
+    assert_eq!(wallcheck(&["cross", &faces, "-"], b"line,x,y,z,dx,dy,dz\n1,0,0,0,0,0,-0.0\n"), refused(still));
+    let (status, _, said) = wallcheck(&["cross", &faces, "-"], b"line,x,y,z,dx,dy,dz\n1,0,0,0,0,0,1\n");
+    assert_eq!(status, Some(1));
+    assert!(said.starts_with("wallcheck: refused 16 at shape 1: ") && said.ends_with(&format!("; \"far\", row 3 of {faces}\n")), "{said}");
+
+    let parallel = "row 2: where there are balls, a line has 1 or -1 in one of dx, dy, dz and 0 in the others";
+    assert_eq!(lines("1,0,0,0,0.6,0.8,0\n"), unreadable(&format!("standard input: {parallel}")));
+    assert_eq!(lines("1,0,0,0,2,0,0\n"), unreadable(&format!("standard input: {parallel}")));
+    let whole = "row 2: where there are balls, x, y and z are in whole micrometres, with three decimals at most";
+    assert_eq!(lines("1,0,0.0005,0,1,0,0\n"), unreadable(&format!("standard input: {whole}")));
+    assert_eq!(lines("1,0,0,0,1,0,0\n1,0,0,0,1,0,0\n"), unreadable("standard input: row 3: line 1 comes after line 1"));
+    assert_eq!(lines("1,0,0,zero,1,0,0\n"), unreadable("standard input: row 2: z \"zero\" is no number"));
+
+    let shapes = |text: &str| wallcheck(&["cross", "-", &faces], text.as_bytes());
+    let kinds = "a box has three lows and three highs, a half-space one high alone, a ball x, y, z and radius";
+    assert_eq!(shapes("name,low_x\na,1\n"), unreadable(&format!("standard input: row 2: {kinds}")));
+    assert_eq!(shapes("name,high_x,radius\na,1,1\n"), unreadable(&format!("standard input: row 2: {kinds}")));
+    let ball = "standard input: row 2: radius \"0.0001\" of a ball is not in whole micrometres";
+    assert_eq!(shapes("name,x,y,z,radius\na,1,1,1,0.0001\n"), unreadable(ball));
+    assert_eq!(shapes("name,high_x\na,1\na,2\n"), unreadable("standard input: row 3: \"a\" stands at row 2 already"));
+    let heading = "standard input: row 1: the heading is to be name or shape, and of low_x,low_y,low_z,high_x,high_y,high_z,x,y,z,radius those that are needed";
+    for wrong in ["high_x\n", "name,shape\n", "name,width\n", "name,x,x\n"] {
+        assert_eq!(shapes(wrong), unreadable(heading), "{wrong}");
+    }
+}
+
 #[test]
 fn usage() {
     let said = |args: &[&str]| wallcheck(args, b"");
@@ -196,6 +246,9 @@ fn usage() {
     assert_eq!(said(&["read"]), usage("'read' takes one file: SHEET"));
     assert_eq!(said(&["run", "a"]), usage("'run' takes two files: SHEET TOGGLES"));
     assert_eq!(said(&["walls", "a", "b", "c"]), usage("'walls' takes two files: SHEET CROSSINGS"));
+    assert_eq!(said(&["cross", "a"]), usage("'cross' takes two files: SHAPES LINES"));
+    assert_eq!(said(&["cross", "a", "b", "--fittings", "c"]), usage("'cross' takes no sheet"));
+    assert_eq!(said(&["cross", "-", "-"]), usage("only one of the files can be standard input"));
     assert_eq!(said(&["walls", "-", "-"]), usage("only one of the files can be standard input"));
     let (status, help, _) = said(&["--help"]);
     assert_eq!(status, Some(0));

@@ -25,6 +25,13 @@ pub fn wide_long(x: u32) -> usize
     x as usize
 }
 
+// An entry of 32 bits as a word of 64.
+pub fn long_word(x: u32) -> u64
+    ensures { λ r. ⌜ (r ≡ x) × (r < 4294967296) ⌝ }
+{
+    x as u64
+}
+
 // An index as an entry of 16 bits.
 pub fn narrow(x: usize) -> u16
     requires { ⌜ x < 65536 ⌝ }

@@ -2,5 +2,4 @@
 pub mod case;
 pub mod lists;
 pub mod sheets;
-pub mod signs;
 pub mod words;

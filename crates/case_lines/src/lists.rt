@@ -1,8 +1,8 @@
 // The lists that a case gives, number by number.
-use crate::signs::place;
 use crate::words::marked;
 use crate::words::number;
 use check::same;
+use cross_marks::position_of;
 
 // The lists by number; 0 is none.
 pub const LINES: usize = 1;
@@ -63,7 +63,7 @@ fn line(g: Lists, n: usize, x: u64) -> Lists {
 fn position(g: Lists, n: usize, m: u64) -> Lists {
     let mut t = g;
     if n < 64 && m < 4294967296 {
-        t.positions[n] = place(m as u32);
+        t.positions[n] = position_of(m as u32);
     } else {
         t.good = false;
     }

@@ -11,7 +11,7 @@ use lib.ListN.{length, length-map}
 use lib.Signed.{ltZ}
 use Rattle.cross_order.proofs.OrderLaws.{Sorted, inOrder-sorted}
 use Rattle.cross_positions.specs.Positions.{allowed}
-use Rattle.cross_cuts.specs.Cuts.{Cut, fault, cut, startOf, startRow, positionsOf, Crossing, crossing, positionOf, shapeOf, crossingsFrom, before, crossings}
+use Rattle.cross_cuts.specs.Cuts.{Cut, fault, cut, startOf, startRow, positionsOf, LineCrossing, crossedAt, positionOf, shapeOf, crossingsFrom, before, lineCrossings}
 use Rattle.cross_cuts.specs.Every.{Every}
 use Rattle.cross_cuts.specs.Fit.{unended, NeverFalls, Fit}
 use Rattle.cross_cuts.proofs.EveryLaws.{every-append, every-map, every-inOrder, every-more}
@@ -29,7 +29,7 @@ start-bits [] = tt
 start-bits (c ∷ cuts) = (start-bit c, start-bits cuts)
 
 -- ---- shapes
-same-shape : (n j : ℕ) (ps : List ℤ) → j < n → Every (λ p. ltb (shapeOf (crossing p j)) n) ps
+same-shape : (n j : ℕ) (ps : List ℤ) → j < n → Every (λ p. ltb (shapeOf (crossedAt p j)) n) ps
 same-shape n j [] h = tt
 same-shape n j (p ∷ ps) h = (lt-ltb j n h, same-shape n j ps h)
 
@@ -37,8 +37,8 @@ shapes-below : (n j : ℕ) (cuts : List Cut) → j + length cuts ≤ n → Every
 unfolding crossingsFrom
 shapes-below n j [] h = tt
 shapes-below n j (c ∷ cuts) h =
-    every-append (λ x. ltb (shapeOf x) n) (map (λ p. crossing p j) (positionsOf c)) (crossingsFrom (j + 1) cuts)
-    (every-map (λ p. crossing p j) (λ x. ltb (shapeOf x) n) (positionsOf c) (same-shape n j (positionsOf c) (omega arith))) (shapes-below n (j + 1) cuts (omega arith))
+    every-append (λ x. ltb (shapeOf x) n) (map (λ p. crossedAt p j) (positionsOf c)) (crossingsFrom (j + 1) cuts)
+    (every-map (λ p. crossedAt p j) (λ x. ltb (shapeOf x) n) (positionsOf c) (same-shape n j (positionsOf c) (omega arith))) (shapes-below n (j + 1) cuts (omega arith))
 
 -- ---- positions
 allowed-unended : (z : ℤ) → allowed z ≡ true → unended z ≡ true
@@ -55,8 +55,8 @@ ltZ-one-way (pos a) (negsuc b) e = sym e
 ltZ-one-way (negsuc a) (pos b) e = refl
 ltZ-one-way (negsuc a) (negsuc b) e = le-ltb a b (omega (arith, ltb-true b a e))
 
-before-one-way : (x y : Crossing) → before x y ≡ true → before y x ≡ false
-before-one-way (crossing p i) (crossing q j) = by (ltZ p q) refl (ltZ q p) refl (ltb i j) refl
+before-one-way : (x y : LineCrossing) → before x y ≡ true → before y x ≡ false
+before-one-way (crossedAt p i) (crossedAt q j) = by (ltZ p q) refl (ltZ q p) refl (ltb i j) refl
   where
     by : (a : Bool) → ltZ p q ≡ a → (b : Bool) → ltZ q p ≡ b → (c : Bool) → ltb i j ≡ c → (a || (not b && c)) ≡ true → (b || (not a && ltb j i)) ≡ false
     by true e true f c g h = sym (sym (ltZ-one-way p q e) ∙ f)
@@ -65,24 +65,24 @@ before-one-way (crossing p i) (crossing q j) = by (ltZ p q) refl (ltZ q p) refl 
     by false e false f true g h = le-ltb j i (omega (arith, ltb-true i j g))
     by false e false f false g h = absurd (false≢true h)
 
-not-below : (x y : Crossing) → before y x ≡ false → ltZ (positionOf y) (positionOf x) ≡ false
-not-below (crossing p i) (crossing q j) = by (ltZ q p)
+not-below : (x y : LineCrossing) → before y x ≡ false → ltZ (positionOf y) (positionOf x) ≡ false
+not-below (crossedAt p i) (crossedAt q j) = by (ltZ q p)
   where
     by : (a : Bool) → (a || (not (ltZ p q) && ltb j i)) ≡ false → a ≡ false
     by true h = h
     by false h = refl
 
-sorted-never-falls : (xs : List Crossing) → Sorted before xs → NeverFalls xs
+sorted-never-falls : (xs : List LineCrossing) → Sorted before xs → NeverFalls xs
 sorted-never-falls [] s = tt
 sorted-never-falls (x ∷ []) s = tt
 sorted-never-falls (x ∷ y ∷ ys) s = (not-below x y (s .0), sorted-never-falls (y ∷ ys) (s .1))
 
 -- ---- all together
-pub fit : (cuts : List Cut) → InRange cuts → Fit (length cuts) (startRow cuts) (crossings cuts)
+pub fit : (cuts : List Cut) → InRange cuts → Fit (length cuts) (startRow cuts) (lineCrossings cuts)
 fit cuts r = record {
   a-byte-a-shape = length-map cuts startOf;
   bytes = start-bits cuts;
   numbers = every-inOrder (λ x. ltb (shapeOf x) (length cuts)) before (crossingsFrom 0 cuts) (shapes-below (length cuts) 0 cuts (omega arith));
-  unended-positions = every-more (λ x. allowed (positionOf x)) (λ x. unended (positionOf x)) (λ x. allowed-unended (positionOf x)) (crossings cuts) (crossings-in-range cuts r);
-  never-falls = sorted-never-falls (crossings cuts) (inOrder-sorted before before-one-way (crossingsFrom 0 cuts));
+  unended-positions = every-more (λ x. allowed (positionOf x)) (λ x. unended (positionOf x)) (λ x. allowed-unended (positionOf x)) (lineCrossings cuts) (crossings-in-range cuts r);
+  never-falls = sorted-never-falls (lineCrossings cuts) (inOrder-sorted before before-one-way (crossingsFrom 0 cuts));
 }

@@ -16,13 +16,13 @@ use Rattle.cross_marks.proofs.MarkLaws.{unmark-lt}
 use Rattle.cross_order.specs.Order.{rising, inOrder}
 use Rattle.cross_order.proofs.OrderLaws.{length-inOrder, map-inOrder}
 use Rattle.cross_positions.specs.Positions.{allowed}
-use Rattle.cross_cuts.specs.Cuts.{Cut, positionsOf, startOf, startRow, crossing, crossings, crossingsFrom, before, positionOf, shapeOf, faultless, roomy, answered}
+use Rattle.cross_cuts.specs.Cuts.{Cut, positionsOf, startOf, startRow, crossedAt, lineCrossings, crossingsFrom, before, positionOf, shapeOf, faultless, lineRoom, answered}
 use Rattle.cross_cuts.specs.Every.{Every}
 use Rattle.cross_cuts.specs.Keys.{crossingOf, Held, Complete}
 use Rattle.cross_cuts.proofs.EveryLaws.{every-append, every-map, every-inOrder}
-use Rattle.cross_answer.specs.Answer.{countsOf, Lists, lists, Promise}
+use Rattle.cross_answer.specs.Answer.{countsOf, MadeLists, madeLists, Crossed}
 use Rattle.cross_answer.specs.Giving.{positionIn, shapeIn, Roomy, Written, InRange}
-use Rattle.cross_answer.specs.declared.CrossAnswer.the-variants.{Crossed, Refused}
+use Rattle.cross_answer.specs.declared.CrossAnswer.the-variants as answer
 
 -- ---- keys compare as their crossings do
 keeps : (k l : ℕ) → before (crossingOf k) (crossingOf l) ≡ ltb k l
@@ -47,7 +47,7 @@ module _ (n m : ℕ) (bytes keys keys′ : List ℕ) (held : Held bytes keys n m
       ap (take m) sorted ∙ take-at (rising (take m keys)) (drop m keys) m l
 
   pub written : (s : List ℕ) (p : List ℤ) (h s′ : List ℕ) (p′ : List ℤ) (h′ : List ℕ) → s′ ≡ filled (take n bytes) s
-      → p′ ≡ filled (map positionIn (take m keys′)) p → h′ ≡ filled (map shapeIn (take m keys′)) h → Written n m bytes keys (lists s p h) (lists s′ p′ h′)
+      → p′ ≡ filled (map positionIn (take m keys′)) p → h′ ≡ filled (map shapeIn (take m keys′)) h → Written n m bytes keys (madeLists s p h) (madeLists s′ p′ h′)
   written s p h s′ p′ h′ es ep eh = record {
     starts = es;
     positions = ep ∙ ap (λ l. filled (map positionIn l) p) sorted-keys;
@@ -59,10 +59,10 @@ positions-in-range : (j : ℕ) (cuts : List Cut) → InRange cuts → Every (λ 
 unfolding crossingsFrom
 positions-in-range j [] r = tt
 positions-in-range j (c ∷ cs) r =
-    every-append (λ x. allowed (positionOf x)) (map (λ p. crossing p j) (positionsOf c)) (crossingsFrom (j + 1) cs)
-    (every-map (λ p. crossing p j) (λ x. allowed (positionOf x)) (positionsOf c) (r .0)) (positions-in-range (j + 1) cs (r .1))
+    every-append (λ x. allowed (positionOf x)) (map (λ p. crossedAt p j) (positionsOf c)) (crossingsFrom (j + 1) cs)
+    (every-map (λ p. crossedAt p j) (λ x. allowed (positionOf x)) (positionsOf c) (r .0)) (positions-in-range (j + 1) cs (r .1))
 
-pub crossings-in-range : (cuts : List Cut) → InRange cuts → Every (λ x. allowed (positionOf x)) (crossings cuts)
+pub crossings-in-range : (cuts : List Cut) → InRange cuts → Every (λ x. allowed (positionOf x)) (lineCrossings cuts)
 crossings-in-range cuts r = every-inOrder (λ x. allowed (positionOf x)) before (crossingsFrom 0 cuts) (positions-in-range 0 cuts r)
 
 -- a mark whose position is in range has 32 bits
@@ -89,8 +89,8 @@ shapes-read [] = refl
 shapes-read (k ∷ ks) = ap (λ l. k % 256 ∷ l) (shapes-read ks)
 
 -- ---- a refusal writes nothing
-pub refusal : (o : Outcome (List Cut)) (L : Lists) (number place : ℕ) → o ≡ refused number place → Promise o L (Refused number place) L
-refusal o L number place e = record { answer = sym (ap (part countsOf) e); starts-list = rw e; positions-list = rw e; shapes-list = rw e }
+pub refusal : (o : Outcome (List Cut)) (L : MadeLists) (number place : ℕ) → o ≡ refused number place → Crossed o L (answer.Refused number place) L
+refusal o L number place e = record { answer = sym (ap (part countsOf) e); lists = record { starts-list = rw e; positions-list = rw e; shapes-list = rw e } }
 
 -- ---- a shape at fault
 pub fault-refused : (number : ℕ) (cuts : List Cut) (a b c i : ℕ) → faultless number 0 cuts ≡ refused number i → answered number cuts a b c ≡ refused number i
@@ -99,38 +99,41 @@ fault-refused number cuts a b c i e = rw e
 
 -- ---- the exits of `give`
 module _ {number : ℕ} {cuts : List Cut} {bytes keys : List ℕ} {n m : ℕ} (whole : Complete number cuts bytes keys n m) (r : InRange cuts) where
-  in-order : map crossingOf (rising (take m keys)) ≡ crossings cuts
+  in-order : map crossingOf (rising (take m keys)) ≡ lineCrossings cuts
   in-order = map-inOrder crossingOf ltb before keeps (take m keys) ∙ ap (inOrder before) (whole .gathered .keyed)
 
   starts-count : length (startRow cuts) ≡ n
   starts-count = length-map cuts startOf ∙ whole .gathered .all
 
-  crossings-count : length (crossings cuts) ≡ m
+  crossings-count : length (lineCrossings cuts) ≡ m
   crossings-count =
       let held = whole .held in
       ap length (sym in-order) ∙ length-map (rising (take m keys)) crossingOf ∙ length-inOrder ltb (take m keys) ∙ length-take-le m keys (omega (arith, held .keys-sized, held .few, held .some))
 
-  asked : (a b c : ℕ) → answered number cuts a b c ≡ (roomy cuts a b c >> given cuts)
+  asked : (a b c : ℕ) → answered number cuts a b c ≡ (lineRoom cuts a b c >> given cuts)
   unfolding answered
   asked a b c = rw (whole .none)
 
-  pub short-starts : (L : Lists) → length (L .starts) < n → Promise (answered number cuts (length (L .starts)) (length (L .positions)) (length (L .shapes))) L (Refused 9 n) L
+  pub short-starts : (L : MadeLists) → length (L .starts) < n → Crossed (answered number cuts (length (L .starts)) (length (L .positions)) (length (L .shapes))) L (answer.Refused 9 n) L
   short-starts L h = refusal _ L 9 n (asked _ _ _ ∙ rw (starts-count, lt-leb n (length (L .starts)) h))
 
-  pub short-positions : (L : Lists) → n ≤ length (L .starts) → length (L .positions) < m → Promise (answered number cuts (length (L .starts)) (length (L .positions)) (length (L .shapes))) L (Refused 9 m) L
+  pub short-positions : (L : MadeLists) → n ≤ length (L .starts) → length (L .positions) < m → Crossed (answered number cuts (length (L .starts)) (length (L .positions)) (length (L .shapes))) L (answer.Refused 9 m) L
   short-positions L g h = refusal _ L 9 m (asked _ _ _ ∙ rw (starts-count, crossings-count, le-leb n (length (L .starts)) g, lt-leb m (length (L .positions)) h))
 
-  pub short-shapes : (L : Lists) → n ≤ length (L .starts) → m ≤ length (L .positions) → length (L .shapes) < m → Promise (answered number cuts (length (L .starts)) (length (L .positions)) (length (L .shapes))) L (Refused 9 m) L
+  pub short-shapes : (L : MadeLists) → n ≤ length (L .starts) → m ≤ length (L .positions) → length (L .shapes) < m → Crossed (answered number cuts (length (L .starts)) (length (L .positions)) (length (L .shapes))) L (answer.Refused 9 m) L
   short-shapes L g h k = refusal _ L 9 m (asked _ _ _ ∙ rw (starts-count, crossings-count, le-leb n (length (L .starts)) g, le-leb m (length (L .positions)) h, lt-leb m (length (L .shapes)) k))
 
-  pub given-all : (L L′ : Lists) → Roomy n m L → Written n m bytes keys L L′ → Promise (answered number cuts (length (L .starts)) (length (L .positions)) (length (L .shapes))) L (Crossed n m) L′
+  pub given-all : (L L′ : MadeLists) → Roomy n m L → Written n m bytes keys L L′ → Crossed (answered number cuts (length (L .starts)) (length (L .positions)) (length (L .shapes))) L (answer.Crossed n m) L′
   given-all L L′ room w =
       let o : answered number cuts (length (L .starts)) (length (L .positions)) (length (L .shapes)) ≡ given cuts =
       asked _ _ _ ∙ rw (starts-count, crossings-count, le-leb n (length (L .starts)) (room .starts), le-leb m (length (L .positions)) (room .positions), le-leb m (length (L .shapes)) (room .shapes)) in
       let range : Every (λ x. allowed (positionOf x)) (map crossingOf (rising (take m keys))) = rw in-order (crossings-in-range cuts r) in
       record {
         answer = rw (o, starts-count, crossings-count);
-        starts-list = rw o (w .starts ∙ ap (λ l. filled l (L .starts)) (whole .gathered .started));
-        positions-list = rw o (w .positions ∙ ap (λ l. filled l (L .positions)) (positions-read (rising (take m keys)) range ∙ ap (map positionOf) in-order));
-        shapes-list = rw o (w .shapes ∙ ap (λ l. filled l (L .shapes)) (shapes-read (rising (take m keys)) ∙ ap (map shapeOf) in-order));
+        lists =
+            record {
+              starts-list = rw o (w .starts ∙ ap (λ l. filled l (L .starts)) (whole .gathered .started));
+              positions-list = rw o (w .positions ∙ ap (λ l. filled l (L .positions)) (positions-read (rising (take m keys)) range ∙ ap (map positionOf) in-order));
+              shapes-list = rw o (w .shapes ∙ ap (λ l. filled l (L .shapes)) (shapes-read (rising (take m keys)) ∙ ap (map shapeOf) in-order));
+            };
       }

@@ -1,4 +1,5 @@
 pub mod WriteLaws
 pub mod GiveLaws
 pub mod FitLaws
-pub mod Unique
+pub mod Answered
+pub mod Settled

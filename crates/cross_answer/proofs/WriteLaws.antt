@@ -60,14 +60,6 @@ module _ {A : Type 0} (f : ℕ → A) (keys : List ℕ) (old : List A) (n : ℕ)
       ∙ ap (λ x. x ++ drop (0 + n) old) (map-take f n keys)
       ∙ ap (λ j. map f (take n keys) ++ drop j old) (zero-add n ∙ sym l)
 
--- the same, with nothing done to each
-map-id : (l : List ℕ) → map (λ x. x) l ≡ l
-map-id [] = refl
-map-id (x ∷ l) = ap (λ xs. x ∷ xs) (map-id l)
-
-pub copying-ends : (keys old : List ℕ) (n : ℕ) (new : List ℕ) (i : ℕ) → Writing (λ x. x) keys old n new i → n ≤ i → new ≡ filled (take n keys) old
-copying-ends keys old n new i w h = writing-ends (λ x. x) keys old n new i w h ∙ ap (λ l. filled l old) (map-id (take n keys))
-
 -- a position is stored by its bits
 pub position-stored : (key : ℕ) (z : ℤ) → z ≡ positionIn key → toZ w32 (ofZ w32 z) ≡ positionIn key
 position-stored key z e = rw e (toZ-ofZ w32 (positionIn key) (unmark-fits (key / 256 % 4294967296) (omega arith)))

@@ -10,7 +10,7 @@ use Rattle.cross_order.specs.Order.{rising}
 use Rattle.cross_positions.specs.Positions.{allowed}
 use Rattle.cross_cuts.specs.Cuts.{Cut, positionsOf}
 use Rattle.cross_cuts.specs.Every.{Every}
-use Rattle.cross_answer.specs.Answer.{Lists}
+use Rattle.cross_answer.specs.Answer.{MadeLists}
 
 -- Marks have 32 bits.
 abbrev pub positionIn : ℕ → ℤ
@@ -20,13 +20,13 @@ abbrev pub shapeIn : ℕ → ℕ
 shapeIn key = key % 256
 
 -- There is room for n entries in the start row, and for m in each of positions and shapes.
-pub record Roomy (n m : ℕ) (lent : Lists) : Type 0 where
+pub record Roomy (n m : ℕ) (lent : MadeLists) : Type 0 where
   pub starts : n ≤ length (lent .starts)
   pub positions : m ≤ length (lent .positions)
   pub shapes : m ≤ length (lent .shapes)
 
 -- The first n bytes are given, and the first m keys in rising order.
-pub record Written (n m : ℕ) (bytes keys : List ℕ) (lent after : Lists) : Type 0 where
+pub record Written (n m : ℕ) (bytes keys : List ℕ) (lent after : MadeLists) : Type 0 where
   pub starts : after .starts ≡ filled (take n bytes) (lent .starts)
   pub positions : after .positions ≡ filled (map positionIn (rising (take m keys))) (lent .positions)
   pub shapes : after .shapes ≡ filled (map shapeIn (rising (take m keys))) (lent .shapes)

@@ -7,7 +7,7 @@ ghost use Rattle.outcome.specs.Lent.{filled};
 ghost use Rattle.cross_order.specs.Order.{rising};
 ghost use Rattle.cross_cuts.specs.Cuts.{Cut, answered};
 ghost use Rattle.cross_cuts.specs.Keys.{Held, Complete};
-ghost use Rattle.cross_answer.specs.Answer.{lists, Promise};
+ghost use Rattle.cross_answer.specs.Answer.{madeLists, Crossed};
 ghost use Rattle.cross_answer.specs.Giving.{positionIn, shapeIn, Roomy, Written, InRange};
 
 // What a crossing job answers: how many entries the start row has, and how many each of positions and shapes.
@@ -26,17 +26,6 @@ fn shape_in(key: u64) -> u16
     ensures { λ r. ⌜ r ≡ shapeIn key ⌝ }
 {
     (key % 256) as u16
-}
-
-fn write_starts(bytes: &[u8], n: usize, row: &mut [u8])
-    requires { ⌜ (n ≤ length (now bytes)) × (n ≤ length (now row)) ⌝ }
-    ensures { λ _. ⌜ now (row .exit) ≡ filled (take n (now (bytes .entry))) (now (row .entry)) ⌝ }
-{
-    let mut i = 0;
-    while i < n {
-        row[i] = bytes[i];
-        i += 1;
-    }
 }
 
 fn write_positions(keys: &[u64], n: usize, positions: &mut [i32])
@@ -85,11 +74,11 @@ fn write(
     positions: &mut [i32],
     shapes: &mut [u16],
 )
-    requires { ⌜ Held (now bytes) (now keys) n m × Roomy n m (lists (now starts) (now positions) (now shapes)) ⌝ }
-    ensures { λ _. ⌜ Written n m (now (bytes .entry)) (now (keys .entry)) (lists (now (starts .entry)) (now (positions .entry)) (now (shapes .entry))) (lists (now (starts .exit)) (now (positions .exit)) (now (shapes .exit))) ⌝ }
+    requires { ⌜ Held (now bytes) (now keys) n m × Roomy n m (madeLists (now starts) (now positions) (now shapes)) ⌝ }
+    ensures { λ _. ⌜ Written n m (now (bytes .entry)) (now (keys .entry)) (madeLists (now (starts .entry)) (now (positions .entry)) (now (shapes .entry))) (madeLists (now (starts .exit)) (now (positions .exit)) (now (shapes .exit))) ⌝ }
 {
     order(keys, m);
-    write_starts(bytes, n, starts);
+    basics::copy_bytes(bytes, n, starts);
     write_positions(keys, m, positions);
     write_shapes(keys, m, shapes);
 }
@@ -106,8 +95,8 @@ pub fn give(
 ) -> CrossAnswer
     requires { ⌜ Held (now bytes) (now keys) n m ⌝ }
     ensures { λ r. ⌜ ((number : ℕ) (cuts : List Cut) → Complete number cuts (now (bytes .entry)) (now (keys .entry)) n m → InRange cuts
-        → Promise (answered number cuts (length (now (starts .entry))) (length (now (positions .entry))) (length (now (shapes .entry))))
-        (lists (now (starts .entry)) (now (positions .entry)) (now (shapes .entry))) r (lists (now (starts .exit)) (now (positions .exit)) (now (shapes .exit)))) ⌝ }
+        → Crossed (answered number cuts (length (now (starts .entry))) (length (now (positions .entry))) (length (now (shapes .entry))))
+        (madeLists (now (starts .entry)) (now (positions .entry)) (now (shapes .entry))) r (madeLists (now (starts .exit)) (now (positions .exit)) (now (shapes .exit)))) ⌝ }
 {
     if starts.len() < n {
         return CrossAnswer::Refused {

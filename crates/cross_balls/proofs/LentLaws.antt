@@ -10,10 +10,10 @@ use Rattle.cross_cuts.specs.Cuts.{fault}
 use Rattle.cross_cuts.specs.Keys.{cutOf}
 use Rattle.cross_cuts.specs.declared.Met.{Met}
 use Rattle.cross_cuts.specs.declared.Met.the-variants.{Fault}
-use Rattle.cross_balls.specs.Balls.{ballCut, cutsOf}
+use Rattle.cross_balls.specs.Balls.{ballCut, ballCuts}
 
-pub length-cuts : (numbers : List ℤ) → length (cutsOf numbers) ≡ (length numbers + 3) / 4
-unfolding cutsOf
+pub length-cuts : (numbers : List ℤ) → length (ballCuts numbers) ≡ (length numbers + 3) / 4
+unfolding ballCuts
 length-cuts [] = refl
 length-cuts (u ∷ []) = refl
 length-cuts (u ∷ v ∷ []) = refl
@@ -21,8 +21,8 @@ length-cuts (u ∷ v ∷ radius ∷ []) = refl
 length-cuts (u ∷ v ∷ radius ∷ centre ∷ rest) = omega (arith, length-cuts rest)
 
 -- a ball that is only begun
-cut-begun : (numbers : List ℤ) (i : ℕ) → 4 * i < length numbers → length numbers < 4 * i + 4 → getD (cutsOf numbers) i fault ≡ fault
-unfolding cutsOf
+cut-begun : (numbers : List ℤ) (i : ℕ) → 4 * i < length numbers → length numbers < 4 * i + 4 → getD (ballCuts numbers) i fault ≡ fault
+unfolding ballCuts
 cut-begun [] i h k = absurd (omega arith)
 cut-begun (u ∷ []) zero h k = refl
 cut-begun (u ∷ v ∷ []) zero h k = refl
@@ -35,8 +35,8 @@ cut-begun (u ∷ v ∷ radius ∷ centre ∷ rest) (suc i) h k = cut-begun rest 
 
 -- a ball that is all there
 cut-whole : (numbers : List ℤ) (i : ℕ) → 4 * i + 4 ≤ length numbers
-    → getD (cutsOf numbers) i fault ≡ ballCut (getD numbers (4 * i) (pos 0)) (getD numbers (4 * i + 1) (pos 0)) (getD numbers (4 * i + 2) (pos 0)) (getD numbers (4 * i + 3) (pos 0))
-unfolding cutsOf
+    → getD (ballCuts numbers) i fault ≡ ballCut (getD numbers (4 * i) (pos 0)) (getD numbers (4 * i + 1) (pos 0)) (getD numbers (4 * i + 2) (pos 0)) (getD numbers (4 * i + 3) (pos 0))
+unfolding ballCuts
 cut-whole [] i h = absurd (omega arith)
 cut-whole (u ∷ []) i h = absurd (omega arith)
 cut-whole (u ∷ v ∷ []) i h = absurd (omega arith)
@@ -50,10 +50,10 @@ cut-whole (u ∷ v ∷ radius ∷ centre ∷ rest) (suc i) h =
     rw (e1, e2, e3, e0) (cut-whole rest i (omega arith))
 
 -- ---- the exits of `meet_at`
-pub at-begun : (numbers : List ℤ) (i : ℕ) → 4 * i < length numbers → length numbers < 4 * i + 4 → cutOf Fault ≡ getD (cutsOf numbers) i fault
+pub at-begun : (numbers : List ℤ) (i : ℕ) → 4 * i < length numbers → length numbers < 4 * i + 4 → cutOf Fault ≡ getD (ballCuts numbers) i fault
 at-begun numbers i h k = sym (cut-begun numbers i h k)
 
 pub at-whole : (numbers : List ℤ) (i u v radius centre : ℕ) (m : Met) → 4 * i + 4 ≤ length numbers
     → unmark u ≡ getD numbers (4 * i) (pos 0) → unmark v ≡ getD numbers (4 * i + 1) (pos 0) → unmark radius ≡ getD numbers (4 * i + 2) (pos 0) → unmark centre ≡ getD numbers (4 * i + 3) (pos 0)
-    → cutOf m ≡ ballCut (unmark u) (unmark v) (unmark radius) (unmark centre) → cutOf m ≡ getD (cutsOf numbers) i fault
+    → cutOf m ≡ ballCut (unmark u) (unmark v) (unmark radius) (unmark centre) → cutOf m ≡ getD (ballCuts numbers) i fault
 at-whole numbers i u v radius centre m h eu ev er ec e = e ∙ rw (eu, ev, er, ec) (sym (cut-whole numbers i h))

@@ -2,5 +2,5 @@ pub mod BallLaws
 pub mod LentLaws
 pub mod RangeLaws
 pub mod LineLaws
-pub mod Theorems
+pub mod Settled
 pub mod Cases

@@ -13,7 +13,7 @@ use Rattle.cross_positions.specs.Positions.{allowed}
 use Rattle.cross_cuts.specs.Cuts.{fault, cut, positionsOf}
 use Rattle.cross_cuts.specs.Every.{Every}
 use Rattle.cross_answer.specs.Giving.{InRange}
-use Rattle.cross_balls.specs.Balls.{within, inRanges, squared, halfChord, sides, chordCut, ballCut, cutsOf}
+use Rattle.cross_balls.specs.Balls.{within, inRanges, squared, halfChord, sides, chordCut, ballCut, ballCuts}
 use Rattle.cross_balls.proofs.BallLaws.{unmark-le, and-left, and-right, first-side, last-side}
 
 -- ---- a number in the centre's range has a mark
@@ -74,8 +74,8 @@ ball-allowed u v radius centre = by (inRanges u v radius centre) refl
     by false e = tt
 
 -- ---- all of them
-pub cuts-in-range : (numbers : List ℤ) → InRange (cutsOf numbers)
-unfolding cutsOf
+pub cuts-in-range : (numbers : List ℤ) → InRange (ballCuts numbers)
+unfolding ballCuts
 cuts-in-range [] = tt
 cuts-in-range (u ∷ []) = (tt, tt)
 cuts-in-range (u ∷ v ∷ []) = (tt, tt)

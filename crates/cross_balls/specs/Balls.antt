@@ -40,15 +40,15 @@ abbrev pub ballCut : ℤ → ℤ → ℤ → ℤ → Cut
 ballCut u v radius centre = cond (inRanges u v radius centre) (chordCut u v radius centre) fault
 
 -- The balls as they are lent, four numbers a ball in one list. A ball begun counts, and a number that it lacks is out of range.
-unfoldable pub cutsOf : List ℤ → List Cut
-cutsOf [] = []
-cutsOf (u ∷ []) = fault ∷ []
-cutsOf (u ∷ v ∷ []) = fault ∷ []
-cutsOf (u ∷ v ∷ radius ∷ []) = fault ∷ []
-cutsOf (u ∷ v ∷ radius ∷ centre ∷ rest) = ballCut u v radius centre ∷ cutsOf rest
+unfoldable pub ballCuts : List ℤ → List Cut
+ballCuts [] = []
+ballCuts (u ∷ []) = fault ∷ []
+ballCuts (u ∷ v ∷ []) = fault ∷ []
+ballCuts (u ∷ v ∷ radius ∷ []) = fault ∷ []
+ballCuts (u ∷ v ∷ radius ∷ centre ∷ rest) = ballCut u v radius centre ∷ ballCuts rest
 
 -- "18, more than 256 balls (place 256), then a number out of these ranges, place the first such ball's number; then 9."
-unfoldable pub crossing : List ℤ → ℕ → ℕ → ℕ → Outcome (List Cut)
-crossing numbers starts positions shapes = do
-  need (leb (length (cutsOf numbers)) 256) 18 256
-  answered 18 (cutsOf numbers) starts positions shapes
+unfoldable pub crossingBalls : List ℤ → ℕ → ℕ → ℕ → Outcome (List Cut)
+crossingBalls numbers starts positions shapes = do
+  need (leb (length (ballCuts numbers)) 256) 18 256
+  answered 18 (ballCuts numbers) starts positions shapes

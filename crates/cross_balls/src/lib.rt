@@ -10,15 +10,9 @@ ghost use lib.ListN.{length, getD};
 ghost use Rattle.cross_marks.specs.Marks.{unmark};
 ghost use Rattle.cross_cuts.specs.Cuts.{fault};
 ghost use Rattle.cross_cuts.specs.Keys.{cutOf, Ends};
-ghost use Rattle.cross_answer.specs.Answer.{lists, Promise};
-ghost use Rattle.cross_balls.specs.Balls.{within, inRanges, squared, chordCut, ballCut, cutsOf, crossing};
+ghost use Rattle.cross_answer.specs.Answer.{madeLists, Crossed};
+ghost use Rattle.cross_balls.specs.Balls.{within, inRanges, squared, chordCut, ballCut, ballCuts, crossingBalls};
 ghost use Rattle.cross_balls.specs.Small.{Small};
-
-fn wide(x: u32) -> u64
-    ensures { λ r. ⌜ (r ≡ x) × (r < 4294967296) ⌝ }
-{
-    x as u64
-}
 
 fn in_range(mark: u32, low: u32, high: u32) -> bool
     ensures { λ r. ⌜ r ≡ within (unmark low) (unmark high) (unmark mark) ⌝ }
@@ -49,14 +43,15 @@ fn square(mark: u32) -> u64
     ensures { λ r. ⌜ (r ≡ squared (unmark mark)) × (r ≤ 1000000000000) ⌝ }
 {
     if mark < 2147483648 {
-        let size = wide(2147483648 - mark);
+        let size = basics::long_word(2147483648 - mark);
         return size * size;
     }
-    let size = wide(mark - 2147483648);
+    let size = basics::long_word(mark - 2147483648);
     size * size
 }
 
-fn narrow(x: u64) -> u32
+// A mark that is held in a word.
+fn mark_in(x: u64) -> u32
     requires { ⌜ x < 4294967296 ⌝ }
     ensures { λ r. ⌜ r ≡ x ⌝ }
 {
@@ -77,9 +72,9 @@ fn meet_chord(u: u32, v: u32, radius: u32, centre: u32) -> Met
     if half == 0 {
         return Met::Never(false);
     }
-    let at = wide(centre);
-    let first = narrow(at - half);
-    let last = narrow(at + half);
+    let at = basics::long_word(centre);
+    let first = mark_in(at - half);
+    let last = mark_in(at + half);
     Met::Twice(first, last)
 }
 
@@ -102,7 +97,7 @@ fn mark_at(numbers: &[i32], k: usize) -> u32
 // The i-th ball, from 0; one that is only begun is at fault.
 fn meet_at(numbers: &[i32], i: usize) -> Met
     requires { ⌜ (4 * i < length (now numbers)) × (i < 256) ⌝ }
-    ensures { λ r. ⌜ cutOf r ≡ getD (cutsOf (now (numbers .entry))) i fault ⌝ }
+    ensures { λ r. ⌜ cutOf r ≡ getD (ballCuts (now (numbers .entry))) i fault ⌝ }
 {
     let k = 4 * i;
     if numbers.len() < k + 4 {
@@ -118,7 +113,7 @@ fn meet_at(numbers: &[i32], i: usize) -> Met
 // All the balls of one line, in turn.
 fn gather(numbers: &[i32], bytes: &mut [u8], keys: &mut [u64]) -> Row
     requires { ⌜ (length (now numbers) ≤ 1024) × (length (now bytes) ≡ 256) × (length (now keys) ≡ 512) ⌝ }
-    ensures { λ r. ⌜ Ends 18 (cutsOf (now (numbers .entry))) (now (bytes .exit)) (now (keys .exit)) r ⌝ }
+    ensures { λ r. ⌜ Ends 18 (ballCuts (now (numbers .entry))) (now (bytes .exit)) (now (keys .exit)) r ⌝ }
 {
     let mut i = 0usize;
     let mut m = 0usize;
@@ -144,8 +139,8 @@ pub fn cross(
     positions: &mut [i32],
     shapes: &mut [u16],
 ) -> CrossAnswer
-    ensures { λ r. ⌜ Promise (crossing (now (numbers .entry)) (length (now (starts .entry))) (length (now (positions .entry))) (length (now (shapes .entry))))
-        (lists (now (starts .entry)) (now (positions .entry)) (now (shapes .entry))) r (lists (now (starts .exit)) (now (positions .exit)) (now (shapes .exit))) ⌝ }
+    ensures { λ r. ⌜ Crossed (crossingBalls (now (numbers .entry)) (length (now (starts .entry))) (length (now (positions .entry))) (length (now (shapes .entry))))
+        (madeLists (now (starts .entry)) (now (positions .entry)) (now (shapes .entry))) r (madeLists (now (starts .exit)) (now (positions .exit)) (now (shapes .exit))) ⌝ }
 {
     let long = numbers.len();
     if 1024 < long {

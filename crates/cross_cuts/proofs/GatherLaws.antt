@@ -9,7 +9,7 @@ use lib.ListN.{length, take, drop, getD, set, length-set, length-append, drop-of
 use lib.Seq.{take-suc, take-suc-set, drop-cons, take-all}
 use Rattle.outcome.specs.Outcome.{given, refused}
 use Rattle.cross_marks.specs.Marks.{unmark}
-use Rattle.cross_cuts.specs.Cuts.{Cut, fault, cut, sound, positionsOf, startOf, startRow, crossing, crossingsFrom, faultless}
+use Rattle.cross_cuts.specs.Cuts.{Cut, fault, cut, sound, positionsOf, startOf, startRow, crossedAt, crossingsFrom, faultless}
 use Rattle.cross_cuts.specs.Keys.{cutOf, keyOf, crossingOf, bitOf, Held, Adds, Going, Complete}
 use Rattle.cross_cuts.specs.declared.Met.{Met}
 use Rattle.cross_cuts.specs.declared.Met.the-variants.{Fault, Never, Once, Twice}
@@ -21,24 +21,24 @@ map-append : {A B : Type 0} (f : A → B) (xs ys : List A) → map f (xs ++ ys) 
 map-append f [] ys = refl
 map-append f (x ∷ xs) ys = ap (λ l. f x ∷ l) (map-append f xs ys)
 
-crossings-more : (j : ℕ) (cuts : List Cut) (c : Cut) → crossingsFrom j (cuts ++ (c ∷ [])) ≡ crossingsFrom j cuts ++ map (λ p. crossing p (j + length cuts)) (positionsOf c)
+crossings-more : (j : ℕ) (cuts : List Cut) (c : Cut) → crossingsFrom j (cuts ++ (c ∷ [])) ≡ crossingsFrom j cuts ++ map (λ p. crossedAt p (j + length cuts)) (positionsOf c)
 unfolding crossingsFrom
-crossings-more j [] c = append-nil _ ∙ ap (λ n. map (λ p. crossing p n) (positionsOf c)) (omega arith)
+crossings-more j [] c = append-nil _ ∙ ap (λ n. map (λ p. crossedAt p n) (positionsOf c)) (omega arith)
 crossings-more j (d ∷ cuts) c =
-    ap (λ l. map (λ p. crossing p j) (positionsOf d) ++ l) (crossings-more (j + 1) cuts c ∙ ap (λ n. crossingsFrom (j + 1) cuts ++ map (λ p. crossing p n) (positionsOf c)) (omega arith))
-    ∙ sym (append-assoc (map (λ p. crossing p j) (positionsOf d)) (crossingsFrom (j + 1) cuts) _)
+    ap (λ l. map (λ p. crossedAt p j) (positionsOf d) ++ l) (crossings-more (j + 1) cuts c ∙ ap (λ n. crossingsFrom (j + 1) cuts ++ map (λ p. crossedAt p n) (positionsOf c)) (omega arith))
+    ∙ sym (append-assoc (map (λ p. crossedAt p j) (positionsOf d)) (crossingsFrom (j + 1) cuts) _)
 
 starts-more : (cuts : List Cut) (c : Cut) (starts : List ℕ) (i b : ℕ) → i < length starts → take i starts ≡ startRow cuts → b ≡ startOf c → take (i + 1) (set starts i b) ≡ startRow (cuts ++ (c ∷ []))
 starts-more cuts c starts i b h e f = rw (add-one, take-suc-set starts i b h, e, f) (sym (map-append startOf cuts (c ∷ [])))
 
 -- ---- one key more at the end
-key-position : (a i : ℕ) → i < 256 → crossingOf (keyOf a i) ≡ crossing (unmark a) i
+key-position : (a i : ℕ) → i < 256 → crossingOf (keyOf a i) ≡ crossedAt (unmark a) i
 key-position a i h =
     let p : (a * 256 + i) / 256 ≡ a = omega arith in
     let q : (a * 256 + i) % 256 ≡ i = omega arith in
     rw (p, q)
 
-keys-more : (keys : List ℕ) (m k a i : ℕ) → i < 256 → m < length keys → k ≡ keyOf a i → map crossingOf (take (m + 1) (set keys m k)) ≡ map crossingOf (take m keys) ++ (crossing (unmark a) i ∷ [])
+keys-more : (keys : List ℕ) (m k a i : ℕ) → i < 256 → m < length keys → k ≡ keyOf a i → map crossingOf (take (m + 1) (set keys m k)) ≡ map crossingOf (take m keys) ++ (crossedAt (unmark a) i ∷ [])
 keys-more keys m k a i h l e = rw (add-one, take-suc-set keys m k l) (map-append crossingOf (take m keys) (k ∷ []) ∙ ap (λ x. map crossingOf (take m keys) ++ (x ∷ [])) (ap crossingOf e ∙ key-position a i h))
 
 -- ---- the exits of `add`
@@ -74,8 +74,8 @@ module _ (starts keys : List ℕ) (i m : ℕ) (held : Held starts keys i m) (h :
       all = length-append cuts _ ∙ omega (arith, g .all);
       started = starts-more cuts (cut inside (unmark a ∷ [])) starts i b here (g .started) f;
       keyed =
-          keys-more keys m k a i h (omega (arith, room)) p ∙ ap (λ l. l ++ (crossing (unmark a) i ∷ [])) (g .keyed)
-          ∙ ap (λ n. crossingsFrom 0 cuts ++ (crossing (unmark a) n ∷ [])) (omega (arith, g .all)) ∙ sym (crossings-more 0 cuts (cut inside (unmark a ∷ [])));
+          keys-more keys m k a i h (omega (arith, room)) p ∙ ap (λ l. l ++ (crossedAt (unmark a) i ∷ [])) (g .keyed)
+          ∙ ap (λ n. crossingsFrom 0 cuts ++ (crossedAt (unmark a) n ∷ [])) (omega (arith, g .all)) ∙ sym (crossings-more 0 cuts (cut inside (unmark a ∷ [])));
     },
   )
 
@@ -90,9 +90,9 @@ module _ (starts keys : List ℕ) (i m : ℕ) (held : Held starts keys i m) (h :
           let two : m + 2 ≡ m + 1 + 1 = omega arith in
           ap (λ n. map crossingOf (take n (set (set keys m k) (m + 1) l))) two
           ∙ keys-more (set keys m k) (m + 1) l b i h (second-room k) q
-          ∙ ap (λ x. x ++ (crossing (unmark b) i ∷ [])) (keys-more keys m k a i h (omega (arith, room)) p ∙ ap (λ x. x ++ (crossing (unmark a) i ∷ [])) (g .keyed))
-          ∙ append-assoc (crossingsFrom 0 cuts) (crossing (unmark a) i ∷ []) (crossing (unmark b) i ∷ [])
-          ∙ ap (λ n. crossingsFrom 0 cuts ++ (crossing (unmark a) n ∷ crossing (unmark b) n ∷ [])) (omega (arith, g .all))
+          ∙ ap (λ x. x ++ (crossedAt (unmark b) i ∷ [])) (keys-more keys m k a i h (omega (arith, room)) p ∙ ap (λ x. x ++ (crossedAt (unmark a) i ∷ [])) (g .keyed))
+          ∙ append-assoc (crossingsFrom 0 cuts) (crossedAt (unmark a) i ∷ []) (crossedAt (unmark b) i ∷ [])
+          ∙ ap (λ n. crossingsFrom 0 cuts ++ (crossedAt (unmark a) n ∷ crossedAt (unmark b) n ∷ [])) (omega (arith, g .all))
           ∙ sym (crossings-more 0 cuts (cut false (unmark a ∷ unmark b ∷ [])));
     },
   )

@@ -2,11 +2,11 @@
 use Prim.Native.Nat.{ℕ, _+_}
 use mathlib.Core.Bool.{Bool, true, false, not, cond, _&&_, _||_}
 use mathlib.Core.List.{List, [], _∷_, _++_, map}
-use lib.Dec.{ltb, leb}
+use lib.Dec.{ltb}
 use lib.IntN.{ℤ}
 use lib.ListN.{length}
 use lib.Signed.{ltZ}
-use Rattle.outcome.specs.Outcome.{Outcome, given, need, _>>_}
+use Rattle.outcome.specs.Outcome.{Outcome, given, need, room, _>>_}
 use Rattle.cross_order.specs.Order.{inOrder}
 
 -- What a line has of one shape: the shape is at fault; or whether it starts inside, and the positions where it is crossed.
@@ -30,27 +30,27 @@ startOf (cut inside positions) = cond inside 1 0
 abbrev pub startRow : List Cut → List ℕ
 startRow cuts = map startOf cuts
 
--- A crossing: its position and its shape's number.
-pub data Crossing : Type 0 where
-  crossing : ℤ → ℕ → Crossing
+-- A crossing of the line: its position and its shape's number.
+pub data LineCrossing : Type 0 where
+  crossedAt : ℤ → ℕ → LineCrossing
 
-abbrev pub positionOf : Crossing → ℤ
-positionOf (crossing position shape) = position
+abbrev pub positionOf : LineCrossing → ℤ
+positionOf (crossedAt position shape) = position
 
-abbrev pub shapeOf : Crossing → ℕ
-shapeOf (crossing position shape) = shape
+abbrev pub shapeOf : LineCrossing → ℕ
+shapeOf (crossedAt position shape) = shape
 
 -- The crossings of the shapes from number i on.
-unfoldable pub crossingsFrom : ℕ → List Cut → List Crossing
+unfoldable pub crossingsFrom : ℕ → List Cut → List LineCrossing
 crossingsFrom i [] = []
-crossingsFrom i (c ∷ cs) = map (λ p. crossing p i) (positionsOf c) ++ crossingsFrom (i + 1) cs
+crossingsFrom i (c ∷ cs) = map (λ p. crossedAt p i) (positionsOf c) ++ crossingsFrom (i + 1) cs
 
 -- "By rising position, then rising shape number."
-abbrev pub before : Crossing → Crossing → Bool
-before (crossing p i) (crossing q j) = ltZ p q || (not (ltZ q p) && ltb i j)
+abbrev pub before : LineCrossing → LineCrossing → Bool
+before (crossedAt p i) (crossedAt q j) = ltZ p q || (not (ltZ q p) && ltb i j)
 
-abbrev pub crossings : List Cut → List Crossing
-crossings cuts = inOrder before (crossingsFrom 0 cuts)
+abbrev pub lineCrossings : List Cut → List LineCrossing
+lineCrossings cuts = inOrder before (crossingsFrom 0 cuts)
 
 -- The first shape at fault, from number i on, is refused with this number; the place is the shape's number.
 unfoldable pub faultless : ℕ → ℕ → List Cut → Outcome (Unit {0})
@@ -60,15 +60,15 @@ faultless number i (c ∷ cs) = do
   faultless number (i + 1) cs
 
 -- "Then 9 for start row, positions and shapes in turn, by the entries given."
-abbrev pub roomy : List Cut → ℕ → ℕ → ℕ → Outcome (Unit {0})
-roomy cuts starts positions shapes = do
-  need (leb (length (startRow cuts)) starts) 9 (length (startRow cuts))
-  need (leb (length (crossings cuts)) positions) 9 (length (crossings cuts))
-  need (leb (length (crossings cuts)) shapes) 9 (length (crossings cuts))
+abbrev pub lineRoom : List Cut → ℕ → ℕ → ℕ → Outcome (Unit {0})
+lineRoom cuts starts positions shapes = do
+  room (length (startRow cuts)) starts
+  room (length (lineCrossings cuts)) positions
+  room (length (lineCrossings cuts)) shapes
 
 -- What the shapes of one line give, with the lengths of the lists lent for start row, positions and shapes.
 unfoldable pub answered : ℕ → List Cut → ℕ → ℕ → ℕ → Outcome (List Cut)
 answered number cuts starts positions shapes = do
   faultless number 0 cuts
-  roomy cuts starts positions shapes
+  lineRoom cuts starts positions shapes
   given cuts

@@ -6,7 +6,7 @@ use mathlib.Core.List.{List, [], _∷_, _++_, map}
 use lib.ListN.{length, take, drop}
 use Rattle.outcome.specs.Outcome.{given, refused}
 use Rattle.cross_marks.specs.Marks.{unmark}
-use Rattle.cross_cuts.specs.Cuts.{Cut, fault, cut, sound, startRow, Crossing, crossing, crossingsFrom, faultless}
+use Rattle.cross_cuts.specs.Cuts.{Cut, fault, cut, sound, startRow, LineCrossing, crossedAt, crossingsFrom, faultless}
 use Rattle.cross_cuts.specs.declared.Met.{Met}
 use Rattle.cross_cuts.specs.declared.Met.the-variants.{Fault, Never, Once, Twice}
 use Rattle.cross_cuts.specs.declared.Added.{Added}
@@ -25,8 +25,8 @@ cutOf (Twice a b) = cut false (unmark a ∷ unmark b ∷ [])
 abbrev pub keyOf : ℕ → ℕ → ℕ
 keyOf mark shape = mark * 256 + shape
 
-abbrev pub crossingOf : ℕ → Crossing
-crossingOf key = crossing (unmark (key / 256)) (key % 256)
+abbrev pub crossingOf : ℕ → LineCrossing
+crossingOf key = crossedAt (unmark (key / 256)) (key % 256)
 
 abbrev pub bitOf : Bool → ℕ
 bitOf inside = cond inside 1 0

@@ -23,17 +23,11 @@ pub enum Row {
     Count(usize),
 }
 
-fn wide(x: u32) -> u64
-    ensures { λ r. ⌜ (r ≡ x) × (r < 4294967296) ⌝ }
-{
-    x as u64
-}
-
 fn key(mark: u32, shape: usize) -> u64
     requires { ⌜ shape < 256 ⌝ }
     ensures { λ r. ⌜ r ≡ keyOf mark shape ⌝ }
 {
-    wide(mark) * 256 + shape as u64
+    basics::long_word(mark) * 256 + shape as u64
 }
 
 fn bit(inside: bool) -> u8

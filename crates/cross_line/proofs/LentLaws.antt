@@ -16,7 +16,7 @@ use Rattle.cross_shapes.specs.declared.Shape.{Shape}
 use Rattle.cross_shapes.specs.declared.Shape.the-variants.{HalfSpace, Block}
 use Rattle.cross_shapes.proofs.RangeLaws.{shape-in-range}
 use Rattle.cross_line.specs.Lent.{shapeFrom, shapesOf}
-use Rattle.cross_line.specs.Crossing.{allThree, goodProbe, cutsOf}
+use Rattle.cross_line.specs.Crossing.{allThree, goodProbe, shapeCuts}
 
 -- ---- a number that the list lacks
 nan-is : div binary64 (ofBits binary64 0) (ofBits binary64 0) ≡ nan
@@ -45,10 +45,10 @@ unfolding shapesOf
 length-shapes [] numbers = refl
 length-shapes (k ∷ kinds) numbers = ap suc (length-shapes kinds (drop 6 numbers))
 
-pub length-cuts : (probe : Probe) (kinds : List ℕ) (numbers : List Float) → length (cutsOf probe kinds numbers) ≡ length kinds
+pub length-cuts : (probe : Probe) (kinds : List ℕ) (numbers : List Float) → length (shapeCuts probe kinds numbers) ≡ length kinds
 length-cuts probe kinds numbers = length-map (shapesOf kinds numbers) (λ shape. shapeCut probe shape) ∙ length-shapes kinds numbers
 
-pub cut-at : (probe : Probe) (kinds : List ℕ) (numbers : List Float) (i : ℕ) → i < length kinds → getD (cutsOf probe kinds numbers) i fault ≡ shapeCut probe (shapeFrom (getD kinds i 0) (drop (6 * i) numbers))
+pub cut-at : (probe : Probe) (kinds : List ℕ) (numbers : List Float) (i : ℕ) → i < length kinds → getD (shapeCuts probe kinds numbers) i fault ≡ shapeCut probe (shapeFrom (getD kinds i 0) (drop (6 * i) numbers))
 unfolding shapesOf
 cut-at probe [] numbers i h = absurd (omega arith)
 cut-at probe (k ∷ kinds) numbers zero h = refl
@@ -57,7 +57,7 @@ cut-at probe (k ∷ kinds) numbers (suc i) h =
     cut-at probe kinds (drop 6 numbers) i (omega arith)
     ∙ ap (λ l. shapeCut probe (shapeFrom (getD kinds i 0) l)) (drop-drop (6 * i) 6 numbers ∙ ap (λ n. drop n numbers) six)
 
-pub cuts-in-range : (probe : Probe) (kinds : List ℕ) (numbers : List Float) → InRange (cutsOf probe kinds numbers)
+pub cuts-in-range : (probe : Probe) (kinds : List ℕ) (numbers : List Float) → InRange (shapeCuts probe kinds numbers)
 cuts-in-range probe kinds numbers = by (shapesOf kinds numbers)
   where
     by : (shapes : List Shape) → InRange (map (λ shape. shapeCut probe shape) shapes)

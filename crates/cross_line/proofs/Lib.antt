@@ -1,4 +1,4 @@
 pub mod LentLaws
 pub mod LineLaws
-pub mod Theorems
+pub mod Settled
 pub mod Cases

@@ -16,7 +16,7 @@ use Rattle.cross_cuts.specs.declared.Added.the-variants as added
 use Rattle.cross_cuts.specs.declared.Row.{Row}
 use Rattle.cross_cuts.specs.declared.Row.the-variants as row
 use Rattle.cross_cuts.proofs.GatherLaws.{going-fault, going-on, going-ends}
-use Rattle.cross_answer.specs.Answer.{lists, Promise}
+use Rattle.cross_answer.specs.Answer.{madeLists, Crossed}
 use Rattle.cross_answer.specs.Giving.{InRange}
 use Rattle.cross_answer.specs.declared.CrossAnswer.{CrossAnswer}
 use Rattle.cross_answer.specs.declared.CrossAnswer.the-variants.{Refused}
@@ -25,59 +25,59 @@ use Rattle.cross_shapes.specs.Shapes.{shapeCut}
 use Rattle.cross_shapes.specs.declared.Probe.{Probe}
 use Rattle.cross_shapes.specs.declared.Shape.{Shape}
 use Rattle.cross_line.specs.Lent.{shapeFrom}
-use Rattle.cross_line.specs.Crossing.{goodProbe, cutsOf, crossing}
+use Rattle.cross_line.specs.Crossing.{goodProbe, shapeCuts, crossingShapes}
 use Rattle.cross_line.proofs.LentLaws.{length-cuts, cut-at, cuts-in-range}
 
 -- ---- the loop
-module _ (probe : Probe) (kinds : List ℕ) (numbers : List Float) (bytes keys : List ℕ) (i m : ℕ) (going : Going 16 (cutsOf probe kinds numbers) bytes keys i m) where
+module _ (probe : Probe) (kinds : List ℕ) (numbers : List Float) (bytes keys : List ℕ) (i m : ℕ) (going : Going 16 (shapeCuts probe kinds numbers) bytes keys i m) where
   module _ (more : i < length kinds) (shape : Shape) (met : Met) (bytes′ keys′ : List ℕ) (r : Added)
       (read : shape ≡ shapeFrom (getD kinds i 0) (drop (6 * i) numbers)) (meets : cutOf met ≡ shapeCut probe shape) (adds : Adds (cutOf met) bytes keys i m bytes′ keys′ r) where
-    here : i < length (cutsOf probe kinds numbers)
+    here : i < length (shapeCuts probe kinds numbers)
     here = rw (length-cuts probe kinds numbers) more
 
-    is : cutOf met ≡ getD (cutsOf probe kinds numbers) i fault
+    is : cutOf met ≡ getD (shapeCuts probe kinds numbers) i fault
     is = meets ∙ ap (shapeCut probe) read ∙ sym (cut-at probe kinds numbers i more)
 
-    pub line-fault : r ≡ added.Fault → Ends 16 (cutsOf probe kinds numbers) bytes′ keys′ (row.Fault i)
-    line-fault e = going-fault 16 (cutsOf probe kinds numbers) bytes keys i m going here (cutOf met) is bytes′ keys′ r adds e
+    pub line-fault : r ≡ added.Fault → Ends 16 (shapeCuts probe kinds numbers) bytes′ keys′ (row.Fault i)
+    line-fault e = going-fault 16 (shapeCuts probe kinds numbers) bytes keys i m going here (cutOf met) is bytes′ keys′ r adds e
 
-    pub line-on : (n : ℕ) → r ≡ added.Count n → Going 16 (cutsOf probe kinds numbers) bytes′ keys′ (i + 1) n
-    line-on n e = going-on 16 (cutsOf probe kinds numbers) bytes keys i m going here (cutOf met) is bytes′ keys′ r adds n e
+    pub line-on : (n : ℕ) → r ≡ added.Count n → Going 16 (shapeCuts probe kinds numbers) bytes′ keys′ (i + 1) n
+    line-on n e = going-on 16 (shapeCuts probe kinds numbers) bytes keys i m going here (cutOf met) is bytes′ keys′ r adds n e
 
-  pub line-ends : length kinds ≤ i → Ends 16 (cutsOf probe kinds numbers) bytes keys (row.Count m)
-  line-ends h = going-ends 16 (cutsOf probe kinds numbers) bytes keys i m going (rw (length-cuts probe kinds numbers) h)
+  pub line-ends : length kinds ≤ i → Ends 16 (shapeCuts probe kinds numbers) bytes keys (row.Count m)
+  line-ends h = going-ends 16 (shapeCuts probe kinds numbers) bytes keys i m going (rw (length-cuts probe kinds numbers) h)
 
 -- ---- the job
 module _ (probe : Probe) (kinds : List ℕ) (numbers : List Float) (s : List ℕ) (p : List ℤ) (h : List ℕ) where
-  pub too-many : 256 < length kinds → Promise (crossing probe kinds numbers (length s) (length p) (length h)) (lists s p h) (Refused 16 256) (lists s p h)
-  unfolding crossing
-  too-many more = refusal _ (lists s p h) 16 256 (rw (lt-leb (length kinds) 256 more))
+  pub too-many : 256 < length kinds → Crossed (crossingShapes probe kinds numbers (length s) (length p) (length h)) (madeLists s p h) (Refused 16 256) (madeLists s p h)
+  unfolding crossingShapes
+  too-many more = refusal _ (madeLists s p h) 16 256 (rw (lt-leb (length kinds) 256 more))
 
   module _ (few : length kinds ≤ 256) (w : Bool) (says : w ≡ goodProbe probe) where
-    pub bad-line : w ≡ false → Promise (crossing probe kinds numbers (length s) (length p) (length h)) (lists s p h) (Refused 16 65535) (lists s p h)
-    unfolding crossing
-    bad-line e = refusal _ (lists s p h) 16 65535 (rw (le-leb (length kinds) 256 few, sym says ∙ e))
+    pub bad-line : w ≡ false → Crossed (crossingShapes probe kinds numbers (length s) (length p) (length h)) (madeLists s p h) (Refused 16 65535) (madeLists s p h)
+    unfolding crossingShapes
+    bad-line e = refusal _ (madeLists s p h) 16 65535 (rw (le-leb (length kinds) 256 few, sym says ∙ e))
 
-    module _ (so : w ≡ true) (bytes keys : List ℕ) (r : Row) (ends : Ends 16 (cutsOf probe kinds numbers) bytes keys r) where
-      asked : crossing probe kinds numbers (length s) (length p) (length h) ≡ answered 16 (cutsOf probe kinds numbers) (length s) (length p) (length h)
-      unfolding crossing
+    module _ (so : w ≡ true) (bytes keys : List ℕ) (r : Row) (ends : Ends 16 (shapeCuts probe kinds numbers) bytes keys r) where
+      asked : crossingShapes probe kinds numbers (length s) (length p) (length h) ≡ answered 16 (shapeCuts probe kinds numbers) (length s) (length p) (length h)
+      unfolding crossingShapes
       asked = rw (le-leb (length kinds) 256 few, sym says ∙ so)
 
-      pub bad-shape : (i : ℕ) → r ≡ row.Fault i → Promise (crossing probe kinds numbers (length s) (length p) (length h)) (lists s p h) (Refused 16 i) (lists s p h)
+      pub bad-shape : (i : ℕ) → r ≡ row.Fault i → Crossed (crossingShapes probe kinds numbers (length s) (length p) (length h)) (madeLists s p h) (Refused 16 i) (madeLists s p h)
       bad-shape i e =
-          let f : faultless 16 0 (cutsOf probe kinds numbers) ≡ refused 16 i = rw e at ends in
-          refusal _ (lists s p h) 16 i (asked ∙ fault-refused 16 (cutsOf probe kinds numbers) _ _ _ i f)
+          let f : faultless 16 0 (shapeCuts probe kinds numbers) ≡ refused 16 i = rw e at ends in
+          refusal _ (madeLists s p h) 16 i (asked ∙ fault-refused 16 (shapeCuts probe kinds numbers) _ _ _ i f)
 
       module _ (m : ℕ) (e : r ≡ row.Count m) where
-        complete : Complete 16 (cutsOf probe kinds numbers) bytes keys (length kinds) m
+        complete : Complete 16 (shapeCuts probe kinds numbers) bytes keys (length kinds) m
         complete = rw (length-cuts probe kinds numbers) at (rw e at ends)
 
         pub all-given : (a : CrossAnswer) (s′ : List ℕ) (p′ : List ℤ) (h′ : List ℕ)
-            → ((number : ℕ) (cuts : List Cut) → Complete number cuts bytes keys (length kinds) m → InRange cuts → Promise (answered number cuts (length s) (length p) (length h)) (lists s p h) a (lists s′ p′ h′))
-            → Promise (crossing probe kinds numbers (length s) (length p) (length h)) (lists s p h) a (lists s′ p′ h′)
-        all-given a s′ p′ h′ gives = rw asked (gives 16 (cutsOf probe kinds numbers) complete (cuts-in-range probe kinds numbers))
+            → ((number : ℕ) (cuts : List Cut) → Complete number cuts bytes keys (length kinds) m → InRange cuts → Crossed (answered number cuts (length s) (length p) (length h)) (madeLists s p h) a (madeLists s′ p′ h′))
+            → Crossed (crossingShapes probe kinds numbers (length s) (length p) (length h)) (madeLists s p h) a (madeLists s′ p′ h′)
+        all-given a s′ p′ h′ gives = rw asked (gives 16 (shapeCuts probe kinds numbers) complete (cuts-in-range probe kinds numbers))
 
-pub line-held : (probe : Probe) (kinds : List ℕ) (numbers : List Float) (bytes keys : List ℕ) (r : Row) → Ends 16 (cutsOf probe kinds numbers) bytes keys r → (m : ℕ) → r ≡ row.Count m → Held bytes keys (length kinds) m
+pub line-held : (probe : Probe) (kinds : List ℕ) (numbers : List Float) (bytes keys : List ℕ) (r : Row) → Ends 16 (shapeCuts probe kinds numbers) bytes keys r → (m : ℕ) → r ≡ row.Count m → Held bytes keys (length kinds) m
 line-held probe kinds numbers bytes keys r ends m e =
-    let c : Complete 16 (cutsOf probe kinds numbers) bytes keys (length (cutsOf probe kinds numbers)) m = rw e at ends in
+    let c : Complete 16 (shapeCuts probe kinds numbers) bytes keys (length (shapeCuts probe kinds numbers)) m = rw e at ends in
     rw (length-cuts probe kinds numbers) at (c .held)

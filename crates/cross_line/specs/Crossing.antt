@@ -21,13 +21,13 @@ goodProbe probe =
     && (allThree finite (probe .dx) (probe .dy) (probe .dz) && not (allThree isZero (probe .dx) (probe .dy) (probe .dz)))
 
 -- What the line has of each shape.
-abbrev pub cutsOf : Probe → List ℕ → List Float → List Cut
-cutsOf probe kinds numbers = map (λ shape. shapeCut probe shape) (shapesOf kinds numbers)
+abbrev pub shapeCuts : Probe → List ℕ → List Float → List Cut
+shapeCuts probe kinds numbers = map (λ shape. shapeCut probe shape) (shapesOf kinds numbers)
 
 -- "16 for more than 256 shapes (place 256), then for the line (place 65535), then for the first shape at fault (place the shape's number);
 -- then 9 for start row, positions and shapes in turn."
-unfoldable pub crossing : Probe → List ℕ → List Float → ℕ → ℕ → ℕ → Outcome (List Cut)
-crossing probe kinds numbers starts positions shapes = do
+unfoldable pub crossingShapes : Probe → List ℕ → List Float → ℕ → ℕ → ℕ → Outcome (List Cut)
+crossingShapes probe kinds numbers starts positions shapes = do
   need (leb (length kinds) 256) 16 256
   need (goodProbe probe) 16 65535
-  answered 16 (cutsOf probe kinds numbers) starts positions shapes
+  answered 16 (shapeCuts probe kinds numbers) starts positions shapes

@@ -9,10 +9,10 @@ ghost use Prim.Native.Nat.{_*_, _<_, _≤_};
 ghost use lib.ListN.{length, drop, getD};
 ghost use lib.Ieee.{nan};
 ghost use Rattle.cross_cuts.specs.Keys.{Ends};
-ghost use Rattle.cross_answer.specs.Answer.{lists, Promise};
+ghost use Rattle.cross_answer.specs.Answer.{madeLists, Crossed};
 ghost use Rattle.cross_shapes.specs.Shapes.{finite, isZero};
 ghost use Rattle.cross_line.specs.Lent.{shapeFrom};
-ghost use Rattle.cross_line.specs.Crossing.{allThree, goodProbe, cutsOf, crossing};
+ghost use Rattle.cross_line.specs.Crossing.{allThree, goodProbe, shapeCuts, crossingShapes};
 
 fn number_at(numbers: &[f64], k: usize) -> f64
     ensures { λ r. ⌜ r ≡ getD (now (numbers .entry)) k nan ⌝ }
@@ -77,7 +77,7 @@ fn good_probe(probe: Probe) -> bool
 // All the shapes of one line, in turn.
 fn gather(probe: Probe, kinds: &[u8], numbers: &[f64], bytes: &mut [u8], keys: &mut [u64]) -> Row
     requires { ⌜ (length (now kinds) ≤ 256) × (length (now bytes) ≡ 256) × (length (now keys) ≡ 512) ⌝ }
-    ensures { λ r. ⌜ Ends 16 (cutsOf probe (now (kinds .entry)) (now (numbers .entry))) (now (bytes .exit)) (now (keys .exit)) r ⌝ }
+    ensures { λ r. ⌜ Ends 16 (shapeCuts probe (now (kinds .entry)) (now (numbers .entry))) (now (bytes .exit)) (now (keys .exit)) r ⌝ }
 {
     let mut i = 0usize;
     let mut m = 0usize;
@@ -105,8 +105,8 @@ pub fn cross(
     positions: &mut [i32],
     shapes: &mut [u16],
 ) -> CrossAnswer
-    ensures { λ r. ⌜ Promise (crossing probe (now (kinds .entry)) (now (numbers .entry)) (length (now (starts .entry))) (length (now (positions .entry))) (length (now (shapes .entry))))
-        (lists (now (starts .entry)) (now (positions .entry)) (now (shapes .entry))) r (lists (now (starts .exit)) (now (positions .exit)) (now (shapes .exit))) ⌝ }
+    ensures { λ r. ⌜ Crossed (crossingShapes probe (now (kinds .entry)) (now (numbers .entry)) (length (now (starts .entry))) (length (now (positions .entry))) (length (now (shapes .entry))))
+        (madeLists (now (starts .entry)) (now (positions .entry)) (now (shapes .entry))) r (madeLists (now (starts .exit)) (now (positions .exit)) (now (shapes .exit))) ⌝ }
 {
     let n = kinds.len();
     if 256 < n {

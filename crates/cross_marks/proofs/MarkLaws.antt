@@ -83,13 +83,6 @@ back-fits m h = rw (back-is m h) (unmark-fits m h)
 pub unmark-exit : (m : ℕ) → m < 4294967296 → toZ w32 (ofZ w32 (toZ w64 (ofZ w64 (toZ w64 m -ℤ pos 2147483648)))) ≡ unmark m
 unmark-exit m h = toZ-ofZ w32 (toZ w64 (ofZ w64 (toZ w64 m -ℤ pos 2147483648))) (back-fits m h) ∙ back-is m h
 
--- ---- a number without its sign
-pub size-below : (z : ℤ) (m : ℕ) → SFits w32 z → unmark m ≡ toZ w32 (ofZ w32 z) → m < 2147483648 → 2147483648 - m ≡ natAbs z
-size-below z m s e h = sym (ap natAbs (sym (e ∙ toZ-ofZ w32 z s)) ∙ rw (lt-ltb m 2147483648 h) (omega arith))
-
-pub size-above : (z : ℤ) (m : ℕ) → SFits w32 z → unmark m ≡ toZ w32 (ofZ w32 z) → 2147483648 ≤ m → m - 2147483648 ≡ natAbs z
-size-above z m s e h = sym (ap natAbs (sym (e ∙ toZ-ofZ w32 z s)) ∙ rw (le-ltb m 2147483648 h) refl)
-
 -- ---- marks compare as their numbers do
 pub unmark-lt : (a b : ℕ) → ltZ (unmark a) (unmark b) ≡ ltb a b
 unmark-lt a b = by (ltb a 2147483648) refl (ltb b 2147483648) refl

@@ -1,6 +1,5 @@
 // The bridge between signed numbers and unsigned ones: all else counts without signs.
 ghost use mathlib.Core.Path.{_≡_};
-ghost use lib.IntN.{natAbs};
 ghost use Rattle.cross_marks.specs.Marks.{unmark};
 
 // 2147483648 more than z.
@@ -15,15 +14,4 @@ pub fn position_of(m: u32) -> i32
     ensures { λ r. ⌜ r ≡ unmark m ⌝ }
 {
     (m as i64 - 2147483648) as i32
-}
-
-// z without its sign.
-pub fn size_of(z: i32) -> u32
-    ensures { λ r. ⌜ r ≡ natAbs z ⌝ }
-{
-    let m = mark_of(z);
-    if m < 2147483648 {
-        return 2147483648 - m;
-    }
-    m - 2147483648
 }

@@ -27,7 +27,11 @@ use Rattle.job_run.specs.declared.RunAnswer.{RunAnswer}
 use Rattle.job_run.specs.declared.RunAnswer.the-variants as run
 use Rattle.job_classify.specs.declared.ClassifyAnswer.{ClassifyAnswer}
 use Rattle.job_classify.specs.declared.ClassifyAnswer.the-variants as classify
-use Rattle.host.specs.Report.{sheetOf, readReport, nameReport, namesReport, buildReport, runReport, classifyReport, NamesReported, BuildReported, RunReported, ClassifyReported}
+use Rattle.cross_cuts.specs.Cuts.{Cut}
+use Rattle.cross_answer.specs.Answer.{crossedOf, MadeLists, Crossed}
+use Rattle.cross_answer.specs.declared.CrossAnswer.{CrossAnswer}
+use Rattle.host.specs.Report.{sheetOf, readReport, nameReport, namesReport, buildReport, runReport, classifyReport, crossReport, NamesReported, BuildReported, RunReported, ClassifyReported, CrossReported}
+use Rattle.host.specs.declared.CrossReport.{CrossReport}
 
 -- ---- sheetOf, by the number
 
@@ -137,3 +141,15 @@ module _ {o : Outcome (List Wall)} {lent : AnswerLists} {a : ClassifyAnswer} {af
 
   pub classify-unfit : {k p : ℕ} → a ≡ classify.Unfit k p → ClassifyReported o lent (classifyReport (unfit k p)) after
   classify-unfit {k} {p} is = classify-as (unfit k p) (ap classifiedOf is)
+
+-- a case of the answer, told as it is reported
+pub cross-case : {a b : CrossAnswer} → a ≡ b → crossReport (crossedOf b) ≡ crossReport (crossedOf a)
+cross-case is = ap (λ x. crossReport (crossedOf x)) (sym is)
+
+module _ {o : Outcome (List Cut)} {lent : MadeLists} {a : CrossAnswer} {after : MadeLists} (done : Crossed o lent a after) where
+  pub cross-reported : {r : CrossReport} → r ≡ crossReport (crossedOf a) → CrossReported o lent r after
+  cross-reported says =
+      record {
+        report = says ∙ ap crossReport (done .answer);
+        lists = done .lists;
+      }

@@ -3,6 +3,8 @@ use Prim.Native.Nat.{ℕ}
 use native.Mathlib.Omega.{arith}
 use mathlib.Core.Path.{_≡_, refl, sym, _∙_}
 use mathlib.Core.List.{List}
+use lib.Ieee.{Float}
+use lib.IntN.{ℤ}
 use lib.ListN.{length}
 use Rattle.outcome.specs.Outcome.{Outcome, given, refused, unfit, part}
 use Rattle.outcome.specs.Numbered.{Numbered}
@@ -24,13 +26,22 @@ use Rattle.job_run.specs.Running.{running}
 use Rattle.job_run.proofs.Settled.{run-numbered}
 use Rattle.job_classify.specs.Classifying.{classifying}
 use Rattle.job_classify.proofs.Settled.{classify-numbered}
-use Rattle.host.specs.Report.{readReport, nameReport, namesReport, buildReport, runReport, classifyReport, NamesReported, BuildReported, RunReported, ClassifyReported}
+use Rattle.cross_cuts.specs.Cuts.{Cut}
+use Rattle.cross_answer.specs.Answer.{Counts, countsOf, MadeLists}
+use Rattle.cross_answer.proofs.Settled.{made-lists-unique}
+use Rattle.cross_shapes.specs.declared.Probe.{Probe}
+use Rattle.cross_line.specs.Crossing.{crossingShapes}
+use Rattle.cross_line.proofs.Settled.{shapes-numbered}
+use Rattle.cross_balls.specs.Balls.{crossingBalls}
+use Rattle.cross_balls.proofs.Settled.{balls-numbered}
+use Rattle.host.specs.Report.{readReport, nameReport, namesReport, buildReport, runReport, classifyReport, crossReport, NamesReported, BuildReported, RunReported, ClassifyReported, CrossReported}
 use Rattle.host.specs.declared.ReadReport.{ReadReport}
 use Rattle.host.specs.declared.NameReport.{NameReport}
 use Rattle.host.specs.declared.NamesReport.{NamesReport}
 use Rattle.host.specs.declared.BuildReport.{BuildReport}
 use Rattle.host.specs.declared.RunReport.{RunReport}
 use Rattle.host.specs.declared.ClassifyReport.{ClassifyReport}
+use Rattle.host.specs.declared.CrossReport.{CrossReport}
 
 -- ---- Two results that meet a promise are equal
 
@@ -70,6 +81,10 @@ run-report-unique o rs cs ls r q rs₁ cs₁ ls₁ rs₂ cs₂ ls₂ a b = (
 pub classify-report-unique : (o : Outcome (List Wall)) (lent : AnswerLists) (r q : ClassifyReport) (after other : AnswerLists) → ClassifyReported o lent r after → ClassifyReported o lent q other → (r ≡ q) × (after ≡ other)
 classify-report-unique o lent r q after other a b = (a .report ∙ sym (b .report), lists-unique (a .lists) (b .lists))
 
+-- of shapes and of balls
+pub cross-report-unique : (o : Outcome (List Cut)) (lent : MadeLists) (r q : CrossReport) (after other : MadeLists) → CrossReported o lent r after → CrossReported o lent q other → (r ≡ q) × (after ≡ other)
+cross-report-unique o lent r q after other a b = (a .report ∙ sym (b .report), made-lists-unique o lent after other (a .lists) (b .lists))
+
 -- ---- Number 0 says that the job is given: no refusal has it
 
 module _ {A : Type 0} where
@@ -102,3 +117,14 @@ pub classify-given : (s : Sheets) (c : CrossingLists) (lent : AnswerLists) → c
 classify-given s c lent =
     let job = classifying s c lent in
     told-given (λ o. classifyReport o .number) (λ k p. refl) (λ k p. refl) (part length job) (part-numbered length job (classify-numbered s c lent))
+
+pub cross-given : (probe : Probe) (kinds : List ℕ) (numbers : List Float) (a b c : ℕ) → crossReport (part countsOf (crossingShapes probe kinds numbers a b c)) .number ≡ 0
+    → (v : Counts) × (part countsOf (crossingShapes probe kinds numbers a b c) ≡ given v)
+cross-given probe kinds numbers a b c =
+    let job = crossingShapes probe kinds numbers a b c in
+    told-given (λ o. crossReport o .number) (λ k p. refl) (λ k p. refl) (part countsOf job) (part-numbered countsOf job (shapes-numbered probe kinds numbers a b c))
+
+pub cross-balls-given : (numbers : List ℤ) (a b c : ℕ) → crossReport (part countsOf (crossingBalls numbers a b c)) .number ≡ 0 → (v : Counts) × (part countsOf (crossingBalls numbers a b c) ≡ given v)
+cross-balls-given numbers a b c =
+    let job = crossingBalls numbers a b c in
+    told-given (λ o. crossReport o .number) (λ k p. refl) (λ k p. refl) (part countsOf job) (part-numbered countsOf job (balls-numbered numbers a b c))

@@ -5,6 +5,8 @@ use mathlib.Core.Path.{_≡_}
 use mathlib.Core.List.{List}
 use mathlib.Core.Bool.{cond}
 use lib.Dec.{leb, eqb}
+use lib.Ieee.{Float}
+use lib.IntN.{ℤ}
 use lib.ListN.{length}
 use Rattle.outcome.specs.Outcome.{Outcome, given, refused, unfit, part}
 use Rattle.formula.specs.Formula.{Formula}
@@ -17,12 +19,16 @@ use Rattle.job_build.specs.Building.{Summary, summary, summaryOf}
 use Rattle.job_build.specs.Built.{BuiltLists}
 use Rattle.toggles.specs.Toggles.{Answers}
 use Rattle.job_run.specs.Ran.{RanLists}
+use Rattle.cross_cuts.specs.Cuts.{Cut}
+use Rattle.cross_answer.specs.Answer.{Counts, counts, countsOf, MadeLists, CrossedLists}
+use Rattle.cross_shapes.specs.declared.Probe.{Probe}
 use Rattle.host.specs.declared.ReadReport.{ReadReport}
 use Rattle.host.specs.declared.NameReport.{NameReport}
 use Rattle.host.specs.declared.NamesReport.{NamesReport}
 use Rattle.host.specs.declared.BuildReport.{BuildReport}
 use Rattle.host.specs.declared.RunReport.{RunReport}
 use Rattle.host.specs.declared.ClassifyReport.{ClassifyReport}
+use Rattle.host.specs.declared.CrossReport.{CrossReport}
 
 -- A place in 1 to 7 or 17 says which sheet: 1 the fittings sheet, 2 the customer's, also where it is alone; 0 where it is in none.
 abbrev pub sheetOf : ℕ → ℕ
@@ -68,6 +74,16 @@ classifyReport (refused number place) = record { number = number; sheet = sheetO
 classifyReport (unfit number place) =
     record { number = number; sheet = 1; place = place; walls = 0 }
 
+-- The crossing makers take no sheet: their report has none.
+abbrev pub crossReport : Outcome Counts → CrossReport
+crossReport (given (counts shapes crossings)) = record { number = 0; place = 0; shapes = shapes; crossings = crossings }
+crossReport (refused number place) = record { number = number; place = place; shapes = 0; crossings = 0 }
+crossReport (unfit number place) = record { number = number; place = place; shapes = 0; crossings = 0 }
+
+-- A probe line: its origin, then its direction.
+abbrev pub probeOf : Float → Float → Float → Float → Float → Float → Probe
+probeOf ox oy oz dx dy dz = record { ox = ox; oy = oy; oz = oz; dx = dx; dy = dy; dz = dz }
+
 -- Of the job's outcome and the lists as lent: the report r, and the lists after the call.
 pub record NamesReported (o : Outcome (List Stand)) (sheets firsts pasts : List ℕ) (r : NamesReport) (sheets′ firsts′ pasts′ : List ℕ) : Type 0 where
   pub report : r ≡ namesReport (part length o)
@@ -84,3 +100,7 @@ pub record RunReported (o : Outcome Answers) (roots counts labels : List ℕ) (r
 pub record ClassifyReported (o : Outcome (List Wall)) (lent : AnswerLists) (r : ClassifyReport) (after : AnswerLists) : Type 0 where
   pub report : r ≡ classifyReport (part length o)
   pub lists : WallLists o lent after
+
+pub record CrossReported (o : Outcome (List Cut)) (lent : MadeLists) (r : CrossReport) (after : MadeLists) : Type 0 where
+  pub report : r ≡ crossReport (part countsOf o)
+  pub lists : CrossedLists o lent after

@@ -10,7 +10,12 @@ ghost use Rattle.job_build.specs.Building.{building};
 ghost use Rattle.job_run.specs.Running.{running};
 ghost use Rattle.lines.specs.Lines.{crossingLists, answerLists};
 ghost use Rattle.job_classify.specs.Classifying.{classifying};
-ghost use Rattle.host.specs.Report.{sheetOf, readReport, nameReport, NamesReported, BuildReported, RunReported, ClassifyReported};
+ghost use Rattle.cross_answer.specs.Answer.{crossedOf, madeLists};
+ghost use Rattle.cross_line.specs.Crossing.{crossingShapes};
+ghost use Rattle.cross_balls.specs.Balls.{crossingBalls};
+ghost use Rattle.host.specs.Report.{sheetOf, readReport, nameReport, probeOf, crossReport, NamesReported, BuildReported, RunReported, ClassifyReported, CrossReported};
+use cross_answer::CrossAnswer;
+use cross_shapes::Probe;
 use job_build::BuildAnswer;
 use job_classify::ClassifyAnswer;
 use job_name::NameAnswer;
@@ -54,6 +59,14 @@ pub struct ClassifyReport {
     pub sheet: u8,
     pub place: usize,
     pub walls: usize,
+}
+
+#[repr(C)]
+pub struct CrossReport {
+    pub number: u8,
+    pub place: usize,
+    pub shapes: usize,
+    pub crossings: usize,
 }
 
 #[repr(C)]
@@ -339,4 +352,66 @@ pub extern "C" fn kressedach_classify(
             walls: 0,
         },
     }
+}
+
+fn cross_report(answer: CrossAnswer) -> CrossReport
+    ensures { λ r. ⌜ r ≡ crossReport (crossedOf answer) ⌝ }
+{
+    match answer {
+        CrossAnswer::Crossed { shapes, crossings } => CrossReport {
+            number: 0,
+            place: 0,
+            shapes,
+            crossings,
+        },
+        CrossAnswer::Refused { number, place } => CrossReport {
+            number,
+            place,
+            shapes: 0,
+            crossings: 0,
+        },
+    }
+}
+
+// Crosses half-spaces and boxes with one line, from the drawing's own numbers.
+#[no_mangle]
+pub extern "C" fn kressedach_cross(
+    ox: f64,
+    oy: f64,
+    oz: f64,
+    dx: f64,
+    dy: f64,
+    dz: f64,
+    kinds: &[u8],
+    numbers: &[f64],
+    starts: &mut [u8],
+    positions: &mut [i32],
+    shapes: &mut [u16],
+) -> CrossReport
+    ensures { λ r. ⌜ CrossReported (crossingShapes (probeOf ox oy oz dx dy dz) (now (kinds .entry)) (now (numbers .entry)) (length (now (starts .entry))) (length (now (positions .entry))) (length (now (shapes .entry))))
+        (madeLists (now (starts .entry)) (now (positions .entry)) (now (shapes .entry))) r (madeLists (now (starts .exit)) (now (positions .exit)) (now (shapes .exit))) ⌝ }
+{
+    let probe = Probe {
+        ox,
+        oy,
+        oz,
+        dx,
+        dy,
+        dz,
+    };
+    cross_report(cross_line::cross(probe, kinds, numbers, starts, positions, shapes))
+}
+
+// Crosses balls with one line, which is parallel to an axis.
+#[no_mangle]
+pub extern "C" fn kressedach_cross_balls(
+    numbers: &[i32],
+    starts: &mut [u8],
+    positions: &mut [i32],
+    shapes: &mut [u16],
+) -> CrossReport
+    ensures { λ r. ⌜ CrossReported (crossingBalls (now (numbers .entry)) (length (now (starts .entry))) (length (now (positions .entry))) (length (now (shapes .entry))))
+        (madeLists (now (starts .entry)) (now (positions .entry)) (now (shapes .entry))) r (madeLists (now (starts .exit)) (now (positions .exit)) (now (shapes .exit))) ⌝ }
+{
+    cross_report(cross_balls::cross(numbers, starts, positions, shapes))
 }

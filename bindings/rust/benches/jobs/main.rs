@@ -62,9 +62,10 @@ fn heading() {
         date.unwrap_or_default()
     );
     println!(
-        "Nanoseconds an item, the best of many turns: an item is a leaf for read and build, a toggle for run, a crossing for classify."
+        "Nanoseconds an item, the best of many turns: an item is a leaf for read and build, a toggle for run, a crossing for classify, a shape for cross."
     );
-    println!("Each time is of a whole call: run and classify include reading the sheet, and run and `walk` contracting its formula.\n");
+    println!("Each time is of a whole call: run and classify include reading the sheet, and run and `walk` contracting its formula.");
+    println!("For cross, one line a call, the shapes stand in the column of the formula, and their number in that of the leaves.\n");
     println!("- `library`: the proved library, called through the Rust crate.");
     println!("- `plain`: safe Rust of the same method.");
     println!("- `walk`: plain Rust that flips leaves and walks up the contracted tree at each crossing.");

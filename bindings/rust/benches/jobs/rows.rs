@@ -1,7 +1,7 @@
 //! What is timed: each row is one job on one sheet with its lists.
 
 use crate::plain;
-use kressedach::WallLists;
+use kressedach::{LineLists, Probe, WallLists, BOX};
 use peer::lines::{Crossing, Crossings};
 use peer::make::{self, Dice, Form};
 use peer::sheet::Sheets;
@@ -67,6 +67,9 @@ pub fn all(crossings: usize) -> Vec<Row> {
     }
     rows.push(walls_only(64, crossings));
     rows.push(together(64, crossings));
+    for shapes in ["half-spaces", "boxes along", "boxes aslant", "balls"] {
+        rows.extend([4, 64, 256].into_iter().map(|count| cross(shapes, count)));
+    }
     rows
 }
 
@@ -342,6 +345,124 @@ fn lines_row(formula: &'static str, leaves: usize, sheet: Vec<u8>, all: Vec<Cros
                     assert_eq!((room.lines[k], room.starts[k], room.ends[k]), (wall.line, wall.start, wall.end));
                     assert_eq!((room.start_shapes[k], room.end_shapes[k]), (wall.start_shape, wall.end_shape));
                 }
+            }
+        }),
+    }
+}
+
+/// A line and the shapes that it crosses: half-spaces or boxes by their kinds and numbers, or balls.
+struct Drawing {
+    probe: Probe,
+    kinds: Vec<u8>,
+    numbers: Vec<f64>,
+    balls: Vec<i32>,
+}
+
+impl Drawing {
+    /// So many shapes near the line, of which most are crossed.
+    fn of(shapes: &str, count: usize) -> Drawing {
+        let dice = &mut Dice::of(14, count as u64);
+        let mut drawing = Drawing {
+            probe: Probe {
+                origin: [-10.0, 0.25, 0.5],
+                direction: if shapes == "boxes along" { [1.0, 0.0, 0.0] } else { [0.8, 0.48, 0.36] },
+            },
+            kinds: vec![],
+            numbers: vec![],
+            balls: vec![],
+        };
+        let mut length = |most: usize| dice.below(1000 * most) as f64 / 1000.0;
+        for k in 0..count {
+            match shapes {
+                "balls" => {
+                    let [u, v, radius, centre] =
+                        [length(300), length(300), length(1000) + 1.0, length(1_000_000)].map(|x| (1000.0 * x) as i32);
+                    drawing.balls.extend([u, v, radius.min(1_000_000), centre]);
+                }
+                "half-spaces" => {
+                    drawing.kinds.push((k % 3) as u8);
+                    drawing.numbers.extend([length(100), 0.0, 0.0, 0.0, 0.0, 0.0]);
+                }
+                _ => {
+                    let at = length(60);
+                    let (low, high) = ([at, 0.6 * at - 8.0, 0.45 * at - 6.0], [at + 12.0, 0.6 * at + 16.0, 0.45 * at + 15.0]);
+                    let low = if shapes == "boxes along" { [at, -length(40) - 1.0, -length(40) - 1.0] } else { low };
+                    drawing.kinds.push(BOX);
+                    drawing.numbers.extend(low.iter().chain(&high));
+                }
+            }
+        }
+        drawing
+    }
+}
+
+/// A way to cross, with the lists it writes.
+type CrossWay = fn(&Drawing, &mut LineLists) -> [usize; 2];
+
+const PROVED: CrossWay = |d, lists| {
+    let counts = match d.balls.is_empty() {
+        true => kressedach::cross_into(d.probe, &d.kinds, &d.numbers, lists),
+        false => kressedach::cross_balls_into(&d.balls, lists),
+    };
+    counts.map(|counts| [counts.shapes, counts.crossings]).unwrap()
+};
+const BY_BITS: CrossWay = |d, lists| {
+    match d.balls.is_empty() {
+        true => plain::cross(&d.probe, &d.kinds, &d.numbers, lists),
+        false => plain::cross_balls(&d.balls, lists),
+    }
+    .unwrap()
+};
+
+/// One line with so many shapes.
+fn cross(shapes: &'static str, count: usize) -> Row {
+    let drawing = std::rc::Rc::new(Drawing::of(shapes, count));
+    let room = move || (vec![0u8; count], vec![0i32; 2 * count], vec![0u16; 2 * count]);
+    let timed = |way: CrossWay| -> Box<dyn FnMut()> {
+        let (drawing, (mut starts, mut positions, mut numbers)) = (drawing.clone(), room());
+        Box::new(move || {
+            let mut lists = LineLists { starts: &mut starts, positions: &mut positions, shapes: &mut numbers };
+            _ = black_box(way(black_box(&drawing), &mut lists));
+        })
+    };
+    let due = match shapes {
+        "balls" => peer::balls::cross(&drawing.balls, [2 * count; 3]),
+        _ => {
+            let probe = peer::crossings::Probe { origin: drawing.probe.origin, direction: drawing.probe.direction };
+            let shapes = peer::crossings::Shapes { kinds: &drawing.kinds, numbers: &drawing.numbers };
+            peer::crossings::cross(probe, shapes, [2 * count; 3])
+        }
+    };
+    let due = due.unwrap();
+    let (mut copy_bytes, mut copy_numbers) = (copying(vec![0u8; 2 * count]), copying(vec![0f64; 6 * count]));
+    let (mut copy_balls, mut copy_keys) = (copying(vec![0i32; drawing.balls.len()]), copying(vec![0u16; 3 * due.crossings.len()]));
+    let is_ball = shapes == "balls";
+    Row {
+        job: "cross",
+        formula: shapes,
+        leaves: count,
+        lists: format!("{} crossings", due.crossings.len()),
+        items: count,
+        library: timed(PROVED),
+        plain: timed(BY_BITS),
+        walk: None,
+        copy: Box::new(move || {
+            copy_bytes();
+            copy_keys();
+            if is_ball {
+                copy_balls();
+            } else {
+                copy_numbers();
+            }
+        }),
+        check: Box::new(move || {
+            for way in [PROVED, BY_BITS] {
+                let (mut starts, mut positions, mut numbers) = room();
+                let mut lists = LineLists { starts: &mut starts, positions: &mut positions, shapes: &mut numbers };
+                assert_eq!(way(&drawing, &mut lists), [count, due.crossings.len()]);
+                assert_eq!(starts, due.starts);
+                let got: Vec<(i32, u16)> = positions.into_iter().zip(numbers).take(due.crossings.len()).collect();
+                assert_eq!(got, due.crossings);
             }
         }),
     }

@@ -2,13 +2,14 @@
 //!
 //! Nothing here is proved or tuned, and nothing is shared with the library: the formula is a tree of boxes, the contraction works on
 //! nodes that point to each other, and a line is evaluated position by position. Each module follows one section of the document.
-//! [`make`] makes sheets and lists, good and damaged, from a seed.
+//! [`make`] makes sheets and lists, good and damaged, from a seed, and [`drawings`] probe lines, shapes and balls.
 //!
 //! Each job takes the lengths of the answer lists (`rooms`), in the order in which the document names them, and gives what the first
 //! entries of those lists become.
 
 pub mod balls;
 pub mod crossings;
+pub mod drawings;
 pub mod dwarf;
 pub mod formula;
 pub mod lines;

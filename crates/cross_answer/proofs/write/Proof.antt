@@ -7,8 +7,8 @@ use Rattle.cross_answer.proofs.write.Tie as tie
 order-requires : tie.Need-order-requires
 order-requires c κs = search needs
 
-write-starts-requires : tie.Need-write-starts-requires
-write-starts-requires c κs = search needs
+copy-bytes-requires : tie.Need-copy-bytes-requires
+copy-bytes-requires c κs = search needs
 
 write-positions-requires : tie.Need-write-positions-requires
 write-positions-requires c κs = search needs
@@ -36,7 +36,7 @@ write-spec =
     tie.close
     (tie.spec
     order-requires
-    write-starts-requires
+    copy-bytes-requires
     write-positions-requires
     write-shapes-requires
     same-length

@@ -3,14 +3,14 @@ use borrow.Author.Needs.{needs}
 use Rattle.cross_balls.proofs.LineLaws.{row-fault, row-on, row-ends}
 use Rattle.cross_cuts.specs.Keys.{Going}
 use Rattle.cross_cuts.proofs.GatherLaws.{going-starts}
-use Rattle.cross_balls.specs.Balls.{cutsOf}
+use Rattle.cross_balls.specs.Balls.{ballCuts}
 use Prim.Native.Nat.{_-_}
 use lib.ListN.{length}
 use Rattle.cross_balls.proofs.gather.Statement.{statement}
 use Rattle.cross_balls.proofs.gather.Tie as tie
 
 abbrev Inv-loop : tie.InvT-loop
-Inv-loop numbers bytes₀ keys₀ i₀ m₀ bytes keys i m = Going 18 (cutsOf numbers) bytes keys i m
+Inv-loop numbers bytes₀ keys₀ i₀ m₀ bytes keys i m = Going 18 (ballCuts numbers) bytes keys i m
 
 abbrev μ-loop : tie.MeasureT-loop
 μ-loop numbers bytes₀ keys₀ i₀ m₀ bytes keys i m = length numbers - i

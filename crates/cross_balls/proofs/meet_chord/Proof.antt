@@ -27,20 +27,20 @@ root-requires c κs = search needs
 returns-2 : tie.Need-returns-2
 returns-2 c = search (chord-none, needs)
 
-wide-requires : tie.Need-wide-requires
-wide-requires c κs = search needs
+long-word-requires : tie.Need-long-word-requires
+long-word-requires c κs = search needs
 
-sub-narrow : tie.Need-sub-narrow
-sub-narrow c = let h : c .before .before .root .result ≤ 1000000 = search half-small in omega arith
+sub-mark-in : tie.Need-sub-mark-in
+sub-mark-in c = let h : c .before .before .root .result ≤ 1000000 = search half-small in omega arith
 
-narrow-requires : tie.Need-narrow-requires
-narrow-requires c κs = search needs
+mark-in-requires : tie.Need-mark-in-requires
+mark-in-requires c κs = search needs
 
-add-narrow : tie.Need-add-narrow
-add-narrow c = let h : c .before .before .before .root .result ≤ 1000000 = search half-small in omega arith
+add-mark-in : tie.Need-add-mark-in
+add-mark-in c = let h : c .before .before .before .root .result ≤ 1000000 = search half-small in omega arith
 
-narrow-requires-2 : tie.Need-narrow-requires-2
-narrow-requires-2 c κs = let h : c .before .before .before .root .result ≤ 1000000 = search half-small in omega arith
+mark-in-requires-2 : tie.Need-mark-in-requires-2
+mark-in-requires-2 c κs = let h : c .before .before .before .root .result ≤ 1000000 = search half-small in omega arith
 
 returns-3 : tie.Need-returns-3
 returns-3 c = search (chord-two, needs)
@@ -56,9 +56,9 @@ meet-chord-spec =
     returns
     root-requires
     returns-2
-    wide-requires
-    sub-narrow
-    narrow-requires
-    add-narrow
-    narrow-requires-2
+    long-word-requires
+    sub-mark-in
+    mark-in-requires
+    add-mark-in
+    mark-in-requires-2
     returns-3)

@@ -5,28 +5,28 @@ use borrow.Author.Needs.{needs}
 use Rattle.cross_balls.proofs.square.Statement.{statement}
 use Rattle.cross_balls.proofs.square.Tie as tie
 
-sub-wide : tie.Need-sub-wide
-sub-wide c = search needs
+sub-long-word : tie.Need-sub-long-word
+sub-long-word c = search needs
 
-wide-requires : tie.Need-wide-requires
-wide-requires c κs = search needs
+long-word-requires : tie.Need-long-word-requires
+long-word-requires c κs = search needs
 
 mul-result : tie.Need-mul-result
-mul-result c = omega (arith, square-fits (c .wide .result) (search needs))
+mul-result c = omega (arith, square-fits (c .long-word .result) (search needs))
 
 returns : tie.Need-returns
-returns c = (search (square-low, needs), square-fits (c .wide .result) (search needs))
+returns c = (search (square-low, needs), square-fits (c .long-word .result) (search needs))
 
-wide-requires-2 : tie.Need-wide-requires-2
-wide-requires-2 c κs = search needs
+long-word-requires-2 : tie.Need-long-word-requires-2
+long-word-requires-2 c κs = search needs
 
 mul-result-2 : tie.Need-mul-result-2
-mul-result-2 c = omega (arith, square-fits (c .wide2 .result) (search needs))
+mul-result-2 c = omega (arith, square-fits (c .long-word2 .result) (search needs))
 
 returns-2 : tie.Need-returns-2
-returns-2 c = (search (square-high, needs), square-fits (c .wide2 .result) (search needs))
+returns-2 c = (search (square-high, needs), square-fits (c .long-word2 .result) (search needs))
 
 pub square-spec : {M : Type 1} → statement M
 square-spec =
     tie.close
-    (tie.spec sub-wide wide-requires mul-result returns wide-requires-2 mul-result-2 returns-2)
+    (tie.spec sub-long-word long-word-requires mul-result returns long-word-requires-2 mul-result-2 returns-2)

@@ -3,14 +3,14 @@ use borrow.Author.Needs.{needs}
 use Rattle.cross_line.proofs.LineLaws.{line-fault, line-on, line-ends}
 use Rattle.cross_cuts.specs.Keys.{Going}
 use Rattle.cross_cuts.proofs.GatherLaws.{going-starts}
-use Rattle.cross_line.specs.Crossing.{cutsOf}
+use Rattle.cross_line.specs.Crossing.{shapeCuts}
 use Prim.Native.Nat.{_-_}
 use lib.ListN.{length}
 use Rattle.cross_line.proofs.gather.Statement.{statement}
 use Rattle.cross_line.proofs.gather.Tie as tie
 
 abbrev Inv-loop : tie.InvT-loop
-Inv-loop probe kinds numbers bytes₀ keys₀ i₀ m₀ bytes keys i m = Going 16 (cutsOf probe kinds numbers) bytes keys i m
+Inv-loop probe kinds numbers bytes₀ keys₀ i₀ m₀ bytes keys i m = Going 16 (shapeCuts probe kinds numbers) bytes keys i m
 
 abbrev μ-loop : tie.MeasureT-loop
 μ-loop probe kinds numbers bytes₀ keys₀ i₀ m₀ bytes keys i m = length kinds - i

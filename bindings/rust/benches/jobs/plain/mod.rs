@@ -1,13 +1,15 @@
-//! The four jobs in plain, safe Rust, by the methods of the proved library: what its times are measured against.
+//! The jobs in plain, safe Rust, by the methods of the proved library: what its times are measured against.
 //!
 //! These are written to be as quick as plain code of that method is, in working memory of fixed size. A refusal is its number and place.
 
+mod cross;
 mod dwarf;
 mod read;
 mod run;
 mod walk;
 mod walls;
 
+pub use cross::{cross, cross_balls};
 pub use dwarf::build;
 use dwarf::{contracted, Dwarf};
 pub use read::{read, read_pair};

@@ -1,9 +1,11 @@
 //! The command: sheets and CSV lists in, CSV out.
 
 mod csv;
+mod drawing;
 mod lists;
 mod words;
 
+use drawing::{Drawing, Fault};
 use kressedach::{Crossing, Refusal, Sheets};
 use lists::Shapes;
 use std::fmt::Write as _;
@@ -55,10 +57,14 @@ fn answer(args: &[&str]) -> Result<String, Stop> {
         ["run", "--labels", sheet, toggles] => run(fittings, sheet, toggles, true),
         ["run", sheet, toggles] => run(fittings, sheet, toggles, false),
         ["walls", sheet, crossings] => walls(fittings, sheet, crossings),
+        ["cross", ..] if fittings.is_some() => Err(Stop::Usage("'cross' takes no sheet".into())),
+        ["cross", "--starts", shapes, lines] => cross(shapes, lines, true),
+        ["cross", shapes, lines] => cross(shapes, lines, false),
         [] => Err(Stop::Usage("a command is missing".into())),
         ["read" | "list", ..] => Err(Stop::Usage(format!("'{}' takes one file: SHEET", args[0]))),
         ["run", ..] => Err(Stop::Usage("'run' takes two files: SHEET TOGGLES".into())),
         ["walls", ..] => Err(Stop::Usage("'walls' takes two files: SHEET CROSSINGS".into())),
+        ["cross", ..] => Err(Stop::Usage("'cross' takes two files: SHAPES LINES".into())),
         [other, ..] => Err(Stop::Usage(format!("there is no command '{other}'"))),
     }
 }
@@ -158,6 +164,23 @@ fn walls(fittings: Option<&str>, sheet_path: &str, crossings_path: &str) -> Resu
     Ok(text)
 }
 
+fn cross(shapes_path: &str, lines_path: &str, starts: bool) -> Result<String, Stop> {
+    if shapes_path == "-" && lines_path == "-" {
+        return Err(Stop::Usage("only one of the files can be standard input".into()));
+    }
+    let (shapes, lines) = (text_file(shapes_path)?, text_file(lines_path)?);
+    let drawing = Drawing::of(&shapes).map_err(|wrong| Stop::File(shown(shapes_path), wrong))?;
+    let lines = drawing::lines(&lines).map_err(|wrong| Stop::File(shown(lines_path), wrong))?;
+    drawing.crossed(&lines, starts).map_err(|fault| match fault {
+        Fault::Lines(wrong) => Stop::File(shown(lines_path), wrong),
+        Fault::Refused { refusal, line, line_row, shape } => {
+            let at_line = format!("line {line}, row {line_row} of {}", shown(lines_path));
+            let of_shape = shape.map(|(label, row)| format!("; {label:?}, row {row} of {}", shown(shapes_path)));
+            Stop::Refused(refusal, Some(at_line + &of_shape.unwrap_or_default()))
+        }
+    })
+}
+
 fn shapes(sheets: Sheets<'_>) -> Result<Vec<&str>, Stop> {
     kressedach::names(sheets).map_err(|refusal| of_sheet(sheets, refusal))
 }
@@ -172,8 +195,11 @@ fn with_list(fittings: Option<&str>, sheet_path: &str, list_path: &str) -> Resul
         return Err(Stop::Usage("only one of the files can be standard input".into()));
     }
     let files = Files::of(fittings, sheet_path)?;
-    let list = String::from_utf8(file(list_path, u64::MAX)?).map_err(|_| Stop::File(shown(list_path), "is not text".into()))?;
-    Ok((files, list))
+    Ok((files, text_file(list_path)?))
+}
+
+fn text_file(path: &str) -> Result<String, Stop> {
+    String::from_utf8(file(path, u64::MAX)?).map_err(|_| Stop::File(shown(path), "is not text".into()))
 }
 
 fn sheet_file(path: &str) -> Result<Vec<u8>, Stop> {

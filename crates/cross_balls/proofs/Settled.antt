@@ -9,14 +9,16 @@ use lib.Dec.{leb}
 use lib.IntN.{ℤ, natAbs}
 use lib.ListN.{length}
 use Rattle.outcome.specs.Outcome.{given, refused}
+use Rattle.outcome.specs.Numbered.{Numbered}
 use Rattle.outcome.proofs.Questions.{need-given}
+use Rattle.outcome.proofs.NumberedLaws.{asks}
 use Rattle.cross_root.specs.Root.{Root}
 use Rattle.cross_root.proofs.Greatest.{greatest-root}
-use Rattle.cross_cuts.specs.Cuts.{Cut, startRow, crossings, answered}
+use Rattle.cross_cuts.specs.Cuts.{Cut, startRow, lineCrossings, answered}
 use Rattle.cross_cuts.specs.Fit.{Fit}
 use Rattle.cross_answer.proofs.FitLaws.{fit}
-use Rattle.cross_answer.proofs.Unique.{need-refused, answered-refused, answered-given}
-use Rattle.cross_balls.specs.Balls.{squared, halfChord, cutsOf, crossing}
+use Rattle.cross_answer.proofs.Answered.{need-refused, answered-numbered, answered-refused, answered-given}
+use Rattle.cross_balls.specs.Balls.{squared, halfChord, ballCuts, crossingBalls}
 use Rattle.cross_balls.proofs.LentLaws.{length-cuts}
 use Rattle.cross_balls.proofs.RangeLaws.{cuts-in-range}
 
@@ -32,26 +34,23 @@ half-chord-root u v radius = greatest-root (natAbs radius) (squared radius - (sq
 
 module _ (numbers : List ℤ) (a b c : ℕ) where
   -- the start row has a byte a ball, and the crossings are of these balls, between the end marks and in order
-  pub accepted-fit : (cuts : List Cut) → crossing numbers a b c ≡ given cuts → Fit ((length numbers + 3) / 4) (startRow cuts) (crossings cuts)
-  unfolding crossing
-  accepted-fit cuts e =
-      let f = need-given (leb (length (cutsOf numbers)) 256) 18 256 _ cuts e in
-      let is = answered-given 18 (cutsOf numbers) a b c cuts (f .1) in
-      rw is at (rw (length-cuts numbers) at (fit (cutsOf numbers) (cuts-in-range numbers)))
+  pub balls-fit : (cuts : List Cut) → crossingBalls numbers a b c ≡ given cuts → Fit ((length numbers + 3) / 4) (startRow cuts) (lineCrossings cuts)
+  unfolding crossingBalls
+  balls-fit cuts e =
+      let f = need-given (leb (length (ballCuts numbers)) 256) 18 256 _ cuts e in
+      let is = answered-given 18 (ballCuts numbers) a b c cuts (f .1) in
+      rw is at (rw (length-cuts numbers) at (fit (ballCuts numbers) (cuts-in-range numbers)))
 
   -- a refusal is 18 or 9
-  pub refused-number : (k p : ℕ) → crossing numbers a b c ≡ refused k p → (k ≡ 18) ⊎ (k ≡ 9)
-  unfolding crossing
-  refused-number k p e = first (need-refused (leb (length (cutsOf numbers)) 256) 18 256 (answered 18 (cutsOf numbers) a b c) k p e)
+  pub balls-refused : (k p : ℕ) → crossingBalls numbers a b c ≡ refused k p → (k ≡ 18) ⊎ (k ≡ 9)
+  unfolding crossingBalls
+  balls-refused k p e = first (need-refused (leb (length (ballCuts numbers)) 256) 18 256 (answered 18 (ballCuts numbers) a b c) k p e)
     where
-      first : (k ≡ 18) ⊎ (answered 18 (cutsOf numbers) a b c ≡ refused k p) → (k ≡ 18) ⊎ (k ≡ 9)
+      first : (k ≡ 18) ⊎ (answered 18 (ballCuts numbers) a b c ≡ refused k p) → (k ≡ 18) ⊎ (k ≡ 9)
       first (inl f) = inl f
-      first (inr f) = answered-refused 18 (cutsOf numbers) a b c k p f
+      first (inr f) = answered-refused 18 (ballCuts numbers) a b c k p f
 
-  -- so no refusal has the number 0
-  pub refused-not-0 : (k p : ℕ) → crossing numbers a b c ≡ refused k p → k ≡ 0 → ⊥
-  refused-not-0 k p e z = by (refused-number k p e)
-    where
-      by : (k ≡ 18) ⊎ (k ≡ 9) → ⊥
-      by (inl f) = omega arith
-      by (inr f) = omega arith
+  -- so no refusal has number 0
+  pub balls-numbered : Numbered (crossingBalls numbers a b c)
+  unfolding crossingBalls
+  balls-numbered = asks (leb (length (ballCuts numbers)) 256) 18 256 _ (omega arith) (answered-numbered 18 (ballCuts numbers) a b c (omega arith))
