@@ -72,6 +72,28 @@ static void run_toggles(void) {
     expect(counts[0] == 1 && counts[3] == 1 && labels[0] == 0 && labels[2] == 0, "counts and labels");
 }
 
+static void run_for_two(void) {
+    static const uint8_t order[] = {0, 1, 0};
+    static const uint16_t first[] = {0, 1}, second[] = {1}, strange[] = {2};
+    uint8_t first_roots[LENGTH(first)], first_labels[KRESSEDACH_MOST_NODES];
+    uint8_t second_roots[LENGTH(second)] = {9}, second_labels[KRESSEDACH_MOST_NODES];
+    uint32_t first_counts[LENGTH(first)], second_counts[LENGTH(second)];
+    struct kressedach_both_report r =
+        kressedach_run_both(ALONE(sheet), LIST(order), LIST(first), LIST(strange), LIST(first_roots), LIST(first_counts), LIST(first_labels),
+                            LIST(second_roots), LIST(second_counts), LIST(second_labels));
+    printf("for two foundries: roots %u %u, and refused %u at %zu\n", first_roots[0], first_roots[1], r.second.number, r.second.place);
+    expect(r.first.number == KRESSEDACH_GIVEN && r.first.nodes == 3 && first_roots[0] == 1 && first_roots[1] == 0, "the first is served");
+    expect(r.second.number == KRESSEDACH_NO_SUCH_SHAPE && r.second.place == 0 && second_roots[0] == 9, "the second alone is refused");
+
+    r = kressedach_run_both(ALONE(sheet), LIST(order), LIST(first), LIST(second), LIST(first_roots), LIST(first_counts), LIST(first_labels),
+                            LIST(second_roots), LIST(second_counts), LIST(second_labels));
+    expect(r.second.number == KRESSEDACH_GIVEN && second_roots[0] == 0 && second_labels[1] == 1, "both are served");
+
+    r = kressedach_run_both(ALONE(sheet), order, 2, LIST(first), LIST(second), LIST(first_roots), LIST(first_counts), LIST(first_labels),
+                            LIST(second_roots), LIST(second_counts), LIST(second_labels));
+    expect(r.first.number == KRESSEDACH_LENGTHS_DIFFER && r.second.number == KRESSEDACH_LENGTHS_DIFFER, "a turn is missing");
+}
+
 static void classify_lines(void) {
     static const uint32_t lines[] = {7, 7, 7, 7};
     static const int32_t positions[] = {0, 40, 60, 100};
@@ -184,6 +206,7 @@ int main(void) {
     read_pair();
     build_tree();
     run_toggles();
+    run_for_two();
     classify_lines();
     cross_drawing();
     cross_vent();

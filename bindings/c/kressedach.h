@@ -53,7 +53,7 @@ enum kressedach_number {
     KRESSEDACH_NO_SUCH_SHAPE = 10, /* the index in the list */
     KRESSEDACH_FALLS = 11,         /* the index */
     KRESSEDACH_ODD = 12,           /* the index of the last entry on the first line where a shape is crossed an odd number of times */
-    KRESSEDACH_LENGTHS_DIFFER = 13, /* 0 */
+    KRESSEDACH_LENGTHS_DIFFER = 13, /* 0; of two foundries: the order does not mix their lists */
     KRESSEDACH_SHAPE_WRONG = 16,   /* 256 for more than 256 shapes, 65535 for the line, else the first shape at fault */
     KRESSEDACH_FITTINGS_NAME = 17, /* a customer's name equal to a fitting's: the tag's offset */
     KRESSEDACH_BALL_WRONG = 18     /* 256 for more than 256 balls, else the first ball with a number out of its range */
@@ -182,6 +182,35 @@ struct kressedach_run_report kressedach_run(bool fitted,
                                             uint8_t *roots, size_t roots_length,
                                             uint32_t *counts, size_t counts_length,
                                             uint8_t *labels, size_t labels_length);
+
+struct kressedach_both_report {
+    struct kressedach_run_report first;
+    struct kressedach_run_report second;
+};
+
+/* Runs the toggles of two foundries, `first` and `second`, on one tree: each gets what kressedach_run gives for its list alone. The order
+ * mixes the lists: a byte a turn, 0 for the first foundry and 1 for the second, as many turns for each as its list is long. Refusals to
+ * both: 1 to 7 and 17, 8, then 13 at place 0. To one foundry alone, which leaves only its lists as they were: 10, then 9 for its roots,
+ * counts, labels in this order.
+ *
+ * The caller keeps: fittings_length bytes at fittings, sheet_length bytes at sheet, order_length bytes at order, first_length entries at
+ * first and second_length at second; first_roots_length, first_counts_length and first_labels_length entries at first_roots, first_counts
+ * and first_labels, and second_roots_length, second_counts_length and second_labels_length at second_roots, second_counts and
+ * second_labels. The last six are written: none of them overlaps another list. A foundry's roots and counts need an entry a toggle of its
+ * own, its labels one a node.
+ */
+struct kressedach_both_report kressedach_run_both(bool fitted,
+                                                  const uint8_t *fittings, size_t fittings_length,
+                                                  const uint8_t *sheet, size_t sheet_length,
+                                                  const uint8_t *order, size_t order_length,
+                                                  const uint16_t *first, size_t first_length,
+                                                  const uint16_t *second, size_t second_length,
+                                                  uint8_t *first_roots, size_t first_roots_length,
+                                                  uint32_t *first_counts, size_t first_counts_length,
+                                                  uint8_t *first_labels, size_t first_labels_length,
+                                                  uint8_t *second_roots, size_t second_roots_length,
+                                                  uint32_t *second_counts, size_t second_counts_length,
+                                                  uint8_t *second_labels, size_t second_labels_length);
 
 struct kressedach_classify_report {
     uint8_t number;

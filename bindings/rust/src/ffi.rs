@@ -59,6 +59,13 @@ pub struct RunReport {
     pub nodes: usize,
 }
 
+/// What running for two foundries answers.
+#[repr(C)]
+pub struct BothReport {
+    pub first: RunReport,
+    pub second: RunReport,
+}
+
 /// What classifying answers.
 #[repr(C)]
 pub struct ClassifyReport {
@@ -132,6 +139,32 @@ extern "C" {
         labels: *mut u8,
         labels_length: usize,
     ) -> RunReport;
+
+    pub fn kressedach_run_both(
+        fitted: bool,
+        fittings: *const u8,
+        fittings_length: usize,
+        sheet: *const u8,
+        sheet_length: usize,
+        order: *const u8,
+        order_length: usize,
+        first: *const u16,
+        first_length: usize,
+        second: *const u16,
+        second_length: usize,
+        first_roots: *mut u8,
+        first_roots_length: usize,
+        first_counts: *mut u32,
+        first_counts_length: usize,
+        first_labels: *mut u8,
+        first_labels_length: usize,
+        second_roots: *mut u8,
+        second_roots_length: usize,
+        second_counts: *mut u32,
+        second_counts_length: usize,
+        second_labels: *mut u8,
+        second_labels_length: usize,
+    ) -> BothReport;
 
     pub fn kressedach_classify(
         fitted: bool,

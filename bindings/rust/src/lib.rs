@@ -411,6 +411,114 @@ pub fn run_into<'a>(
     unless_refused(r.number, r.sheet, r.place, r.nodes)
 }
 
+/// The lists that a run answers into.
+#[derive(Debug)]
+pub struct RunLists<'a> {
+    /// An entry a toggle: 1 where the solid is inside after it.
+    pub roots: &'a mut [u8],
+    /// An entry a toggle: how many labels were worked out again.
+    pub counts: &'a mut [u32],
+    /// An entry a dwarf node: its label after the last toggle.
+    pub labels: &'a mut [u8],
+}
+
+/// Runs the toggles of two foundries on one tree, which is built once.
+///
+/// The order mixes the two lists: a byte a turn, 0 for the first foundry and 1 for the second, as many turns for each as its list is long.
+/// Unless it is refused 13, each foundry gets exactly what [`run`] gives for its list alone, whatever the other's list and the order are.
+///
+/// ```
+/// let sheet = b"\x01\0\x02\0\x01\x02\0\x01A\x02\0\x01B\x03\0\x06\0\0\0\x01\xFF\xF2"; // A less B
+/// let [first, second] = kressedach::run_both(sheet, &[0, 1, 0], [&[0, 1], &[1]]);
+/// assert_eq!(first, kressedach::run(sheet, &[0, 1]));
+/// assert_eq!(second?.roots, [false]);
+///
+/// // one foundry's fault is its own, an order that does not mix the lists goes to both
+/// let [first, second] = kressedach::run_both(sheet, &[0, 1, 0], [&[0, 2], &[1]]);
+/// assert_eq!(first.unwrap_err().to_string(), "refused 10 at entry 1: a shape number that no name has");
+/// assert!(second.is_ok());
+/// let both = kressedach::run_both(sheet, &[0, 2, 0], [&[0, 2], &[1]]);
+/// assert!(both.iter().all(|foundry| foundry.as_ref().is_err_and(|refusal| refusal.number == 13)));
+/// # Ok::<(), kressedach::Refusal>(())
+/// ```
+///
+/// # Errors
+///
+/// To both: 1 to 7 and 17 as [`read`], 8, then 13. To one foundry alone: 10.
+pub fn run_both<'a>(sheets: impl Into<Sheets<'a>>, order: &[u8], toggles: [&[u16]; 2]) -> [Result<Ran, Refusal>; 2] {
+    let mut lent = toggles.map(|list| (vec![0; list.len()], vec![0; list.len()], vec![0; MOST_NODES]));
+    let [first, second] = &mut lent;
+    let lists = [first, second].map(|(roots, counts, labels)| RunLists { roots, counts, labels });
+    let [first, second] = run_both_into(sheets, order, toggles, lists);
+    let [lent_first, lent_second] = lent;
+    [(first, lent_first), (second, lent_second)].map(|(nodes, (roots, counts, mut labels))| {
+        labels.truncate(nodes?);
+        Ok(Ran { roots: roots.into_iter().map(|root| root == 1).collect(), counts, labels })
+    })
+}
+
+/// Runs the toggles of two foundries into lists of each, and gives each the number of its labels.
+///
+/// A foundry that is refused keeps its lists as they are; the other's answer is whole.
+///
+/// ```
+/// use kressedach::{run_both_into, RunLists};
+/// let sheet = b"\x01\0\x02\0\x01\x02\0\x01A\x03\0\x02\0\0";
+/// let (mut roots, mut counts, mut labels) = ([[7; 2]; 2], [[7; 2]; 2], [[7; 2]; 2]);
+/// let [first_roots, second_roots] = &mut roots;
+/// let [first_counts, second_counts] = &mut counts;
+/// let [first_labels, second_labels] = &mut labels;
+/// let first = RunLists { roots: first_roots, counts: first_counts, labels: first_labels };
+/// let second = RunLists { roots: second_roots, counts: &mut second_counts[..1], labels: second_labels };
+/// let [first, second] = run_both_into(sheet, &[1, 0, 1], [&[0], &[0, 0]], [first, second]);
+/// assert_eq!((first, roots[0], counts[0], labels[0]), (Ok(1), [1, 7], [0, 7], [1, 7]));
+/// assert_eq!(second.unwrap_err().to_string(), "refused 9 for want of 2 entries: an answer list is too short");
+/// assert_eq!((roots[1], counts[1], labels[1]), ([7; 2], [7; 2], [7; 2]));
+/// ```
+///
+/// # Errors
+///
+/// To both: 1 to 7 and 17 as [`read`], 8, then 13. To one foundry alone: 10, then 9 for roots, counts, labels in this order.
+#[inline]
+pub fn run_both_into<'a>(
+    sheets: impl Into<Sheets<'a>>,
+    order: &[u8],
+    toggles: [&[u16]; 2],
+    lists: [RunLists; 2],
+) -> [Result<usize, Refusal>; 2] {
+    let (fitted, fittings, sheet) = sheets.into().parts();
+    let ([first, second], [to_first, to_second]) = (toggles, lists);
+    // SAFETY: slices are pointers to that many entries; those that are written are borrowed by nobody else.
+    let r = unsafe {
+        ffi::kressedach_run_both(
+            fitted,
+            fittings.as_ptr(),
+            fittings.len(),
+            sheet.as_ptr(),
+            sheet.len(),
+            order.as_ptr(),
+            order.len(),
+            first.as_ptr(),
+            first.len(),
+            second.as_ptr(),
+            second.len(),
+            to_first.roots.as_mut_ptr(),
+            to_first.roots.len(),
+            to_first.counts.as_mut_ptr(),
+            to_first.counts.len(),
+            to_first.labels.as_mut_ptr(),
+            to_first.labels.len(),
+            to_second.roots.as_mut_ptr(),
+            to_second.roots.len(),
+            to_second.counts.as_mut_ptr(),
+            to_second.counts.len(),
+            to_second.labels.as_mut_ptr(),
+            to_second.labels.len(),
+        )
+    };
+    [r.first, r.second].map(|r| unless_refused(r.number, r.sheet, r.place, r.nodes))
+}
+
 /// The walls of the lines that these crossings make.
 ///
 /// Lines come by rising number and crossings by rising position within a line. On each line every shape is outside before the first

@@ -50,7 +50,7 @@ impl Refusal {
             10 => "a shape number that no name has",
             11 => "a line number falls, or a position falls within its line",
             12 => "a shape is crossed an odd number of times on the line that ends here",
-            13 => "the three crossing lists differ in length",
+            13 => "the three crossing lists differ in length, or an order does not mix the lists of two foundries",
             16 if self.place == 256 => "more than 256 shapes",
             16 if self.place == 65535 => "a number of the line is not finite, or its direction is all zero",
             16 => "an axis above 2, a number that is not finite, a low not below its high, or a position out of range",

@@ -1,15 +1,17 @@
-//! The proved library and the plain implementation in `peer` agree on all four jobs, on many cases made from a seed.
+//! The proved library and the plain implementation in `peer` agree on all jobs, on many cases made from a seed.
 //!
 //! Answers and refusals are compared, and every answer list from end to end, with entries before and after it that were not lent.
 //! `KRESSEDACH_CASES` and `KRESSEDACH_SEED` say how many cases and from which seed. A difference prints its case whole.
 
 mod lent;
 
-use kressedach::{NameLists, WallLists, Which};
+use kressedach::{NameLists, RunLists, WallLists, Which};
 use lent::{from_env, rooms, Lent};
 use peer::lines::{Crossing, Crossings};
 use peer::make::{self, Dice, Form};
+use peer::toggles::Ran;
 use peer::{say, Refused};
+use std::collections::HashMap;
 use std::fmt::{self, Debug};
 use std::time::Instant;
 
@@ -39,6 +41,7 @@ enum Case {
     Read { sheet: Given },
     Build { sheet: Given, rooms: [usize; 3] },
     Run { sheet: Given, toggles: Vec<u16>, rooms: [usize; 3] },
+    Both { sheet: Given, order: Vec<u8>, toggles: [Vec<u16>; 2], rooms: [[usize; 3]; 2] },
     Classify { sheet: Given, lines: Vec<u32>, positions: Vec<i32>, shapes: Vec<u16>, rooms: [usize; 5] },
 }
 
@@ -53,6 +56,9 @@ impl Debug for Case {
             Case::Read { sheet } => write!(f, "read, sheet {}", hex(sheet)),
             Case::Build { sheet, rooms } => write!(f, "build, rooms {rooms:?}, sheet {}", hex(sheet)),
             Case::Run { sheet, toggles, rooms } => write!(f, "run, rooms {rooms:?}, sheet {}, toggles {toggles:?}", hex(sheet)),
+            Case::Both { sheet, order, toggles, rooms } => {
+                write!(f, "both, rooms {rooms:?}, sheet {}, order {order:?}, toggles {toggles:?}", hex(sheet))
+            }
             Case::Classify { sheet, lines, positions, shapes, rooms } => {
                 let sheet = hex(sheet);
                 write!(f, "classify, rooms {rooms:?}, sheet {sheet}, lines {lines:?}, positions {positions:?}, shapes {shapes:?}")
@@ -71,9 +77,54 @@ fn same<T: PartialEq + Debug>(got: Result<T, kressedach::Refusal>, due: Result<T
     Ok(due.map_or_else(|(number, _, _)| number, |_| 0))
 }
 
-/// Calls the library and the plain implementation. Gives the refusal's number, 0 for none, or in what they differ.
-fn compare(case: &Case) -> Result<u8, String> {
+/// The lists of one foundry, as they are lent.
+struct LentRun {
+    roots: Lent<u8>,
+    counts: Lent<u32>,
+    labels: Lent<u8>,
+}
+
+impl LentRun {
+    fn new(rooms: [usize; 3]) -> LentRun {
+        let bytes = |room| Lent::new(room, |k| k as u8);
+        LentRun { roots: bytes(rooms[0]), counts: Lent::new(rooms[1], |k| k as u32), labels: bytes(rooms[2]) }
+    }
+
+    fn lists(&mut self) -> RunLists<'_> {
+        RunLists { roots: self.roots.list(), counts: self.counts.list(), labels: self.labels.list() }
+    }
+
+    fn check(&self, due: &Result<Ran, Refused>) -> Result<(), String> {
+        self.roots.check("roots", due.iter().flat_map(|ran| ran.roots.iter().copied()))?;
+        self.counts.check("counts", due.iter().flat_map(|ran| ran.counts.iter().copied()))?;
+        self.labels.check("labels", due.iter().flat_map(|ran| ran.labels.iter().copied()))
+    }
+}
+
+/// Calls the library and the plain implementation. Gives the refusal's number, 0 for none, or in what they differ; for two foundries, the
+/// number of each.
+fn compare(case: &Case) -> Result<Vec<u8>, String> {
+    if let Case::Both { sheet, order, toggles: [first, second], rooms } = case {
+        let [mut to_first, mut to_second] = rooms.map(LentRun::new);
+        let got = kressedach::run_both_into(sheet.ours(), order, [first, second], [to_first.lists(), to_second.lists()]);
+        let due = peer::run_both(sheet.theirs(), order, [first, second], *rooms);
+        let lent = [to_first, to_second];
+        return got
+            .into_iter()
+            .zip(&due)
+            .zip(lent)
+            .map(|((got, due), lent)| {
+                lent.check(due)?;
+                same(got, due.as_ref().map(|ran| ran.labels.len()))
+            })
+            .collect();
+    }
+    compare_one(case).map(|number| vec![number])
+}
+
+fn compare_one(case: &Case) -> Result<u8, String> {
     match case {
+        Case::Both { .. } => unreachable!(),
         Case::Read { sheet } => {
             let got = kressedach::read(sheet.ours()).map(|r| (r.names, r.leaves, r.formula.start, r.formula.end));
             let due = peer::read(sheet.theirs());
@@ -102,15 +153,12 @@ fn compare(case: &Case) -> Result<u8, String> {
             Ok(number)
         }
         Case::Run { sheet, toggles, rooms } => {
-            let (mut roots, mut labels) = (Lent::new(rooms[0], |k| k as u8), Lent::new(rooms[2], |k| k as u8));
-            let mut counts = Lent::new(rooms[1], |k| k as u32);
-            let got = kressedach::run_into(sheet.ours(), toggles, roots.list(), counts.list(), labels.list());
+            let mut lent = LentRun::new(*rooms);
+            let RunLists { roots, counts, labels } = lent.lists();
+            let got = kressedach::run_into(sheet.ours(), toggles, roots, counts, labels);
             let due = peer::run(sheet.theirs(), toggles, *rooms);
-            let number = same(got, due.as_ref().map(|ran| ran.labels.len()))?;
-            roots.check("roots", due.iter().flat_map(|ran| ran.roots.iter().copied()))?;
-            counts.check("counts", due.iter().flat_map(|ran| ran.counts.iter().copied()))?;
-            labels.check("labels", due.iter().flat_map(|ran| ran.labels.iter().copied()))?;
-            Ok(number)
+            lent.check(&due)?;
+            same(got, due.as_ref().map(|ran| ran.labels.len()))
         }
         Case::Classify { sheet, lines, positions, shapes, rooms } => {
             let mut wall_lines = Lent::new(rooms[0], |k| k as u32);
@@ -186,6 +234,42 @@ fn lists(all: &[Crossing]) -> (Vec<u32>, Vec<i32>, Vec<u16>) {
     (all.iter().map(|c| c.line).collect(), all.iter().map(|c| c.position).collect(), all.iter().map(|c| c.shape).collect())
 }
 
+/// Toggles, at times with one that is no shape of the sheet.
+fn any_toggles(dice: &mut Dice, names: usize, most: usize) -> Vec<u16> {
+    let mut toggles = make::toggles(dice, names, most);
+    if dice.once_in(10) && !toggles.is_empty() {
+        let at = dice.below(toggles.len());
+        toggles[at] = dice.of_these(&[names as u16, 256, 65535]);
+    }
+    toggles
+}
+
+/// An order of so many turns for each foundry.
+fn any_mix(dice: &mut Dice, turns: [usize; 2]) -> Vec<u8> {
+    let mut left = turns;
+    let next = |_| {
+        let turn = usize::from(dice.below(left[0] + left[1]) >= left[0]);
+        left[turn] -= 1;
+        turn as u8
+    };
+    (0..turns[0] + turns[1]).map(next).collect()
+}
+
+/// The same, at times damaged.
+fn any_order(dice: &mut Dice, turns: [usize; 2]) -> Vec<u8> {
+    let mut order = any_mix(dice, turns);
+    if dice.once_in(5) {
+        let at = dice.below(order.len() + 1);
+        match (dice.below(4), order.get_mut(at)) {
+            (0, Some(turn)) => *turn = dice.of_these(&[2, 3, 255]),
+            (1, Some(turn)) => *turn = 1 - *turn,
+            (2, _) => drop(order.pop()),
+            _ => order.insert(at, dice.of_these(&[0, 1, 2])),
+        }
+    }
+    order
+}
+
 fn make_case(dice: &mut Dice, job: u64) -> Case {
     if job == 0 {
         return Case::Read { sheet: any_given(dice) };
@@ -197,13 +281,16 @@ fn make_case(dice: &mut Dice, job: u64) -> Case {
             Case::Build { sheet, rooms }
         }
         2 => {
-            let mut toggles = make::toggles(dice, names, 600);
-            if dice.once_in(10) && !toggles.is_empty() {
-                let at = dice.below(toggles.len());
-                toggles[at] = dice.of_these(&[names as u16, 256, 65535]);
-            }
+            let toggles = any_toggles(dice, names, 600);
             let rooms = rooms(dice, [toggles.len(), toggles.len(), nodes(&sheet)]);
             Case::Run { sheet, toggles, rooms }
+        }
+        3 => {
+            let toggles = [(); 2].map(|()| any_toggles(dice, names, 300));
+            let order = any_order(dice, [toggles[0].len(), toggles[1].len()]);
+            let nodes = nodes(&sheet);
+            let rooms = [0, 1].map(|foundry: usize| rooms(dice, [toggles[foundry].len(), toggles[foundry].len(), nodes]));
+            Case::Both { sheet, order, toggles, rooms }
         }
         _ => {
             let (most_lines, most_a_line) = dice.of_these(&[(0, 0), (12, 40), (12, 40), (60, 4), (2, 700)]);
@@ -226,40 +313,50 @@ fn make_case(dice: &mut Dice, job: u64) -> Case {
     }
 }
 
-const JOBS: [&str; 4] = ["read", "build", "run", "classify"];
+const JOBS: [&str; 5] = ["read", "build", "run", "both", "classify"];
 
 /// The refusals that each job can give. 8 is in the table, and it is proved that no formula of a sheet gets it.
-const CAN: [&[usize]; 4] = [
+const CAN: [&[usize]; 5] = [
     &[0, 1, 2, 3, 4, 5, 6, 7, 17],
     &[0, 1, 2, 3, 4, 5, 6, 7, 9, 17],
     &[0, 1, 2, 3, 4, 5, 6, 7, 9, 10, 17],
+    &[0, 1, 2, 3, 4, 5, 6, 7, 9, 10, 13, 17],
     &[0, 1, 2, 3, 4, 5, 6, 7, 9, 10, 11, 12, 13, 17],
 ];
+
+/// What the two foundries of a call can be told at once, besides one refusal for both.
+const MIXED: [[u8; 2]; 8] = [[0, 9], [0, 10], [9, 0], [10, 0], [9, 10], [10, 9], [9, 9], [10, 10]];
 
 #[test]
 fn the_two_agree_on_cases_from_a_seed() {
     let seed = from_env("KRESSEDACH_SEED", 1);
-    let cases = from_env("KRESSEDACH_CASES", 120_000);
+    let cases = from_env("KRESSEDACH_CASES", 150_000);
     let began = Instant::now();
-    let mut seen = [[0u64; 18]; 4];
+    let mut seen = [[0u64; 18]; 5];
+    let mut told = HashMap::new();
     for number in 0..cases {
-        let job = number % 4;
+        let job = number % 5;
         let case = make_case(&mut Dice::of(seed, number), job);
         match compare(&case) {
-            Ok(answer) => seen[job as usize][usize::from(answer)] += 1,
+            Ok(answers) => {
+                answers.iter().for_each(|answer| seen[job as usize][usize::from(*answer)] += 1);
+                *told.entry(answers).or_insert(0u64) += 1;
+            }
             Err(difference) => panic!("seed {seed}, case {number}: {difference}\n{case:?}"),
         }
     }
     say(format!("{cases} cases from seed {seed} agree, in {:.1} s; given, then refused 1 to 17:", began.elapsed().as_secs_f64()));
-    for job in 0..4 {
+    for job in 0..5 {
         say(format!("  {:<8} {:?}", JOBS[job], seen[job]));
         // the cases are worth something: whatever a job can answer comes up
         assert!(cases < 100_000 || CAN[job].iter().all(|answer| seen[job][*answer] >= 20), "{} {:?}", JOBS[job], seen[job]);
     }
+    assert!(cases < 100_000 || MIXED.iter().all(|both| told.get(&both[..]).is_some_and(|times| *times >= 20)), "{told:?}");
 }
 
+/// The highest number that the case was refused with.
 fn assert_same(case: Case) -> u8 {
-    compare(&case).unwrap_or_else(|difference| panic!("{difference}\n{case:?}"))
+    compare(&case).unwrap_or_else(|difference| panic!("{difference}\n{case:?}")).into_iter().max().unwrap()
 }
 
 /// Every cut and every changed byte of the worked sheet.
@@ -309,7 +406,10 @@ fn largest_sheets() -> Vec<Case> {
         cases.push(Case::Read { sheet: sheet.clone() });
         cases.push(Case::Build { sheet: sheet.clone(), rooms: [3069; 3] });
         let toggles: Vec<u16> = (0..256).chain((0..256).rev()).chain((0..2000).map(|_| dice.below(256) as u16)).collect();
-        cases.push(Case::Run { sheet: sheet.clone(), rooms: [toggles.len(), toggles.len(), 3069], toggles });
+        cases.push(Case::Run { sheet: sheet.clone(), rooms: [toggles.len(), toggles.len(), 3069], toggles: toggles.clone() });
+        let order = any_mix(dice, [toggles.len(), 256]);
+        let rooms = [toggles.len(), 256].map(|length| [length, length, 3069]);
+        cases.push(Case::Both { sheet: sheet.clone(), order, toggles: [toggles, (0..256).collect()], rooms });
         let (lines, positions, shapes) = lists(&make::crossings(dice, 256, 40, 1000));
         cases.push(Case::Classify { sheet, rooms: [lines.len() / 2; 5], lines, positions, shapes });
     }
@@ -332,6 +432,10 @@ fn a_small_stack_is_enough() {
                 Case::Read { sheet } => drop(kressedach::read(sheet.ours()).unwrap()),
                 Case::Build { sheet, .. } => drop(kressedach::build(sheet.ours()).unwrap()),
                 Case::Run { sheet, toggles, .. } => drop(kressedach::run(sheet.ours(), &toggles).unwrap()),
+                Case::Both { sheet, order, toggles: [first, second], .. } => {
+                    let ran = kressedach::run_both(sheet.ours(), &order, [&first, &second]);
+                    assert!(ran.iter().all(Result::is_ok));
+                }
                 Case::Classify { sheet, lines, positions, shapes, .. } => {
                     let all = lines.iter().zip(&positions).zip(&shapes);
                     let all: Vec<_> = all

@@ -89,5 +89,5 @@ fn the_commands_print_as_written() {
             commands += 1;
         }
     }
-    assert_eq!(commands, 19);
+    assert_eq!(commands, 20);
 }

@@ -63,6 +63,30 @@ fn the_worked_sheet() {
 }
 
 #[test]
+fn two_foundries() {
+    let path = file("both.sheet", &worked());
+    let (first, second) = (file("first.csv", b"name\nA\nB\n"), file("second.csv", b"shape\n1\n"));
+    let both = |first: &str, order: &[u8]| wallcheck(&["both", &path, first, &second, "-"], order);
+    let heading = "turn,foundry,toggle,shape,name,root,count\n";
+    let rows = "0,0,0,0,A,1,2\n1,1,0,1,B,0,2\n2,0,1,1,B,0,2\n";
+    assert_eq!(both(&first, b"foundry\n0\n1\n0\n"), answered(&format!("{heading}{rows}")));
+    // one foundry's fault is its own
+    let stranger = file("stranger.csv", b"name\nA\nb\n");
+    let about = "row 3 of standard input".replace("standard input", &stranger);
+    let refusal = "wallcheck: foundry 0: refused 10 at entry 1: a shape number that no name has";
+    let words = format!("{refusal}\n  {about}: the sheet has no name \"b\"; names are compared letter by letter\n");
+    assert_eq!(both(&stranger, b"foundry\n0\n1\n0\n"), (Some(1), format!("{heading}1,1,0,1,B,0,2\n"), words));
+    // an order that does not mix the lists goes to both, before 10
+    let order = "refused 13: the three crossing lists differ in length, or an order does not mix the lists of two foundries";
+    let turns = "1 turns for 2 toggles of foundry 0, 1 turns for 1 of foundry 1";
+    assert_eq!(both(&stranger, b"foundry\n0\n1\n"), refused(&format!("{order}\n  {turns}")));
+    assert_eq!(both(&first, b"foundry\n0\n1\n2\n"), refused(&format!("{order}\n  turn 2 is foundry 2's, and there are 0 and 1")));
+    assert_eq!(both(&first, b"turn\n0\n"), unreadable("standard input: row 1: the heading is to be foundry"));
+    let range = "standard input: row 2: foundry \"256\" is no whole number from 0 to 255";
+    assert_eq!(both(&first, b"foundry\n256\n"), unreadable(range));
+}
+
+#[test]
 fn the_shapes_at_a_walls_ends_are_quoted_as_csv_needs() {
     let path = file("quoted.sheet", &sheet(&["a,b", "\"", "C"], &[1, 0, 0xFFF2]));
     let crossings = b"line,position,shape\n1,0,2\n1,0,1\n1,5,0\n1,9,2\n1,9,1\n1,9,0\n";
@@ -245,6 +269,8 @@ fn usage() {
     assert_eq!(said(&["raed", "-"]), usage("there is no command 'raed'"));
     assert_eq!(said(&["read"]), usage("'read' takes one file: SHEET"));
     assert_eq!(said(&["run", "a"]), usage("'run' takes two files: SHEET TOGGLES"));
+    assert_eq!(said(&["both", "a", "b"]), usage("'both' takes four files: SHEET TOGGLES TOGGLES ORDER"));
+    assert_eq!(said(&["both", "a", "-", "-", "b"]), usage("only one of the files can be standard input"));
     assert_eq!(said(&["walls", "a", "b", "c"]), usage("'walls' takes two files: SHEET CROSSINGS"));
     assert_eq!(said(&["cross", "a"]), usage("'cross' takes two files: SHAPES LINES"));
     assert_eq!(said(&["cross", "a", "b", "--fittings", "c"]), usage("'cross' takes no sheet"));

@@ -5,6 +5,7 @@ use mathlib.Core.List.{List}
 use borrow.Author.Tests.{le-leb, lt-leb, eq-eqb, ne-eqb}
 use Rattle.outcome.specs.Outcome.{Outcome, given, refused, unfit}
 use Rattle.formula.specs.Formula.{Formula}
+use Rattle.sheet.specs.Sheet.{Sheets}
 use Rattle.sheet_reading.specs.Reading.{Numbers, numbers, answerOf}
 use Rattle.sheet_reading.specs.declared.ReadAnswer.{ReadAnswer}
 use Rattle.sheet_reading.specs.declared.ReadAnswer.the-variants as read
@@ -20,6 +21,8 @@ use Rattle.job_build.specs.Building.{Summary, summary}
 use Rattle.job_build.specs.Built.{builtOf, Built}
 use Rattle.toggles.specs.Toggles.{Answers}
 use Rattle.job_run.specs.Ran.{ranOf, Ran}
+use Rattle.job_both.specs.Shared.{Lists, Shared}
+use Rattle.job_both.specs.declared.BothAnswer.{BothAnswer}
 use Rattle.job_classify.specs.Classified.{classifiedOf, Classified}
 use Rattle.job_build.specs.declared.BuildAnswer.{BuildAnswer}
 use Rattle.job_build.specs.declared.BuildAnswer.the-variants as build
@@ -30,8 +33,9 @@ use Rattle.job_classify.specs.declared.ClassifyAnswer.the-variants as classify
 use Rattle.cross_cuts.specs.Cuts.{Cut}
 use Rattle.cross_answer.specs.Answer.{crossedOf, MadeLists, Crossed}
 use Rattle.cross_answer.specs.declared.CrossAnswer.{CrossAnswer}
-use Rattle.host.specs.Report.{sheetOf, readReport, nameReport, namesReport, buildReport, runReport, classifyReport, crossReport, NamesReported, BuildReported, RunReported, ClassifyReported, CrossReported}
+use Rattle.host.specs.Report.{sheetOf, readReport, nameReport, namesReport, buildReport, runReport, classifyReport, crossReport, NamesReported, BuildReported, RunReported, BothReported, ClassifyReported, CrossReported}
 use Rattle.host.specs.declared.CrossReport.{CrossReport}
+use Rattle.host.specs.declared.RunReport.{RunReport}
 
 -- ---- sheetOf, by the number
 
@@ -106,23 +110,22 @@ module _ {o : Outcome Formula} {ks fs ss : List ℕ} {a : BuildAnswer} {ks′ fs
   pub build-unfit : {k p : ℕ} → a ≡ build.Unfit k p → BuildReported o ks fs ss (buildReport (unfit k p)) ks′ fs′ ss′
   build-unfit {k} {p} is = build-as (unfit k p) (ap builtOf is)
 
-module _ {o : Outcome Answers} {rs cs ls : List ℕ} {a : RunAnswer} {rs′ cs′ ls′ : List ℕ} (ran : Ran o rs cs ls a rs′ cs′ ls′) where
-  run-as : (v : Outcome ℕ) → ranOf a ≡ v → RunReported o rs cs ls (runReport v) rs′ cs′ ls′
-  run-as v is =
-      record {
-        report = ap runReport (sym is ∙ ran .answer);
-        lists = ran .lists;
-      }
+module _ {a : RunAnswer} where
+  pub report-ran : {n : ℕ} → a ≡ run.Ran n → runReport (given n) ≡ runReport (ranOf a)
+  report-ran is = ap (λ x. runReport (ranOf x)) (sym is)
 
-  pub run-reported : {n : ℕ} → a ≡ run.Ran n → RunReported o rs cs ls (runReport (given n)) rs′ cs′ ls′
-  run-reported {n} is = run-as (given n) (ap ranOf is)
+  pub report-refused : {k p v : ℕ} → v ≡ sheetOf k → a ≡ run.Refused k p → record { number = k; sheet = v; place = p; nodes = 0 } ≡ runReport (ranOf a)
+  report-refused in-sheet is = rw in-sheet (ap (λ x. runReport (ranOf x)) (sym is))
 
-  pub run-refused : {k p v : ℕ} → v ≡ sheetOf k → a ≡ run.Refused k p
-      → RunReported o rs cs ls (record { number = k; sheet = v; place = p; nodes = 0 }) rs′ cs′ ls′
-  run-refused {k} {p} in-sheet is = rw in-sheet (run-as (refused k p) (ap ranOf is))
+  pub report-unfit : {k p : ℕ} → a ≡ run.Unfit k p → runReport (unfit k p) ≡ runReport (ranOf a)
+  report-unfit is = ap (λ x. runReport (ranOf x)) (sym is)
 
-  pub run-unfit : {k p : ℕ} → a ≡ run.Unfit k p → RunReported o rs cs ls (runReport (unfit k p)) rs′ cs′ ls′
-  run-unfit {k} {p} is = run-as (unfit k p) (ap ranOf is)
+  pub run-reported : {o : Outcome Answers} {rs cs ls rs′ cs′ ls′ : List ℕ} {r : RunReport} → Ran o rs cs ls a rs′ cs′ ls′ → r ≡ runReport (ranOf a) → RunReported o rs cs ls r rs′ cs′ ls′
+  run-reported ran is = record { report = is ∙ ap runReport (ran .answer); lists = ran .lists }
+
+pub both-reported : {c : Sheets} {order first second : List ℕ} {lent₁ lent₂ after₁ after₂ : Lists} {a : BothAnswer} {r₁ r₂ : RunReport} → Shared c order first second lent₁ lent₂ a after₁ after₂
+    → r₁ ≡ runReport (ranOf (a .first)) → r₂ ≡ runReport (ranOf (a .second)) → BothReported c order first second lent₁ lent₂ (record { first = r₁; second = r₂ }) after₁ after₂
+both-reported s p q = record { to-first = run-reported (s .to-first .ran) p; to-second = run-reported (s .to-second .ran) q }
 
 module _ {o : Outcome (List Wall)} {lent : AnswerLists} {a : ClassifyAnswer} {after : AnswerLists} (done : Classified o lent a after) where
   classify-as : (v : Outcome ℕ) → classifiedOf a ≡ v → ClassifyReported o lent (classifyReport v) after

@@ -1,7 +1,7 @@
 -- What the promise of each exported function settles: two results that meet it are equal, and number 0 says that the job is given.
 use Prim.Native.Nat.{ℕ}
 use native.Mathlib.Omega.{arith}
-use mathlib.Core.Path.{_≡_, refl, sym, _∙_}
+use mathlib.Core.Path.{_≡_, refl, sym, ap₂, _∙_}
 use mathlib.Core.List.{List}
 use lib.Ieee.{Float}
 use lib.IntN.{ℤ}
@@ -24,6 +24,9 @@ use Rattle.job_build.proofs.Settled.{build-numbered}
 use Rattle.toggles.specs.Toggles.{Answers}
 use Rattle.job_run.specs.Running.{running}
 use Rattle.job_run.proofs.Settled.{run-numbered}
+use Rattle.job_both.specs.Sharing.{sharing, serving}
+use Rattle.job_both.specs.Shared.{Lists}
+use Rattle.job_both.proofs.Settled.{lists-same, served-numbered}
 use Rattle.job_classify.specs.Classifying.{classifying}
 use Rattle.job_classify.proofs.Settled.{classify-numbered}
 use Rattle.cross_cuts.specs.Cuts.{Cut}
@@ -34,12 +37,13 @@ use Rattle.cross_line.specs.Crossing.{crossingShapes}
 use Rattle.cross_line.proofs.Settled.{shapes-numbered}
 use Rattle.cross_balls.specs.Balls.{crossingBalls}
 use Rattle.cross_balls.proofs.Settled.{balls-numbered}
-use Rattle.host.specs.Report.{readReport, nameReport, namesReport, buildReport, runReport, classifyReport, crossReport, NamesReported, BuildReported, RunReported, ClassifyReported, CrossReported}
+use Rattle.host.specs.Report.{readReport, nameReport, namesReport, buildReport, runReport, classifyReport, crossReport, NamesReported, BuildReported, RunReported, BothReported, ClassifyReported, CrossReported}
 use Rattle.host.specs.declared.ReadReport.{ReadReport}
 use Rattle.host.specs.declared.NameReport.{NameReport}
 use Rattle.host.specs.declared.NamesReport.{NamesReport}
 use Rattle.host.specs.declared.BuildReport.{BuildReport}
 use Rattle.host.specs.declared.RunReport.{RunReport}
+use Rattle.host.specs.declared.BothReport.{BothReport}
 use Rattle.host.specs.declared.ClassifyReport.{ClassifyReport}
 use Rattle.host.specs.declared.CrossReport.{CrossReport}
 
@@ -78,6 +82,16 @@ run-report-unique o rs cs ls r q rs₁ cs₁ ls₁ rs₂ cs₂ ls₂ a b = (
   a .lists .labels-list ∙ sym (b .lists .labels-list),
 )
 
+pub both-report-unique : (c : Sheets) (order first second : List ℕ) (lent₁ lent₂ : Lists) (r q : BothReport) (after₁ after₂ other₁ other₂ : Lists)
+    → BothReported c order first second lent₁ lent₂ r after₁ after₂ → BothReported c order first second lent₁ lent₂ q other₁ other₂ → (r ≡ q) × (after₁ ≡ other₁) × (after₂ ≡ other₂)
+both-report-unique c order first second lent₁ lent₂ r q after₁ after₂ other₁ other₂ a b =
+    let u = run-report-unique _ (lent₁ .roots) (lent₁ .counts) (lent₁ .labels) (r .first) (q .first) (after₁ .roots) (after₁ .counts) (after₁ .labels) (other₁ .roots) (other₁ .counts) (other₁ .labels) (a .to-first) (b .to-first) in
+    let v = run-report-unique _ (lent₂ .roots) (lent₂ .counts) (lent₂ .labels) (r .second) (q .second) (after₂ .roots) (after₂ .counts) (after₂ .labels) (other₂ .roots) (other₂ .counts) (other₂ .labels) (a .to-second) (b .to-second) in (
+      ap₂ (λ x y. record { first = x; second = y }) (u .0) (v .0),
+      lists-same after₁ other₁ (u .1) (u .2) (u .3),
+      lists-same after₂ other₂ (v .1) (v .2) (v .3),
+    )
+
 pub classify-report-unique : (o : Outcome (List Wall)) (lent : AnswerLists) (r q : ClassifyReport) (after other : AnswerLists) → ClassifyReported o lent r after → ClassifyReported o lent q other → (r ≡ q) × (after ≡ other)
 classify-report-unique o lent r q after other a b = (a .report ∙ sym (b .report), lists-unique (a .lists) (b .lists))
 
@@ -112,6 +126,13 @@ pub run-given : (s : Sheets) (ts : List ℕ) (a b c : ℕ) → runReport (part (
 run-given s ts a b c =
     let job = running s ts a b c in
     told-given (λ o. runReport o .number) (λ k p. refl) (λ k p. refl) (part (λ v. length (v .final)) job) (part-numbered (λ v. length (v .final)) job (run-numbered s ts a b c))
+
+pub foundry-given : (c : Sheets) (order first second toggles : List ℕ) (a b d : ℕ) → runReport (part (λ v. length (v .final)) (serving (sharing c order first second) toggles a b d)) .number ≡ 0
+    → (v : ℕ) × (part (λ v. length (v .final)) (serving (sharing c order first second) toggles a b d) ≡ given v)
+foundry-given c order first second toggles a b d =
+    let job = serving (sharing c order first second) toggles a b d in
+    told-given (λ o. runReport o .number) (λ k p. refl) (λ k p. refl) (part (λ v. length (v .final)) job)
+    (part-numbered (λ v. length (v .final)) job (served-numbered c order first second toggles a b d))
 
 pub classify-given : (s : Sheets) (c : CrossingLists) (lent : AnswerLists) → classifyReport (part length (classifying s c lent)) .number ≡ 0 → (v : ℕ) × (part length (classifying s c lent) ≡ given v)
 classify-given s c lent =

@@ -10,6 +10,7 @@ use lib.IntN.{ℤ}
 use lib.ListN.{length}
 use Rattle.outcome.specs.Outcome.{Outcome, given, refused, unfit, part}
 use Rattle.formula.specs.Formula.{Formula}
+use Rattle.sheet.specs.Sheet.{Sheets}
 use Rattle.sheet_reading.specs.Reading.{Numbers, numbers}
 use Rattle.lines.specs.Lines.{AnswerLists, Wall}
 use Rattle.lines.specs.Given.{WallLists}
@@ -19,6 +20,8 @@ use Rattle.job_build.specs.Building.{Summary, summary, summaryOf}
 use Rattle.job_build.specs.Built.{BuiltLists}
 use Rattle.toggles.specs.Toggles.{Answers}
 use Rattle.job_run.specs.Ran.{RanLists}
+use Rattle.job_both.specs.Sharing.{sharing, serving}
+use Rattle.job_both.specs.Shared.{Lists}
 use Rattle.cross_cuts.specs.Cuts.{Cut}
 use Rattle.cross_answer.specs.Answer.{Counts, counts, countsOf, MadeLists, CrossedLists}
 use Rattle.cross_shapes.specs.declared.Probe.{Probe}
@@ -27,6 +30,7 @@ use Rattle.host.specs.declared.NameReport.{NameReport}
 use Rattle.host.specs.declared.NamesReport.{NamesReport}
 use Rattle.host.specs.declared.BuildReport.{BuildReport}
 use Rattle.host.specs.declared.RunReport.{RunReport}
+use Rattle.host.specs.declared.BothReport.{BothReport}
 use Rattle.host.specs.declared.ClassifyReport.{ClassifyReport}
 use Rattle.host.specs.declared.CrossReport.{CrossReport}
 
@@ -96,6 +100,13 @@ pub record BuildReported (o : Outcome Formula) (kinds firsts seconds : List ℕ)
 pub record RunReported (o : Outcome Answers) (roots counts labels : List ℕ) (r : RunReport) (roots′ counts′ labels′ : List ℕ) : Type 0 where
   pub report : r ≡ runReport (part (λ a. length (a .final)) o)
   pub lists : RanLists o roots counts labels roots′ counts′ labels′
+
+-- Each foundry has a report and lists of its own.
+pub record BothReported (c : Sheets) (order first second : List ℕ) (lent₁ lent₂ : Lists) (r : BothReport) (after₁ after₂ : Lists) : Type 0 where
+  pub to-first : RunReported (serving (sharing c order first second) first (length (lent₁ .roots)) (length (lent₁ .counts)) (length (lent₁ .labels)))
+      (lent₁ .roots) (lent₁ .counts) (lent₁ .labels) (r .first) (after₁ .roots) (after₁ .counts) (after₁ .labels)
+  pub to-second : RunReported (serving (sharing c order first second) second (length (lent₂ .roots)) (length (lent₂ .counts)) (length (lent₂ .labels)))
+      (lent₂ .roots) (lent₂ .counts) (lent₂ .labels) (r .second) (after₂ .roots) (after₂ .counts) (after₂ .labels)
 
 pub record ClassifyReported (o : Outcome (List Wall)) (lent : AnswerLists) (r : ClassifyReport) (after : AnswerLists) : Type 0 where
   pub report : r ≡ classifyReport (part length o)

@@ -8,12 +8,14 @@ ghost use Rattle.job_name.specs.Naming.{placing};
 ghost use Rattle.job_names.specs.Names.{namingAll};
 ghost use Rattle.job_build.specs.Building.{building};
 ghost use Rattle.job_run.specs.Running.{running};
+ghost use Rattle.job_run.specs.Ran.{ranOf};
+ghost use Rattle.job_both.specs.Shared.{lists};
 ghost use Rattle.lines.specs.Lines.{crossingLists, answerLists};
 ghost use Rattle.job_classify.specs.Classifying.{classifying};
 ghost use Rattle.cross_answer.specs.Answer.{crossedOf, madeLists};
 ghost use Rattle.cross_line.specs.Crossing.{crossingShapes};
 ghost use Rattle.cross_balls.specs.Balls.{crossingBalls};
-ghost use Rattle.host.specs.Report.{sheetOf, readReport, nameReport, probeOf, crossReport, NamesReported, BuildReported, RunReported, ClassifyReported, CrossReported};
+ghost use Rattle.host.specs.Report.{sheetOf, readReport, nameReport, runReport, probeOf, crossReport, NamesReported, BuildReported, RunReported, BothReported, ClassifyReported, CrossReported};
 use cross_answer::CrossAnswer;
 use cross_shapes::Probe;
 use job_build::BuildAnswer;
@@ -51,6 +53,12 @@ pub struct RunReport {
     pub sheet: u8,
     pub place: usize,
     pub nodes: usize,
+}
+
+#[repr(C)]
+pub struct BothReport {
+    pub first: RunReport,
+    pub second: RunReport,
 }
 
 #[repr(C)]
@@ -266,21 +274,11 @@ pub extern "C" fn kressedach_build(
     }
 }
 
-// Runs toggles on the sheets' tree.
-#[no_mangle]
-pub extern "C" fn kressedach_run(
-    fitted: bool,
-    fittings: &[u8],
-    sheet: &[u8],
-    toggles: &[u16],
-    roots: &mut [u8],
-    counts: &mut [u32],
-    labels: &mut [u8],
-) -> RunReport
-    ensures { λ r. ⌜ RunReported (running (sheetsOf fitted (now (fittings .entry)) (now (sheet .entry))) (now (toggles .entry)) (length (now (roots .entry))) (length (now (counts .entry))) (length (now (labels .entry))))
-        (now (roots .entry)) (now (counts .entry)) (now (labels .entry)) r (now (roots .exit)) (now (counts .exit)) (now (labels .exit)) ⌝ }
+// What is reported of a run's answer.
+fn run_report(a: RunAnswer) -> RunReport
+    ensures { λ r. ⌜ r ≡ runReport (ranOf a) ⌝ }
 {
-    match job_run::run(fitted, fittings, sheet, toggles, roots, counts, labels) {
+    match a {
         RunAnswer::Ran { nodes } => RunReport {
             number: 0,
             sheet: 0,
@@ -299,6 +297,65 @@ pub extern "C" fn kressedach_run(
             place,
             nodes: 0,
         },
+    }
+}
+
+// Runs toggles on the sheets' tree.
+#[no_mangle]
+pub extern "C" fn kressedach_run(
+    fitted: bool,
+    fittings: &[u8],
+    sheet: &[u8],
+    toggles: &[u16],
+    roots: &mut [u8],
+    counts: &mut [u32],
+    labels: &mut [u8],
+) -> RunReport
+    ensures { λ r. ⌜ RunReported (running (sheetsOf fitted (now (fittings .entry)) (now (sheet .entry))) (now (toggles .entry)) (length (now (roots .entry))) (length (now (counts .entry))) (length (now (labels .entry))))
+        (now (roots .entry)) (now (counts .entry)) (now (labels .entry)) r (now (roots .exit)) (now (counts .exit)) (now (labels .exit)) ⌝ }
+{
+    run_report(job_run::run(fitted, fittings, sheet, toggles, roots, counts, labels))
+}
+
+// Runs the toggles of two foundries on the sheets' tree.
+#[no_mangle]
+pub extern "C" fn kressedach_run_both(
+    fitted: bool,
+    fittings: &[u8],
+    sheet: &[u8],
+    order: &[u8],
+    first: &[u16],
+    second: &[u16],
+    first_roots: &mut [u8],
+    first_counts: &mut [u32],
+    first_labels: &mut [u8],
+    second_roots: &mut [u8],
+    second_counts: &mut [u32],
+    second_labels: &mut [u8],
+) -> BothReport
+    ensures { λ r. ⌜ BothReported (sheetsOf fitted (now (fittings .entry)) (now (sheet .entry))) (now (order .entry)) (now (first .entry)) (now (second .entry))
+        (lists (now («first_roots» .entry)) (now («first_counts» .entry)) (now («first_labels» .entry))) (lists (now («second_roots» .entry)) (now («second_counts» .entry)) (now («second_labels» .entry))) r
+        (lists (now («first_roots» .exit)) (now («first_counts» .exit)) (now («first_labels» .exit))) (lists (now («second_roots» .exit)) (now («second_counts» .exit)) (now («second_labels» .exit))) ⌝ }
+{
+    let both = job_both::run_both(
+        fitted,
+        fittings,
+        sheet,
+        order,
+        first,
+        second,
+        first_roots,
+        first_counts,
+        first_labels,
+        second_roots,
+        second_counts,
+        second_labels,
+    );
+    let to_first = both.first;
+    let to_second = both.second;
+    BothReport {
+        first: run_report(to_first),
+        second: run_report(to_second),
     }
 }
 

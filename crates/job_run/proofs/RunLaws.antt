@@ -30,11 +30,11 @@ use Rattle.job_run.specs.Ran.{Ran}
 use Rattle.job_run.specs.declared.RunAnswer.{RunAnswer}
 use Rattle.job_run.specs.declared.RunAnswer.the-variants as run
 
-run-refused : (o : Outcome Answers) (rs cs ls : List ℕ) (number place : ℕ) → o ≡ refused number place → Ran o rs cs ls (run.Refused number place) rs cs ls
+pub run-refused : (o : Outcome Answers) (rs cs ls : List ℕ) (number place : ℕ) → o ≡ refused number place → Ran o rs cs ls (run.Refused number place) rs cs ls
 run-refused o rs cs ls number place is =
     record { answer = rw is; lists = record { roots-list = rw is; counts-list = rw is; labels-list = rw is } }
 
-run-unfit : (o : Outcome Answers) (rs cs ls : List ℕ) (number place : ℕ) → o ≡ unfit number place → Ran o rs cs ls (run.Unfit number place) rs cs ls
+pub run-unfit : (o : Outcome Answers) (rs cs ls : List ℕ) (number place : ℕ) → o ≡ unfit number place → Ran o rs cs ls (run.Unfit number place) rs cs ls
 run-unfit o rs cs ls number place is =
     record { answer = rw is; lists = record { roots-list = rw is; counts-list = rw is; labels-list = rw is } }
 
@@ -137,13 +137,13 @@ module _ (s : Sheets) (codes k f e ts rs cs ls : List ℕ) (r : Prepared) (says 
       run-unfit (running s ts (length rs) (length cs) (length ls)) rs cs ls number place (rw a)
 
   module _ (names n : ℕ) (b : Figures) (is : r ≡ prepared.Ready names n b) where
-    stands : (x : Sheet) × Stands s x names n b codes k f e
+    pub stands : (x : Sheet) × Stands s x names n b codes k f e
     stands = rw is at says
 
     pub few-names : names ≤ 256
     few-names = let st = stands .1 in omega (arith, st .coded .names-are, st .coded .facts .own .good-names .few)
 
-    holds : Holds k f e (b .leaves) (b .nodes) (stands .0 .formula)
+    pub holds : Holds k f e (b .leaves) (b .nodes) (stands .0 .formula)
     holds =
         let st = stands .1 in
         record {

@@ -17,7 +17,7 @@ pub enum RunAnswer {
 }
 
 // Runs toggles on a dwarf tree, where each is a shape of the sheet and there is room in each list.
-fn run_toggles(
+pub fn run_toggles(
     k: &[u16; 3072],
     f: &[u16; 3072],
     s: &[u16; 3072],

@@ -50,11 +50,33 @@ pub fn build(sheets: Sheets, rooms: [usize; 3]) -> Result<Dwarf, Refused> {
 /// The job of running toggles: roots, counts, labels are its answer lists.
 pub fn run(sheets: Sheets, toggles: &[u16], rooms: [usize; 3]) -> Result<Ran, Refused> {
     let (sheet, dwarf) = contracted(sheets)?;
-    if let Some(index) = toggles.iter().position(|shape| usize::from(*shape) >= sheet.names.len()) {
-        return refuse(10, index);
+    judged_toggles(&sheet, &dwarf, toggles, rooms)?;
+    let mut run = toggles::Run::new(&dwarf);
+    toggles.iter().for_each(|shape| run.toggle(*shape));
+    Ok(run.answers())
+}
+
+/// "One call brings two toggle lists on the same tree and an order that mixes them": for each foundry what it gets, and its own refusal.
+pub fn run_both(sheets: Sheets, order: &[u8], lists: [&[u16]; 2], rooms: [[usize; 3]; 2]) -> [Result<Ran, Refused>; 2] {
+    let (sheet, dwarf) = match contracted(sheets) {
+        Ok(both) => both,
+        Err(refused) => return [Err(refused), Err(refused)],
+    };
+    let turns = |foundry: usize| order.iter().filter(|turn| usize::from(**turn) == foundry).count();
+    if order.iter().any(|turn| *turn > 1) || (0..2).any(|foundry| turns(foundry) != lists[foundry].len()) {
+        return [refuse(13, 0), refuse(13, 0)];
     }
-    enough(rooms, [toggles.len(), toggles.len(), dwarf.records.len()])?;
-    Ok(toggles::run(&dwarf, toggles))
+    let mut runs = [0, 1].map(|foundry| judged_toggles(&sheet, &dwarf, lists[foundry], rooms[foundry]).map(|()| toggles::Run::new(&dwarf)));
+    let mut done = [0, 0];
+    for turn in order {
+        let foundry = usize::from(*turn);
+        let shape = lists[foundry][done[foundry]];
+        done[foundry] += 1;
+        if let Ok(run) = &mut runs[foundry] {
+            run.toggle(shape);
+        }
+    }
+    runs.map(|run| run.map(toggles::Run::answers))
 }
 
 /// The job of classifying lines: line, start, end, start shape, end shape are its answer lists.
@@ -96,6 +118,14 @@ fn contracted(sheets: Sheets) -> Result<(Sheet, Dwarf), Refused> {
         return refuse(8, 0);
     }
     Ok((sheet, dwarf))
+}
+
+/// Every toggle is a shape of the sheet, and there is room for what a run answers.
+fn judged_toggles(sheet: &Sheet, dwarf: &Dwarf, toggles: &[u16], rooms: [usize; 3]) -> Result<(), Refused> {
+    if let Some(index) = toggles.iter().position(|shape| usize::from(*shape) >= sheet.names.len()) {
+        return refuse(10, index);
+    }
+    enough(rooms, [toggles.len(), toggles.len(), dwarf.records.len()])
 }
 
 /// The answer lists are long enough, judged in their order.

@@ -93,15 +93,28 @@ pub struct Ran {
     pub labels: Vec<u8>,
 }
 
-pub fn run(dwarf: &Dwarf, toggles: &[u16]) -> Ran {
-    let mut labels = afresh(dwarf, &[false; 256]);
-    let mut ran = Ran { roots: vec![], counts: vec![], labels: vec![] };
-    for shape in toggles {
-        ran.counts.push(toggle(dwarf, &mut labels, *shape));
-        ran.roots.push(labels.last().unwrap().listed());
+/// A run that goes on toggle by toggle, with labels of its own.
+pub struct Run<'a> {
+    dwarf: &'a Dwarf,
+    labels: Vec<Label>,
+    roots: Vec<u8>,
+    counts: Vec<u32>,
+}
+
+impl<'a> Run<'a> {
+    /// "With every shape outside at first."
+    pub fn new(dwarf: &'a Dwarf) -> Run<'a> {
+        Run { dwarf, labels: afresh(dwarf, &[false; 256]), roots: vec![], counts: vec![] }
     }
-    ran.labels = labels.into_iter().map(Label::listed).collect();
-    ran
+
+    pub fn toggle(&mut self, shape: u16) {
+        self.counts.push(toggle(self.dwarf, &mut self.labels, shape));
+        self.roots.push(self.labels.last().unwrap().listed());
+    }
+
+    pub fn answers(self) -> Ran {
+        Ran { roots: self.roots, counts: self.counts, labels: self.labels.into_iter().map(Label::listed).collect() }
+    }
 }
 
 /// "Flips all leaves of its shape first, then goes through the dwarf nodes in rising number and reworks a node exactly when a child's

@@ -295,3 +295,25 @@ fn pairs_refused() {
     assert!(beside(&fittings(&names[..255]), &sheet(&["x"], &[255])).is_ok());
     assert_eq!(beside(&fittings(&["A"]), &sheet(&["B"], &[2])), refused(7, 12));
 }
+
+/// K8: each foundry gets what its list alone would, however the other's reads or is mixed.
+#[test]
+fn two_foundries_on_one_sheet() {
+    let sheet = worked();
+    let both = |order: &[u8], lists: [&[u16]; 2]| peer::run_both(Sheets::alone(&sheet), order, lists, [ROOM; 2]);
+    let (a, b): (&[u16], &[u16]) = (&[0, 1, 2, 0], &[1, 2]);
+    let due = [run(&sheet, a, ROOM), run(&sheet, b, ROOM)];
+    for order in [[0, 0, 0, 0, 1, 1], [1, 1, 0, 0, 0, 0], [0, 1, 0, 1, 0, 0]] {
+        assert_eq!(both(&order, [a, b]), due);
+    }
+    assert_eq!(both(&[], [&[], &[]]), [run(&sheet, &[], ROOM), run(&sheet, &[], ROOM)]);
+    // 10 and 9 to one alone
+    assert_eq!(both(&[0, 1, 1], [&[3], b]), [refused(10, 0), due[1].clone()]);
+    let short = [[4000, 4000, 5], [2, 1, 4000]];
+    assert_eq!(peer::run_both(Sheets::alone(&sheet), &[1, 0, 1], [&[0], b], short), [refused(9, 6), refused(9, 2)]);
+    // 13 to both, place 0, before 10 and after the sheet
+    for order in [&[0, 1][..], &[0, 1, 1, 1], &[0, 0, 1], &[0, 1, 2], &[0, 1, 1, 2], &[]] {
+        assert_eq!(both(order, [&[3], b]), [refused(13, 0), refused(13, 0)], "{order:?}");
+    }
+    assert_eq!(peer::run_both(Sheets::alone(b""), &[2], [&[3], b], [ROOM; 2]), [refused(1, 0), refused(1, 0)]);
+}

@@ -1,23 +1,14 @@
--- `host::kressedach_run` meets its contract: each case of the answer is reported as the definition reports it.
-use Rattle.host.proofs.ReportLaws.{run-reported, run-refused, run-unfit}
+-- `host::kressedach_run` meets its contract.
 use borrow.Author.Needs.{needs}
+use Rattle.host.proofs.ReportLaws.{run-reported}
 use Rattle.host.proofs.kressedach_run.Statement.{statement}
 use Rattle.host.proofs.kressedach_run.Tie as tie
 
 run-requires : tie.Need-run-requires
 run-requires c κs = search needs
 
-enum-known-nodes : tie.Need-enum-known-nodes
-enum-known-nodes c = search needs
-
-enum-known-number : tie.Need-enum-known-number
-enum-known-number c = search needs
-
-sheet-of-requires : tie.Need-sheet-of-requires
-sheet-of-requires c κs = search needs
-
-enum-known-number-2 : tie.Need-enum-known-number-2
-enum-known-number-2 c = search needs
+run-report-requires : tie.Need-run-report-requires
+run-report-requires c κs = search needs
 
 same-length : tie.Need-same-length
 same-length c = search needs
@@ -31,48 +22,7 @@ same-length-3 c = search needs
 returns : tie.Need-returns
 returns c = search (run-reported, needs)
 
-same-length-4 : tie.Need-same-length-4
-same-length-4 c = search needs
-
-same-length-5 : tie.Need-same-length-5
-same-length-5 c = search needs
-
-same-length-6 : tie.Need-same-length-6
-same-length-6 c = search needs
-
-returns-2 : tie.Need-returns-2
-returns-2 c = search (run-refused, needs)
-
-same-length-7 : tie.Need-same-length-7
-same-length-7 c = search needs
-
-same-length-8 : tie.Need-same-length-8
-same-length-8 c = search needs
-
-same-length-9 : tie.Need-same-length-9
-same-length-9 c = search needs
-
-returns-3 : tie.Need-returns-3
-returns-3 c = search (run-unfit, needs)
-
 pub kressedach-run-spec : {M : Type 1} → statement M
 kressedach-run-spec =
     tie.close
-    (tie.spec
-    run-requires
-    enum-known-nodes
-    enum-known-number
-    sheet-of-requires
-    enum-known-number-2
-    same-length
-    same-length-2
-    same-length-3
-    returns
-    same-length-4
-    same-length-5
-    same-length-6
-    returns-2
-    same-length-7
-    same-length-8
-    same-length-9
-    returns-3)
+    (tie.spec run-requires run-report-requires same-length same-length-2 same-length-3 returns)

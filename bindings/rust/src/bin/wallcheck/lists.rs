@@ -1,4 +1,4 @@
-//! Toggle and crossing lists from CSV.
+//! Toggle and crossing lists, and the order of two toggle lists, from CSV.
 
 use crate::csv::{rows, Row};
 use kressedach::Crossing;
@@ -34,6 +34,23 @@ pub fn crossings(text: &str, shapes: &Shapes) -> Result<List<Crossing>, String> 
     list(text, &["line", "position"], shapes, |fields, shape| {
         Ok(Crossing { line: number(fields[0], "line")?, position: number(fields[1], "position")?, shape })
     })
+}
+
+/// An order: one column, `foundry`, with an entry a turn.
+pub fn order(text: &str) -> Result<Vec<u8>, String> {
+    let mut rows = rows(text);
+    let heading = rows.next().transpose()?.ok_or("is empty; its heading is foundry")?;
+    if heading.fields != ["foundry"] {
+        return Err(format!("row {}: the heading is to be foundry", heading.number));
+    }
+    rows.map(|row| {
+        let Row { number: row, fields } = row?;
+        match &fields[..] {
+            [turn] => number(turn, "foundry").map_err(|wrong| format!("row {row}: {wrong}")),
+            _ => Err(format!("row {row}: {} fields, and the heading has 1", fields.len())),
+        }
+    })
+    .collect()
 }
 
 /// A list whose heading has these columns and one for the shape, in any order. The fields of an entry come in the order of `columns`.
@@ -87,6 +104,7 @@ fn due(columns: &[&str]) -> String {
 fn number<T: FromStr>(text: &str, column: &str) -> Result<T, String> {
     text.parse().map_err(|_| {
         let range = match column {
+            "foundry" => "0 to 255",
             "line" => "0 to 4294967295",
             "position" => "-2147483648 to 2147483647",
             _ => "0 to 65535",

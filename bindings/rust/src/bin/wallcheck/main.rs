@@ -18,6 +18,8 @@ const HELP: &str = include_str!("help.txt");
 enum Stop {
     /// Refused, and what stands at the place.
     Refused(Refusal, Option<String>),
+    /// Of two foundries: the rows of the one that is not refused, and the words for each that is.
+    Foundries(String, Vec<(usize, Refusal, Option<String>)>),
     Usage(String),
     /// A file that cannot be read, or standard output that cannot be written.
     File(String, String),
@@ -35,6 +37,14 @@ fn main() -> ExitCode {
         Stop::Refused(refusal, about) => {
             eprintln!("wallcheck: {refusal}");
             about.iter().for_each(|about| eprintln!("  {about}"));
+            return ExitCode::from(1);
+        }
+        Stop::Foundries(text, refused) => {
+            let _ = out(&text);
+            for (foundry, refusal, about) in refused {
+                eprintln!("wallcheck: foundry {foundry}: {refusal}");
+                about.iter().for_each(|about| eprintln!("  {about}"));
+            }
             return ExitCode::from(1);
         }
         Stop::Usage(what) => eprintln!("wallcheck: {what}\nTry 'wallcheck --help'."),
@@ -56,6 +66,7 @@ fn answer(args: &[&str]) -> Result<String, Stop> {
         ["list", sheet] => list(Files::of(fittings, sheet)?),
         ["run", "--labels", sheet, toggles] => run(fittings, sheet, toggles, true),
         ["run", sheet, toggles] => run(fittings, sheet, toggles, false),
+        ["both", sheet, first, second, order] => both(fittings, sheet, [first, second], order),
         ["walls", sheet, crossings] => walls(fittings, sheet, crossings),
         ["cross", ..] if fittings.is_some() => Err(Stop::Usage("'cross' takes no sheet".into())),
         ["cross", "--starts", shapes, lines] => cross(shapes, lines, true),
@@ -63,6 +74,7 @@ fn answer(args: &[&str]) -> Result<String, Stop> {
         [] => Err(Stop::Usage("a command is missing".into())),
         ["read" | "list", ..] => Err(Stop::Usage(format!("'{}' takes one file: SHEET", args[0]))),
         ["run", ..] => Err(Stop::Usage("'run' takes two files: SHEET TOGGLES".into())),
+        ["both", ..] => Err(Stop::Usage("'both' takes four files: SHEET TOGGLES TOGGLES ORDER".into())),
         ["walls", ..] => Err(Stop::Usage("'walls' takes two files: SHEET CROSSINGS".into())),
         ["cross", ..] => Err(Stop::Usage("'cross' takes two files: SHAPES LINES".into())),
         [other, ..] => Err(Stop::Usage(format!("there is no command '{other}'"))),
@@ -146,6 +158,48 @@ fn run(fittings: Option<&str>, sheet_path: &str, toggles_path: &str, labels: boo
         let _ = writeln!(text, "{toggle},{shape},{name},{},{}", u8::from(ran.roots[toggle]), ran.counts[toggle]);
     }
     Ok(text)
+}
+
+fn both(fittings: Option<&str>, sheet_path: &str, toggles_paths: [&str; 2], order_path: &str) -> Result<String, Stop> {
+    let paths = [sheet_path, toggles_paths[0], toggles_paths[1], order_path];
+    if paths.into_iter().chain(fittings).filter(|path| *path == "-").count() > 1 {
+        return Err(Stop::Usage("only one of the files can be standard input".into()));
+    }
+    let files = Files::of(fittings, sheet_path)?;
+    let sheets = files.sheets();
+    let names = shapes(sheets)?;
+    let unreadable = |path: &str, wrong| Stop::File(shown(path), wrong);
+    let toggles = |path: &str| lists::toggles(&text_file(path)?, &Shapes::of(&names)).map_err(|wrong| unreadable(path, wrong));
+    let lists = [toggles(toggles_paths[0])?, toggles(toggles_paths[1])?];
+    let order = lists::order(&text_file(order_path)?).map_err(|wrong| unreadable(order_path, wrong))?;
+    let ran = kressedach::run_both(sheets, &order, [&lists[0].entries, &lists[1].entries]);
+    if let [Err(refusal @ Refusal { number: 13, .. }), _] = ran {
+        return Err(Stop::Refused(refusal, Some(words::of_order(&order, [0, 1].map(|k: usize| lists[k].entries.len())))));
+    }
+    let mut text = String::from("turn,foundry,toggle,shape,name,root,count\n");
+    let mut done = [0, 0];
+    for (turn, foundry) in order.iter().map(|foundry| usize::from(*foundry)).enumerate() {
+        let toggle = done[foundry];
+        done[foundry] += 1;
+        if let Ok(ran) = &ran[foundry] {
+            let shape = lists[foundry].entries[toggle];
+            let name = csv::quoted(names.get(usize::from(shape)).copied().unwrap_or_default());
+            let _ = writeln!(text, "{turn},{foundry},{toggle},{shape},{name},{},{}", u8::from(ran.roots[toggle]), ran.counts[toggle]);
+        }
+    }
+    let refused: Vec<_> = ran
+        .iter()
+        .enumerate()
+        .filter_map(|(foundry, ran)| {
+            let (refusal, path) = (*ran.as_ref().err()?, shown(toggles_paths[foundry]));
+            Some((foundry, refusal, words::of_toggles(sheets, &names, &lists[foundry], refusal, &path)))
+        })
+        .collect();
+    if refused.is_empty() {
+        Ok(text)
+    } else {
+        Err(Stop::Foundries(text, refused))
+    }
 }
 
 fn walls(fittings: Option<&str>, sheet_path: &str, crossings_path: &str) -> Result<String, Stop> {

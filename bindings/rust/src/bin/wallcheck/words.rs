@@ -59,6 +59,15 @@ pub fn of_toggles(sheets: Sheets, names: &[&str], list: &List<u16>, refusal: Ref
     }
 }
 
+/// About an order that does not mix lists of these lengths.
+pub fn of_order(order: &[u8], lengths: [usize; 2]) -> String {
+    if let Some(turn) = order.iter().position(|foundry| *foundry > 1) {
+        return format!("turn {turn} is foundry {}'s, and there are 0 and 1", order[turn]);
+    }
+    let turns = |foundry: u8| order.iter().filter(|turn| **turn == foundry).count();
+    format!("{} turns for {} toggles of foundry 0, {} turns for {} of foundry 1", turns(0), lengths[0], turns(1), lengths[1])
+}
+
 /// About a refusal of lines.
 pub fn of_crossings(sheets: Sheets, names: &[&str], list: &List<Crossing>, refusal: Refusal, file: &str) -> Option<String> {
     let at = refusal.place;

@@ -1,0 +1,4 @@
+pub mod Order
+pub mod Sharing
+pub mod Shared
+pub mod Steps
