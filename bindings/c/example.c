@@ -94,30 +94,56 @@ static void run_for_two(void) {
     expect(r.first.number == KRESSEDACH_LENGTHS_DIFFER && r.second.number == KRESSEDACH_LENGTHS_DIFFER, "a turn is missing");
 }
 
-static void classify_lines(void) {
-    static const uint32_t lines[] = {7, 7, 7, 7};
-    static const int32_t positions[] = {0, 40, 60, 100};
-    static const uint16_t shapes[] = {0, 1, 1, 0};
-    uint32_t wall_lines[LENGTH(lines) / 2];
-    int32_t starts[LENGTH(lines) / 2], ends[LENGTH(lines) / 2];
-    uint16_t start_shapes[LENGTH(lines) / 2], end_shapes[LENGTH(lines) / 2];
-    struct kressedach_classify_report r = kressedach_classify(ALONE(sheet), LIST(lines), LIST(positions), LIST(shapes), LIST(wall_lines),
-                                                              LIST(starts), LIST(ends), LIST(start_shapes), LIST(end_shapes));
-    for (size_t k = 0; k < r.walls; k++) {
+/* Room for the walls of two lines with four crossings. */
+enum { ROOM = 4 / 2 + 2 };
+static uint32_t wall_lines[ROOM];
+static int32_t starts[ROOM], ends[ROOM];
+static uint16_t start_shapes[ROOM], end_shapes[ROOM];
+#define WALLS LIST(wall_lines), LIST(starts), LIST(ends), LIST(start_shapes), LIST(end_shapes)
+
+static void print_walls(size_t walls) {
+    for (size_t k = 0; k < walls; k++) {
         printf("wall: line %lu, %ld at shape %u to %ld at shape %u\n", (unsigned long)wall_lines[k], (long)starts[k], start_shapes[k],
                (long)ends[k], end_shapes[k]);
     }
-    expect(r.number == KRESSEDACH_GIVEN && r.walls == 2 && wall_lines[0] == 7 && wall_lines[1] == 7, "two walls");
+}
+
+static const uint32_t lines[] = {1, 1, 1, 1};
+static const int32_t positions[] = {0, 40, 60, 100};
+static const uint16_t shapes[] = {0, 1, 1, 0};
+
+static void classify_lines(void) {
+    static const uint8_t in_air[2 * 2]; /* two lines, two shapes */
+    struct kressedach_classify_report r = kressedach_classify(ALONE(sheet), LIST(in_air), LIST(lines), LIST(positions), LIST(shapes), WALLS);
+    print_walls(r.walls);
+    expect(r.number == KRESSEDACH_GIVEN && r.walls == 2 && wall_lines[0] == 1 && wall_lines[1] == 1, "two walls");
     expect(starts[0] == 0 && ends[0] == 40 && starts[1] == 60 && ends[1] == 100, "beside the bore, on both sides");
     expect(start_shapes[0] == 0 && end_shapes[0] == 1 && start_shapes[1] == 1 && end_shapes[1] == 0, "from block to bore, from bore to block");
 
-    r = kressedach_classify(ALONE(sheet), lines, 3, positions, 3, shapes, 3, wall_lines, 2, starts, 2, ends, 2, start_shapes, 2, end_shapes,
-                            2);
-    printf("without the last crossing: refused %u at %zu\n", r.number, r.place);
-    expect(r.number == KRESSEDACH_ODD && r.place == 2 && r.walls == 0, "the block is not left");
+    r = kressedach_classify(ALONE(sheet), in_air, 3, LIST(lines), LIST(positions), LIST(shapes), WALLS);
+    printf("with half a row: refused %u at %zu\n", r.number, r.place);
+    expect(r.number == KRESSEDACH_ROWS_WRONG && r.place == 0 && r.walls == 0, "a row that is not whole");
+    r = kressedach_classify(ALONE(sheet), in_air, 2, LIST(lines), LIST(positions), LIST(shapes), WALLS);
+    expect(r.number == KRESSEDACH_ASTRAY && r.place == 0, "line 1 has no row");
+    r = kressedach_classify(ALONE(sheet), LIST(in_air), LIST(lines), LIST(positions), LIST(shapes), LIST(wall_lines), starts, 3, LIST(ends),
+                            LIST(start_shapes), LIST(end_shapes));
+    expect(r.number == KRESSEDACH_LIST_TOO_SHORT && r.place == ROOM, "room for half the crossings and the rows");
 
-    r = kressedach_classify(ALONE(sheet), NULL, 0, NULL, 0, NULL, 0, NULL, 0, NULL, 0, NULL, 0, NULL, 0, NULL, 0);
-    expect(r.number == KRESSEDACH_GIVEN && r.walls == 0, "no crossings, no walls");
+    r = kressedach_classify(ALONE(sheet), NULL, 0, NULL, 0, NULL, 0, NULL, 0, NULL, 0, NULL, 0, NULL, 0, NULL, 0, NULL, 0);
+    expect(r.number == KRESSEDACH_GIVEN && r.walls == 0, "no lines, no walls");
+}
+
+/* A block that is cut: line 0 starts in it and has no crossing, line 1 starts in it and leaves it at the last crossing. */
+static void classify_cut(void) {
+    static const uint8_t in_block[] = {1, 0, 1, 0};
+    struct kressedach_classify_report r =
+        kressedach_classify(ALONE(sheet), LIST(in_block), lines + 1, 3, positions + 1, 3, shapes + 1, 3, WALLS);
+    print_walls(r.walls);
+    expect(r.number == KRESSEDACH_GIVEN && r.walls == 3 && wall_lines[0] == 0 && wall_lines[2] == 1, "three walls");
+    expect(starts[0] == KRESSEDACH_OPEN_START && ends[0] == KRESSEDACH_OPEN_END, "metal from end to end");
+    expect(start_shapes[0] == KRESSEDACH_OPEN_SHAPE && end_shapes[0] == KRESSEDACH_OPEN_SHAPE, "with no shape at either end");
+    expect(starts[1] == KRESSEDACH_OPEN_START && ends[1] == 40 && end_shapes[1] == 1, "open before the bore");
+    expect(starts[2] == 60 && ends[2] == 100 && end_shapes[2] == 0, "out of the block");
 }
 
 /* The block and the bore as two boxes of a drawing, and a line through both. */
@@ -128,46 +154,42 @@ static const double drawing[] = {
 static const uint8_t kinds[] = {KRESSEDACH_BOX, KRESSEDACH_BOX};
 
 static void cross_drawing(void) {
-    uint8_t starts[2];
-    int32_t positions[4];
-    uint16_t shapes[4];
-    struct kressedach_cross_report r = kressedach_cross(-10, 20, 20, 1, 0, 0, LIST(kinds), LIST(drawing), LIST(starts), LIST(positions),
-                                                        LIST(shapes));
+    uint8_t starts_row[2];
+    int32_t crossed[4];
+    uint16_t crossed_shapes[4];
+    struct kressedach_cross_report r = kressedach_cross(-10, 20, 20, 1, 0, 0, LIST(kinds), LIST(drawing), LIST(starts_row), LIST(crossed),
+                                                        LIST(crossed_shapes));
     printf("cross: %zu crossings of %zu shapes\n", r.crossings, r.shapes);
     expect(r.number == KRESSEDACH_GIVEN && r.shapes == 2 && r.crossings == 4, "the line is crossed");
-    expect(starts[0] == 0 && starts[1] == 0, "it starts in air");
-    expect(positions[0] == 10000 && positions[1] == 50000 && positions[2] == 70000 && positions[3] == 110000, "where");
-    expect(shapes[0] == 0 && shapes[1] == 1 && shapes[2] == 1 && shapes[3] == 0, "in and out");
+    expect(starts_row[0] == 0 && starts_row[1] == 0, "it starts in air");
+    expect(crossed[0] == 10000 && crossed[1] == 50000 && crossed[2] == 70000 && crossed[3] == 110000, "where");
+    expect(crossed_shapes[0] == 0 && crossed_shapes[1] == 1 && crossed_shapes[2] == 1 && crossed_shapes[3] == 0, "in and out");
 
-    /* what is made here goes to classify as it is */
-    static const uint32_t lines[] = {0, 0, 0, 0};
-    uint32_t wall_lines[2];
-    int32_t wall_starts[2], wall_ends[2];
-    uint16_t start_shapes[2], end_shapes[2];
-    struct kressedach_classify_report w = kressedach_classify(ALONE(sheet), LIST(lines), positions, r.crossings, shapes, r.crossings,
-                                                              LIST(wall_lines), LIST(wall_starts), LIST(wall_ends), LIST(start_shapes),
-                                                              LIST(end_shapes));
-    expect(w.number == KRESSEDACH_GIVEN && w.walls == 2 && wall_ends[0] == 50000 && wall_starts[1] == 70000, "walls beside the bore");
+    /* what is made here goes to classify as it is: its start row, and its crossings with the line's number beside each */
+    static const uint32_t line[] = {0, 0, 0, 0};
+    struct kressedach_classify_report w = kressedach_classify(ALONE(sheet), starts_row, r.shapes, line, r.crossings, crossed, r.crossings,
+                                                              crossed_shapes, r.crossings, WALLS);
+    expect(w.number == KRESSEDACH_GIVEN && w.walls == 2 && ends[0] == 50000 && starts[1] == 70000, "walls beside the bore");
 
-    r = kressedach_cross(0, 0, 0, 0, 0, 0, LIST(kinds), LIST(drawing), LIST(starts), LIST(positions), LIST(shapes));
+    r = kressedach_cross(0, 0, 0, 0, 0, 0, LIST(kinds), LIST(drawing), LIST(starts_row), LIST(crossed), LIST(crossed_shapes));
     printf("without a direction: refused %u at %zu\n", r.number, r.place);
     expect(r.number == KRESSEDACH_SHAPE_WRONG && r.place == KRESSEDACH_THE_LINE && r.crossings == 0, "no direction");
-    r = kressedach_cross(-10, 20, 20, 1, 0, 0, LIST(kinds), drawing, 11, LIST(starts), LIST(positions), LIST(shapes));
+    r = kressedach_cross(-10, 20, 20, 1, 0, 0, LIST(kinds), drawing, 11, LIST(starts_row), LIST(crossed), LIST(crossed_shapes));
     expect(r.number == KRESSEDACH_SHAPE_WRONG && r.place == 1, "a number that the second shape lacks");
-    r = kressedach_cross(-10, 20, 20, 1, 0, 0, LIST(kinds), LIST(drawing), LIST(starts), positions, 3, LIST(shapes));
+    r = kressedach_cross(-10, 20, 20, 1, 0, 0, LIST(kinds), LIST(drawing), LIST(starts_row), crossed, 3, LIST(crossed_shapes));
     expect(r.number == KRESSEDACH_LIST_TOO_SHORT && r.place == 4, "room for three positions");
 }
 
 static void cross_vent(void) {
     static const int32_t vent[] = {300, -400, 1300, 50000};
-    uint8_t starts[1];
-    int32_t positions[2];
-    uint16_t shapes[2];
-    struct kressedach_cross_report r = kressedach_cross_balls(LIST(vent), LIST(starts), LIST(positions), LIST(shapes));
-    printf("ball: %ld to %ld\n", (long)positions[0], (long)positions[1]);
-    expect(r.number == KRESSEDACH_GIVEN && r.shapes == 1 && r.crossings == 2 && starts[0] == 0, "the ball is crossed");
-    expect(positions[0] == 48800 && positions[1] == 51200 && shapes[0] == 0 && shapes[1] == 0, "a half chord of 1200");
-    r = kressedach_cross_balls(vent, 3, LIST(starts), LIST(positions), LIST(shapes));
+    uint8_t row[1];
+    int32_t crossed[2];
+    uint16_t balls[2];
+    struct kressedach_cross_report r = kressedach_cross_balls(LIST(vent), LIST(row), LIST(crossed), LIST(balls));
+    printf("ball: %ld to %ld\n", (long)crossed[0], (long)crossed[1]);
+    expect(r.number == KRESSEDACH_GIVEN && r.shapes == 1 && r.crossings == 2 && row[0] == 0, "the ball is crossed");
+    expect(crossed[0] == 48800 && crossed[1] == 51200 && balls[0] == 0 && balls[1] == 0, "a half chord of 1200");
+    r = kressedach_cross_balls(vent, 3, LIST(row), LIST(crossed), LIST(balls));
     expect(r.number == KRESSEDACH_BALL_WRONG && r.place == 0, "a ball begun");
 }
 
@@ -208,6 +230,7 @@ int main(void) {
     run_toggles();
     run_for_two();
     classify_lines();
+    classify_cut();
     cross_drawing();
     cross_vent();
     return failures == 0 ? 0 : 1;

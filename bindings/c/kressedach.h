@@ -52,8 +52,10 @@ enum kressedach_number {
     KRESSEDACH_LIST_TOO_SHORT = 9, /* the length needed */
     KRESSEDACH_NO_SUCH_SHAPE = 10, /* the index in the list */
     KRESSEDACH_FALLS = 11,         /* the index */
-    KRESSEDACH_ODD = 12,           /* the index of the last entry on the first line where a shape is crossed an odd number of times */
+    KRESSEDACH_ODD = 12,           /* given no more: a line may end in metal */
     KRESSEDACH_LENGTHS_DIFFER = 13, /* 0; of two foundries: the order does not mix their lists */
+    KRESSEDACH_ROWS_WRONG = 14,    /* 0: start rows of a length that is no multiple of the names, more than 4294967296 of them, or a byte above 1 */
+    KRESSEDACH_ASTRAY = 15,        /* the index: a position at either end mark, or a line with no start row */
     KRESSEDACH_SHAPE_WRONG = 16,   /* 256 for more than 256 shapes, 65535 for the line, else the first shape at fault */
     KRESSEDACH_FITTINGS_NAME = 17, /* a customer's name equal to a fitting's: the tag's offset */
     KRESSEDACH_BALL_WRONG = 18     /* 256 for more than 256 balls, else the first ball with a number out of its range */
@@ -80,6 +82,13 @@ enum kressedach_sheet {
 
 /* What stands in a node's record where there is no number. */
 #define KRESSEDACH_NONE 65535
+
+/* The end marks of a line: an open wall starts at the one or ends at the other, and no crossing stands there. */
+#define KRESSEDACH_OPEN_START INT32_MIN
+#define KRESSEDACH_OPEN_END INT32_MAX
+
+/* The shape at an open end. */
+#define KRESSEDACH_OPEN_SHAPE 65535
 
 struct kressedach_read_report {
     uint8_t number;
@@ -219,19 +228,27 @@ struct kressedach_classify_report {
     size_t walls; /* how many entries were given in each list */
 };
 
-/* Finds the walls of lines. A crossing is a line number, a position in micrometres and a shape number, at one index of three lists;
- * line numbers never fall, and positions never fall within a line. A wall is a longest stretch of positive length inside; the shape at
- * its start and the one at its end is the lowest number whose state differs before and after that position. Refusals: 1 to 7 and 17, 8,
- * 13, then 10 and 11 crossing by crossing, 12, then 9 for wall_lines, starts, ends, start_shapes, end_shapes in this order.
+/* Finds the walls of lines. `rows` has one row a line, from line 0 on, and in each row one byte a shape: 1 where the line starts inside
+ * it, else 0; a line in air has a row of zeros. A crossing is a line number below the number of rows, a position in micrometres between
+ * KRESSEDACH_OPEN_START and KRESSEDACH_OPEN_END, and a shape number, at one index of three lists; line numbers never fall, and positions
+ * never fall within a line. A line may have no crossing.
  *
- * The caller keeps: fittings_length bytes at fittings, sheet_length bytes at sheet; lines_length, positions_length and shapes_length
- * entries at lines, positions and shapes; wall_lines_length, starts_length, ends_length, start_shapes_length and end_shapes_length
- * entries at wall_lines, starts, ends, start_shapes and end_shapes. The last five are written: none of them overlaps another list. Each
- * needs half as many entries as there are crossings, rounded down.
+ * A wall is a longest stretch of positive length inside; the shape at its start and the one at its end is the lowest number whose state
+ * differs before and after that position. Where a line starts in metal, its first wall starts at KRESSEDACH_OPEN_START, and where metal
+ * goes on past its last crossing, its last wall ends at KRESSEDACH_OPEN_END; the shape there is KRESSEDACH_OPEN_SHAPE.
+ *
+ * Refusals: 1 to 7 and 17, 8, 13, 14, then 10, 15 and 11 crossing by crossing, then 9 for wall_lines, starts, ends, start_shapes,
+ * end_shapes in this order.
+ *
+ * The caller keeps: fittings_length bytes at fittings, sheet_length bytes at sheet, rows_length bytes at rows; lines_length,
+ * positions_length and shapes_length entries at lines, positions and shapes; wall_lines_length, starts_length, ends_length, start_shapes_length
+ * and end_shapes_length entries at wall_lines, starts, ends, start_shapes and end_shapes. The last five are written: none of them
+ * overlaps another list. Each needs half as many entries as there are crossings, rounded down, and one more for each row.
  */
 struct kressedach_classify_report kressedach_classify(bool fitted,
                                                       const uint8_t *fittings, size_t fittings_length,
                                                       const uint8_t *sheet, size_t sheet_length,
+                                                      const uint8_t *rows, size_t rows_length,
                                                       const uint32_t *lines, size_t lines_length,
                                                       const int32_t *positions, size_t positions_length,
                                                       const uint16_t *shapes, size_t shapes_length,

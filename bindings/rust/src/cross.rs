@@ -1,6 +1,6 @@
 //! The crossing makers: one line's start row and crossings, from the drawing's own numbers or of balls.
 
-use crate::{ffi, unless_refused, Crossing, Refusal};
+use crate::{ffi, unless_refused, Crossing, Refusal, Start};
 
 /// An axis of the drawing.
 #[derive(Debug, Clone, Copy, PartialEq, Eq, Hash)]
@@ -77,11 +77,14 @@ pub struct Crossed {
 }
 
 impl Crossed {
-    /// The crossings, for a line of this number: what [`classify`](crate::classify) takes.
-    ///
-    /// A line that starts inside a shape has a byte 1 in its start row: it does not start in air.
+    /// The crossings, for a line of this number: what [`classify`](crate::classify) and [`classify_from`](crate::classify_from) take.
     pub fn crossings(&self, line: u32) -> impl Iterator<Item = Crossing> + '_ {
         self.positions.iter().zip(&self.shapes).map(move |(position, shape)| Crossing { line, position: *position, shape: *shape })
+    }
+
+    /// The shapes in which it starts, for a line of this number: what [`classify_from`](crate::classify_from) takes.
+    pub fn inside(&self, line: u32) -> impl Iterator<Item = Start> + '_ {
+        self.starts.iter().zip(0..).filter(|(byte, _)| **byte == 1).map(move |(_, shape)| Start { line, shape })
     }
 }
 
@@ -113,7 +116,7 @@ pub struct LineLists<'a> {
 /// below it.
 ///
 /// ```
-/// use kressedach::{classify, cross, Axis, Probe, Shape, Wall};
+/// use kressedach::{classify, classify_from, cross, Axis, Probe, Shape, Wall, OPEN_SHAPE, OPEN_START};
 /// let block = Shape::Box { lows: [0.0, 0.0, 0.0], highs: [100.0, 40.0, 40.0] };
 /// let bore = Shape::Box { lows: [40.0, 10.0, -1.0], highs: [60.0, 30.0, 41.0] };
 /// let along = Probe { origin: [-10.0, 20.0, 20.0], direction: [1.0, 0.0, 0.0] };
@@ -127,9 +130,12 @@ pub struct LineLists<'a> {
 /// let wall = |start, end, start_shape, end_shape| Wall { line: 0, start, end, start_shape, end_shape };
 /// assert_eq!(classify(sheet, &crossings)?, [wall(10000, 50000, 0, 1), wall(70000, 110000, 1, 0)]);
 ///
-/// // below a face at x = 25: the line starts inside, and is out from there on
+/// // below a face at x = 25: the line starts inside, and is out from there on; Below alone
 /// let crossed = cross(along, &[Shape::HalfSpace { axis: Axis::X, face: 25.0 }])?;
-/// assert_eq!((crossed.starts, crossed.positions), (vec![1], vec![35000]));
+/// assert_eq!((crossed.starts.as_slice(), crossed.positions.as_slice()), (&[1][..], &[35000][..]));
+/// let sheet = b"\x01\0\x02\0\x01\x02\0\x05Below\x03\0\x02\0\0";
+/// let (starts, crossings): (Vec<_>, Vec<_>) = (crossed.inside(0).collect(), crossed.crossings(0).collect());
+/// assert_eq!(classify_from(sheet, &starts, &crossings)?, [wall(OPEN_START, 35000, OPEN_SHAPE, 0)]);
 ///
 /// let still = Probe { origin: [0.0; 3], direction: [0.0; 3] };
 /// let refusal = cross(still, &[block]).unwrap_err();

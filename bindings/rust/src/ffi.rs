@@ -172,6 +172,8 @@ extern "C" {
         fittings_length: usize,
         sheet: *const u8,
         sheet_length: usize,
+        rows: *const u8,
+        rows_length: usize,
         lines: *const u32,
         lines_length: usize,
         positions: *const i32,

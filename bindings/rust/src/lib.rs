@@ -3,9 +3,11 @@
 
 mod cross;
 mod ffi;
+mod lines;
 mod refusal;
 
 pub use cross::{cross, cross_balls, cross_balls_into, cross_into, Axis, Ball, Counts, Crossed, LineLists, Probe, Shape, BOX};
+pub use lines::{classify, classify_from, classify_into, Crossing, Start, Wall, WallLists, OPEN_END, OPEN_SHAPE, OPEN_START};
 pub use refusal::{Refusal, Which};
 use std::ops::Range;
 
@@ -120,32 +122,6 @@ pub struct Ran {
     pub counts: Vec<u32>,
     /// For each dwarf node, its label after the last toggle: a bit, or a pair (a, b) as 2a + b.
     pub labels: Vec<u8>,
-}
-
-/// A line goes through the surface of a shape.
-#[derive(Debug, Clone, Copy, PartialEq, Eq, Hash)]
-pub struct Crossing {
-    /// The line's number.
-    pub line: u32,
-    /// Where on the line, in micrometres.
-    pub position: i32,
-    /// The shape's number.
-    pub shape: u16,
-}
-
-/// A longest stretch of a line that is inside the solid.
-#[derive(Debug, Clone, Copy, PartialEq, Eq, Hash)]
-pub struct Wall {
-    /// The line's number.
-    pub line: u32,
-    /// Where it begins, in micrometres.
-    pub start: i32,
-    /// Where it ends: after its start, and before the next wall of the line.
-    pub end: i32,
-    /// The shape at its start: the lowest number whose state differs before and after that position.
-    pub start_shape: u16,
-    /// The shape at its end, told the same way.
-    pub end_shape: u16,
 }
 
 /// An answer, unless there is a number of a refusal.
@@ -517,122 +493,4 @@ pub fn run_both_into<'a>(
         )
     };
     [r.first, r.second].map(|r| unless_refused(r.number, r.sheet, r.place, r.nodes))
-}
-
-/// The walls of the lines that these crossings make.
-///
-/// Lines come by rising number and crossings by rising position within a line. On each line every shape is outside before the first
-/// crossing and must be outside after the last. Crossings at one position act together; the shape at a wall's start or end is the lowest
-/// whose state they change.
-///
-/// ```
-/// use kressedach::{classify, Crossing, Wall};
-/// // A union B: where A ends, B begins
-/// let sheet = b"\x01\0\x02\0\x01\x02\0\x01A\x02\0\x01B\x03\0\x06\0\0\0\x01\xFF\xF0";
-/// let at = |position, shape| Crossing { line: 1, position, shape };
-/// assert_eq!(classify(sheet, &[at(0, 0), at(50, 0), at(50, 1), at(90, 1)])?, [Wall { line: 1, start: 0, end: 90, start_shape: 0, end_shape: 1 }]);
-///
-/// let refusal = classify(sheet, &[at(0, 0), at(50, 0), at(50, 1)]).unwrap_err();
-/// assert_eq!((refusal.number, refusal.place), (12, 2));
-/// # Ok::<(), kressedach::Refusal>(())
-/// ```
-///
-/// # Errors
-///
-/// 1 to 7 and 17 as [`read`], 8, then 10 and 11 crossing by crossing, then 12.
-pub fn classify<'a>(sheets: impl Into<Sheets<'a>>, crossings: &[Crossing]) -> Result<Vec<Wall>, Refusal> {
-    let lines: Vec<u32> = crossings.iter().map(|crossing| crossing.line).collect();
-    let positions: Vec<i32> = crossings.iter().map(|crossing| crossing.position).collect();
-    let shapes: Vec<u16> = crossings.iter().map(|crossing| crossing.shape).collect();
-    let room = crossings.len() / 2;
-    let mut walls = WallLists {
-        lines: &mut vec![0; room],
-        starts: &mut vec![0; room],
-        ends: &mut vec![0; room],
-        start_shapes: &mut vec![0; room],
-        end_shapes: &mut vec![0; room],
-    };
-    let count = classify_into(sheets, &lines, &positions, &shapes, &mut walls)?;
-    let wall = |k: usize| Wall {
-        line: walls.lines[k],
-        start: walls.starts[k],
-        end: walls.ends[k],
-        start_shape: walls.start_shapes[k],
-        end_shape: walls.end_shapes[k],
-    };
-    Ok((0..count).map(wall).collect())
-}
-
-/// Five lists that walls are written to, an entry a wall in each.
-#[derive(Debug)]
-pub struct WallLists<'a> {
-    /// The line's number.
-    pub lines: &'a mut [u32],
-    /// Where it begins, in micrometres.
-    pub starts: &'a mut [i32],
-    /// Where it ends.
-    pub ends: &'a mut [i32],
-    /// The shape at its start.
-    pub start_shapes: &'a mut [u16],
-    /// The shape at its end.
-    pub end_shapes: &'a mut [u16],
-}
-
-/// The walls of the lines that these crossings make, into five lists; gives their number.
-///
-/// The crossings are three lists of one length. Each answer list needs room for half as many entries, rounded down.
-///
-/// ```
-/// let sheet = b"\x01\0\x02\0\x01\x02\0\x01A\x03\0\x02\0\0";
-/// let (mut lines, mut starts, mut ends, mut start_shapes, mut end_shapes) = ([9; 2], [9; 2], [9; 2], [9; 2], [9; 2]);
-/// let mut walls = kressedach::WallLists {
-///     lines: &mut lines,
-///     starts: &mut starts,
-///     ends: &mut ends,
-///     start_shapes: &mut start_shapes,
-///     end_shapes: &mut end_shapes,
-/// };
-/// assert_eq!(kressedach::classify_into(sheet, &[4, 4], &[-10, 25], &[0, 0], &mut walls), Ok(1));
-/// assert_eq!((lines, starts, ends, start_shapes, end_shapes), ([4, 9], [-10, 9], [25, 9], [0, 9], [0, 9]));
-/// ```
-///
-/// # Errors
-///
-/// 1 to 7 and 17 as [`read`], 8, 13, then 10 and 11 crossing by crossing, 12, then 9 for the lists of `walls` in their order.
-#[inline]
-pub fn classify_into<'a>(
-    sheets: impl Into<Sheets<'a>>,
-    lines: &[u32],
-    positions: &[i32],
-    shapes: &[u16],
-    walls: &mut WallLists,
-) -> Result<usize, Refusal> {
-    let (fitted, fittings, sheet) = sheets.into().parts();
-    // SAFETY: slices are pointers to that many entries; those that are written are borrowed by nobody else.
-    let r = unsafe {
-        ffi::kressedach_classify(
-            fitted,
-            fittings.as_ptr(),
-            fittings.len(),
-            sheet.as_ptr(),
-            sheet.len(),
-            lines.as_ptr(),
-            lines.len(),
-            positions.as_ptr(),
-            positions.len(),
-            shapes.as_ptr(),
-            shapes.len(),
-            walls.lines.as_mut_ptr(),
-            walls.lines.len(),
-            walls.starts.as_mut_ptr(),
-            walls.starts.len(),
-            walls.ends.as_mut_ptr(),
-            walls.ends.len(),
-            walls.start_shapes.as_mut_ptr(),
-            walls.start_shapes.len(),
-            walls.end_shapes.as_mut_ptr(),
-            walls.end_shapes.len(),
-        )
-    };
-    unless_refused(r.number, r.sheet, r.place, r.walls)
 }

@@ -21,12 +21,12 @@ pub enum Which {
 /// ```
 #[derive(Debug, Clone, Copy, PartialEq, Eq, Hash)]
 pub struct Refusal {
-    /// The reason, 1 to 13 or 16 to 18.
+    /// The reason, 1 to 11 or 13 to 18; 12 is given no more.
     pub number: u8,
     /// The sheet that the place is in, for 1 to 7 and 17.
     pub sheet: Option<Which>,
-    /// Where: a byte of that sheet for 1 to 7 and 17, the length needed for 9, an entry of the list for 10 to 12, 0 for 8 and 13. For 16
-    /// and 18 the first shape or ball at fault, or 256 for more than 256 of them; for 16 also 65535 for the line.
+    /// Where: a byte of that sheet for 1 to 7 and 17, the length needed for 9, an entry of the list for 10, 11 and 15, 0 for 8,
+    /// 13 and 14. For 16 and 18 the first shape or ball at fault, or 256 for more than 256 of them; for 16 also 65535 for the line.
     pub place: usize,
 }
 
@@ -49,8 +49,12 @@ impl Refusal {
             9 => "an answer list is too short",
             10 => "a shape number that no name has",
             11 => "a line number falls, or a position falls within its line",
-            12 => "a shape is crossed an odd number of times on the line that ends here",
+            12 => "given no more: a shape crossed an odd number of times on a line",
             13 => "the three crossing lists differ in length, or an order does not mix the lists of two foundries",
+            14 => {
+                "the start rows' length is no multiple of the number of names, they are more than 4294967296, or a byte is neither 0 nor 1"
+            }
+            15 => "a position at an end mark, -2147483648 or 2147483647, or a line with no start row",
             16 if self.place == 256 => "more than 256 shapes",
             16 if self.place == 65535 => "a number of the line is not finite, or its direction is all zero",
             16 => "an axis above 2, a number that is not finite, a low not below its high, or a position out of range",
@@ -70,7 +74,9 @@ impl Refusal {
     /// assert_eq!(of(5, Some(Which::Fittings), 23).as_deref(), Some("at byte 23 of the fittings sheet"));
     /// assert_eq!(of(9, None, 6).as_deref(), Some("for want of 6 entries"));
     /// assert_eq!(of(10, None, 4).as_deref(), Some("at entry 4"));
+    /// assert_eq!(of(15, None, 4).as_deref(), Some("at entry 4"));
     /// assert_eq!(of(13, None, 0), None);
+    /// assert_eq!(of(14, None, 0), None);
     /// assert_eq!(of(16, None, 3).as_deref(), Some("at shape 3"));
     /// assert_eq!(of(16, None, 65535).as_deref(), Some("for the line"));
     /// assert_eq!(of(18, None, 3).as_deref(), Some("at ball 3"));
@@ -80,7 +86,7 @@ impl Refusal {
             (Some(Which::Fittings), _) => Some(format!("at byte {} of the fittings sheet", self.place)),
             (Some(Which::Customers), _) => Some(format!("at byte {} of the customer's sheet", self.place)),
             (None, 9) => Some(format!("for want of {} entries", self.place)),
-            (None, 10..=12) => Some(format!("at entry {}", self.place)),
+            (None, 10..=12 | 15) => Some(format!("at entry {}", self.place)),
             (None, 16) if self.place == 65535 => Some("for the line".into()),
             (None, 16) if self.place != 256 => Some(format!("at shape {}", self.place)),
             (None, 18) if self.place != 256 => Some(format!("at ball {}", self.place)),

@@ -42,7 +42,7 @@ enum Case {
     Build { sheet: Given, rooms: [usize; 3] },
     Run { sheet: Given, toggles: Vec<u16>, rooms: [usize; 3] },
     Both { sheet: Given, order: Vec<u8>, toggles: [Vec<u16>; 2], rooms: [[usize; 3]; 2] },
-    Classify { sheet: Given, lines: Vec<u32>, positions: Vec<i32>, shapes: Vec<u16>, rooms: [usize; 5] },
+    Classify { sheet: Given, rows: Vec<u8>, lines: Vec<u32>, positions: Vec<i32>, shapes: Vec<u16>, rooms: [usize; 5] },
 }
 
 impl Debug for Case {
@@ -59,9 +59,9 @@ impl Debug for Case {
             Case::Both { sheet, order, toggles, rooms } => {
                 write!(f, "both, rooms {rooms:?}, sheet {}, order {order:?}, toggles {toggles:?}", hex(sheet))
             }
-            Case::Classify { sheet, lines, positions, shapes, rooms } => {
-                let sheet = hex(sheet);
-                write!(f, "classify, rooms {rooms:?}, sheet {sheet}, lines {lines:?}, positions {positions:?}, shapes {shapes:?}")
+            Case::Classify { sheet, rows, lines, positions, shapes, rooms } => {
+                write!(f, "classify, rooms {rooms:?}, sheet {}, rows {rows:?}, ", hex(sheet))?;
+                write!(f, "lines {lines:?}, positions {positions:?}, shapes {shapes:?}")
             }
         }
     }
@@ -160,7 +160,7 @@ fn compare_one(case: &Case) -> Result<u8, String> {
             lent.check(&due)?;
             same(got, due.as_ref().map(|ran| ran.labels.len()))
         }
-        Case::Classify { sheet, lines, positions, shapes, rooms } => {
+        Case::Classify { sheet, rows, lines, positions, shapes, rooms } => {
             let mut wall_lines = Lent::new(rooms[0], |k| k as u32);
             let (mut starts, mut ends) = (Lent::new(rooms[1], |k| k as i32), Lent::new(rooms[2], |k| k as i32));
             let (mut start_shapes, mut end_shapes) = (Lent::new(rooms[3], |k| k as u16), Lent::new(rooms[4], |k| k as u16));
@@ -171,8 +171,8 @@ fn compare_one(case: &Case) -> Result<u8, String> {
                 start_shapes: start_shapes.list(),
                 end_shapes: end_shapes.list(),
             };
-            let got = kressedach::classify_into(sheet.ours(), lines, positions, shapes, &mut lists);
-            let due = peer::classify(sheet.theirs(), Crossings { lines, positions, shapes }, *rooms);
+            let got = kressedach::classify_into(sheet.ours(), rows, lines, positions, shapes, &mut lists);
+            let due = peer::classify(sheet.theirs(), Crossings { rows, lines, positions, shapes }, *rooms);
             let number = same(got, due.as_ref().map(|walls| walls.len()))?;
             wall_lines.check("wall_lines", due.iter().flatten().map(|wall| wall.line))?;
             starts.check("starts", due.iter().flatten().map(|wall| wall.start))?;
@@ -293,10 +293,17 @@ fn make_case(dice: &mut Dice, job: u64) -> Case {
             Case::Both { sheet, order, toggles, rooms }
         }
         _ => {
-            let (most_lines, most_a_line) = dice.of_these(&[(0, 0), (12, 40), (12, 40), (60, 4), (2, 700)]);
-            let mut all = if most_lines == 0 { vec![] } else { make::crossings(dice, names, most_lines, most_a_line) };
+            let (most_lines, most_a_line) = dice.of_these(&[(0, 0), (12, 40), (12, 40), (60, 4), (2, 700), (600, 2)]);
+            let count = if most_lines == 0 { 0 } else { dice.size(most_lines) };
+            let mut all = make::crossings(dice, names, count, most_a_line);
+            // rows after the last line too
+            let more = dice.of_these(&[0, 0, 0, 1, 70]);
+            let mut rows = make::rows(dice, names, count + more);
             for _ in 0..dice.of_these(&[0, 0, 1, 1, 2]) {
-                make::damage_crossings(dice, names, &mut all);
+                make::damage_crossings(dice, names, count + more, &mut all);
+            }
+            if dice.once_in(6) {
+                make::damage_rows(dice, names, &mut rows);
             }
             let (mut lines, mut positions, mut shapes) = lists(&all);
             if dice.once_in(12) {
@@ -307,8 +314,8 @@ fn make_case(dice: &mut Dice, job: u64) -> Case {
                     _ => shapes.push(65535),
                 }
             }
-            let rooms = rooms(dice, [lines.len() / 2; 5]);
-            Case::Classify { sheet, lines, positions, shapes, rooms }
+            let rooms = rooms(dice, [lines.len() / 2 + rows.len() / names; 5]);
+            Case::Classify { sheet, rows, lines, positions, shapes, rooms }
         }
     }
 }
@@ -321,7 +328,7 @@ const CAN: [&[usize]; 5] = [
     &[0, 1, 2, 3, 4, 5, 6, 7, 9, 17],
     &[0, 1, 2, 3, 4, 5, 6, 7, 9, 10, 17],
     &[0, 1, 2, 3, 4, 5, 6, 7, 9, 10, 13, 17],
-    &[0, 1, 2, 3, 4, 5, 6, 7, 9, 10, 11, 12, 13, 17],
+    &[0, 1, 2, 3, 4, 5, 6, 7, 9, 10, 11, 13, 14, 15, 17],
 ];
 
 /// What the two foundries of a call can be told at once, besides one refusal for both.
@@ -411,7 +418,11 @@ fn largest_sheets() -> Vec<Case> {
         let rooms = [toggles.len(), 256].map(|length| [length, length, 3069]);
         cases.push(Case::Both { sheet: sheet.clone(), order, toggles: [toggles, (0..256).collect()], rooms });
         let (lines, positions, shapes) = lists(&make::crossings(dice, 256, 40, 1000));
-        cases.push(Case::Classify { sheet, rooms: [lines.len() / 2; 5], lines, positions, shapes });
+        for byte in [0, 1] {
+            let rows = (0..50 * 256).map(|k| if k % 256 < 3 { byte } else { dice.below(1 + usize::from(byte)) as u8 }).collect();
+            let (sheet, lines, positions, shapes) = (sheet.clone(), lines.clone(), positions.clone(), shapes.clone());
+            cases.push(Case::Classify { sheet, rows, rooms: [lines.len() / 2 + 50; 5], lines, positions, shapes });
+        }
     }
     cases
 }
@@ -436,12 +447,9 @@ fn a_small_stack_is_enough() {
                     let ran = kressedach::run_both(sheet.ours(), &order, [&first, &second]);
                     assert!(ran.iter().all(Result::is_ok));
                 }
-                Case::Classify { sheet, lines, positions, shapes, .. } => {
-                    let all = lines.iter().zip(&positions).zip(&shapes);
-                    let all: Vec<_> = all
-                        .map(|((line, position), shape)| kressedach::Crossing { line: *line, position: *position, shape: *shape })
-                        .collect();
-                    drop(kressedach::classify(sheet.ours(), &all).unwrap());
+                Case::Classify { sheet, rows, lines, positions, shapes, .. } => {
+                    let (starts, all) = as_entries(256, &rows, &lines, &positions, &shapes, |line| line);
+                    drop(kressedach::classify_from(sheet.ours(), &starts, &all).unwrap());
                 }
             }
         }
@@ -457,11 +465,12 @@ fn long_lists() {
     let toggles: Vec<u16> = (0..LONG).map(|k| (k * k / 7 % 3) as u16).collect();
     assert_eq!(assert_same(Case::Run { sheet: sheet.clone(), toggles, rooms: [LONG, LONG, 6] }), 0);
     type Entry = fn(usize) -> (u32, i32, u16);
-    let pattern: [Entry; 4] = [
-        |k| (u32::MAX, i32::MIN + k as i32 / 3, [0, 1, 2, 2, 1, 0][k % 6]),
-        |k| (k as u32 / 2, [i32::MIN, i32::MAX][k % 2], (k / 2 % 3) as u16),
+    let pattern: [Entry; 5] = [
+        |k| (1, i32::MIN + 1 + k as i32 / 3, [0, 1, 2, 2, 1, 0][k % 6]),
+        |k| (k as u32 / 2, [i32::MIN + 1, i32::MAX - 1][k % 2], (k / 2 % 3) as u16),
         |_| (0, 0, 0),
         |k| (k as u32 / 1000, k as i32 % 1000 / 4, [0, 1, 1, 0][k % 4]),
+        |k| (k as u32 / 3 * 2, k as i32 % 3, (k % 3) as u16),
     ];
     for (k, entry) in pattern.into_iter().enumerate() {
         let length = LONG - LONG % 12;
@@ -471,10 +480,191 @@ fn long_lists() {
             positions.push(position);
             shapes.push(shape);
         }
-        assert_eq!(
-            assert_same(Case::Classify { sheet: sheet.clone(), lines, positions, shapes, rooms: [length / 2; 5] }),
-            0,
-            "pattern {k}"
-        );
+        // in air, and by the dice; with a line after the last crossing
+        let count = lines[length - 1] as usize + 2;
+        for inside in [1, 2] {
+            let dice = &mut Dice::of(3, k as u64);
+            let rows = (0..3 * count).map(|_| dice.below(inside) as u8).collect();
+            let (lines, positions, shapes) = (lines.clone(), positions.clone(), shapes.clone());
+            let case = Case::Classify { sheet: sheet.clone(), rows, lines, positions, shapes, rooms: [length / 2 + count; 5] };
+            assert_eq!(assert_same(case), 0, "pattern {k}");
+        }
     }
+}
+
+/// A million lines with no crossing, of which every third starts in metal.
+#[test]
+fn long_rows() {
+    let sheet = Given::alone(make::sheet(&["A", "B", "C"], &[0, 1, 2, 0xFFF0, 0xFFF2]));
+    let rows: Vec<u8> = (0..3_000_000).map(|k| u8::from(k % 9 == 0)).collect();
+    let case = |rows: Vec<u8>| Case::Classify {
+        sheet: sheet.clone(),
+        rows,
+        lines: vec![],
+        positions: vec![],
+        shapes: vec![],
+        rooms: [1_000_000; 5],
+    };
+    assert_eq!(assert_same(case(rows.clone())), 0);
+    assert_eq!(assert_same(case(rows[1..].to_vec())), 14);
+    for at in [0, 1_500_000, 2_999_999] {
+        let mut rows = rows.clone();
+        rows[at] = 2;
+        assert_eq!(assert_same(case(rows)), 14);
+    }
+}
+
+/// What can be wrong with lines. Those before the first crossing's are of the whole lists.
+#[derive(Debug, Clone, Copy, PartialEq)]
+enum Wrong {
+    Lengths,
+    RowBegun,
+    NoByte,
+    NoShape,
+    LowMark,
+    HighMark,
+    NoRow,
+    LineFalls,
+    PositionFalls,
+    Room,
+}
+
+impl Wrong {
+    const ALL: [Wrong; 10] = [
+        Wrong::Lengths,
+        Wrong::RowBegun,
+        Wrong::NoByte,
+        Wrong::NoShape,
+        Wrong::LowMark,
+        Wrong::HighMark,
+        Wrong::NoRow,
+        Wrong::LineFalls,
+        Wrong::PositionFalls,
+        Wrong::Room,
+    ];
+
+    /// Its number in the documents.
+    fn number(self) -> u8 {
+        match self {
+            Wrong::Lengths => 13,
+            Wrong::RowBegun | Wrong::NoByte => 14,
+            Wrong::NoShape => 10,
+            Wrong::LowMark | Wrong::HighMark | Wrong::NoRow => 15,
+            Wrong::LineFalls | Wrong::PositionFalls => 11,
+            Wrong::Room => 9,
+        }
+    }
+
+    /// Makes it so, at this crossing where it is of one.
+    fn put(self, case: &mut Case, at: usize) {
+        let Case::Classify { rows, lines, positions, shapes, rooms, .. } = case else { return };
+        match self {
+            Wrong::Lengths => shapes.push(0),
+            Wrong::RowBegun => rows.push(0),
+            Wrong::NoByte => rows[4] = 2,
+            Wrong::NoShape => shapes[at] = 3,
+            Wrong::LowMark => positions[at] = i32::MIN,
+            Wrong::HighMark => positions[at] = i32::MAX,
+            Wrong::NoRow => lines[at] = 4,
+            Wrong::LineFalls => lines[at] = 0,
+            Wrong::PositionFalls => positions[at] = -9,
+            Wrong::Room => rooms[3] -= 1,
+        }
+    }
+}
+
+/// Any two reasons together, at one crossing or at two in either order: 13, 14, then 10, 15 and 11 item by item, then 9.
+#[test]
+fn every_two_reasons() {
+    let due = |wrong: [Wrong; 2], at: [usize; 2]| {
+        let rank = |k: usize| match wrong[k].number() {
+            13 => (0, 0, 0),
+            14 => (1, 0, 0),
+            9 => (3, 0, 0),
+            number => (2, at[k], [10, 15, 11].iter().position(|of| *of == number).unwrap()),
+        };
+        wrong[usize::from(rank(1) < rank(0))].number()
+    };
+    for (first, second) in Wrong::ALL.into_iter().flat_map(|first| Wrong::ALL.map(|second| (first, second))) {
+        for at in [[2, 2], [2, 4], [4, 2]] {
+            let mut case = Case::Classify {
+                sheet: Given::alone(make::sheet(&["A", "B", "C"], &[0, 1, 2, 0xFFF0, 0xFFF2])),
+                rows: vec![0, 1, 0, 1, 0, 0, 0, 0, 0, 1, 1, 1],
+                lines: vec![1, 1, 1, 2, 2, 2],
+                positions: vec![0, 5, 7, 1, 5, 5],
+                shapes: vec![0, 1, 2, 0, 1, 2],
+                rooms: [7; 5],
+            };
+            first.put(&mut case, at[0]);
+            second.put(&mut case, at[1]);
+            let got = assert_same(case);
+            // one may undo the other at one crossing, and a line put back makes those after it fall no more
+            let apart = at[0] != at[1] || first.number() != second.number();
+            if apart && !moves(first, second) {
+                assert_eq!(got, due([first, second], at), "{first:?} and {second:?} at {at:?}");
+            }
+        }
+    }
+}
+
+/// Both change the line or the position of a crossing, so that what comes first is for the comparison alone to say.
+fn moves(first: Wrong, second: Wrong) -> bool {
+    let is = |wrong: Wrong| matches!(wrong, Wrong::LowMark | Wrong::HighMark | Wrong::NoRow | Wrong::LineFalls | Wrong::PositionFalls);
+    is(first) && is(second)
+}
+
+/// Start rows and crossings as the calls that answer in lists of their own take them, with other line numbers.
+fn as_entries(
+    names: usize,
+    rows: &[u8],
+    lines: &[u32],
+    positions: &[i32],
+    shapes: &[u16],
+    number: impl Fn(u32) -> u32,
+) -> (Vec<kressedach::Start>, Vec<kressedach::Crossing>) {
+    let inside = rows.iter().enumerate().filter(|(_, byte)| **byte == 1);
+    let starts = inside.map(|(k, _)| kressedach::Start { line: number((k / names) as u32), shape: (k % names) as u16 }).collect();
+    let all = lines.iter().zip(positions).zip(shapes);
+    let crossing =
+        |((line, position), shape): ((&u32, &i32), &u16)| kressedach::Crossing { line: number(*line), position: *position, shape: *shape };
+    (starts, all.map(crossing).collect())
+}
+
+/// Any line numbers that rise give the walls of the lines that are numbered by their rows, and the same refusals.
+#[test]
+fn lines_of_any_numbers() {
+    let mut seen = [0u64; 18];
+    for case in 0..from_env("KRESSEDACH_CASES", 120_000) / 12 {
+        let dice = &mut Dice::of(5, case);
+        let (own, names) = make::good_sheet(dice);
+        let count = dice.size(12);
+        let mut all = make::crossings(dice, names, count, 40);
+        if dice.once_in(2) {
+            make::damage_crossings(dice, names, count, &mut all);
+            // a line with no row cannot be said
+            all.iter_mut().for_each(|crossing| crossing.line = crossing.line.min(count as u32 - 1));
+        }
+        let rows = if dice.once_in(3) { vec![0; names * count] } else { make::rows(dice, names, count) };
+        let (lines, positions, shapes) = lists(&all);
+        let (first, step) = dice.of_these(&[(0, 1), (7, 1), (1, 1 << 20), (u32::MAX - 11, 1)]);
+        let number = |line: u32| first + step * line;
+        let (mut starts, all) = as_entries(names, &rows, &lines, &positions, &shapes, number);
+        if dice.once_in(2) {
+            starts.reverse();
+        }
+        let crossings = Crossings { rows: &rows, lines: &lines, positions: &positions, shapes: &shapes };
+        let due = peer::classify(peer::sheet::Sheets::alone(&own), crossings, [usize::MAX; 5]);
+        let walls = |walls: Vec<kressedach::Wall>| -> Vec<(u32, i32, i32, u16, u16)> {
+            walls.iter().map(|w| (w.line, w.start, w.end, w.start_shape, w.end_shape)).collect()
+        };
+        let due_walls = |walls: &Vec<peer::lines::Wall>| -> Vec<(u32, i32, i32, u16, u16)> {
+            walls.iter().map(|w| (number(w.line), w.start, w.end, w.start_shape, w.end_shape)).collect()
+        };
+        let answer = same(kressedach::classify_from(&own, &starts, &all).map(walls), due.as_ref().map(due_walls));
+        seen[usize::from(answer.unwrap_or_else(|wrong| panic!("case {case}: {wrong}")))] += 1;
+        if starts.is_empty() {
+            same(kressedach::classify(&own, &all).map(walls), due.as_ref().map(due_walls)).unwrap();
+        }
+    }
+    assert!([0, 10, 11, 15].iter().all(|answer| seen[*answer] >= 20), "{seen:?}");
 }

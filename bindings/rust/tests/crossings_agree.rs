@@ -10,7 +10,7 @@ use kressedach::{Counts, LineLists, Refusal};
 use lent::{from_env, rooms, Lent};
 use peer::crossings::{Crossed, Probe, Shapes};
 use peer::drawings::{self, EXTREME};
-use peer::make::Dice;
+use peer::make::{self, Dice};
 use peer::{say, Refused};
 use std::fmt::Debug;
 use std::time::Instant;
@@ -113,6 +113,32 @@ fn shapes_from_a_seed() {
         Case::Shapes { probe, kinds, numbers, rooms }
     };
     agree_on("half-spaces and boxes", make, &[0, 1, 2, 3, 4, 5]);
+}
+
+/// What a maker gives for a line is what classifying takes, its start row and its crossings as they are.
+#[test]
+fn what_is_given_is_classified() {
+    let mut open = 0;
+    for number in 0..5000 {
+        let dice = &mut Dice::of(6, number);
+        let probe = drawings::probe(dice);
+        let (kinds, numbers) = drawings::shapes(dice, &probe);
+        let (mut starts, mut positions, mut shapes) = (vec![0; kinds.len()], vec![0; 2 * kinds.len()], vec![0; 2 * kinds.len()]);
+        let mut lists = LineLists { starts: &mut starts, positions: &mut positions, shapes: &mut shapes };
+        let probe = kressedach::Probe { origin: probe.origin, direction: probe.direction };
+        let Ok(counts) = kressedach::cross_into(probe, &kinds, &numbers, &mut lists) else { continue };
+        if counts.shapes == 0 {
+            continue;
+        }
+        let names = make::names(dice, counts.shapes, 8);
+        let codes = make::codes(dice, counts.shapes, counts.shapes, make::Form::Any);
+        let crossed =
+            kressedach::Crossed { starts, positions: positions[..counts.crossings].to_vec(), shapes: shapes[..counts.crossings].to_vec() };
+        let (inside, crossings): (Vec<_>, Vec<_>) = (crossed.inside(7).collect(), crossed.crossings(7).collect());
+        let walls = kressedach::classify_from(&make::sheet(&names, &codes), &inside, &crossings).unwrap();
+        open += walls.iter().filter(|wall| wall.start == kressedach::OPEN_START).count();
+    }
+    assert!(open > 100, "{open} lines that start in metal");
 }
 
 #[test]

@@ -42,7 +42,7 @@ fn sheet_file(name: &str, lines: &[String]) -> Vec<u8> {
 #[test]
 fn the_sheets_are_as_written() {
     let sheets = blocks("sheet");
-    assert_eq!(sheets.len(), 5);
+    assert_eq!(sheets.len(), 7);
     for (heading, lines) in &sheets {
         let (name, fittings) = heading.split_once(" beside ").unwrap_or((heading, ""));
         let own = sheet_file(name, lines);
@@ -89,5 +89,12 @@ fn the_commands_print_as_written() {
             commands += 1;
         }
     }
-    assert_eq!(commands, 20);
+    assert_eq!(commands, 23);
+}
+
+/// What a page says that a file has is what the command prints.
+#[test]
+fn the_starts_are_those_of_the_drawing() {
+    let starts = std::fs::read(Path::new(EXAMPLES).join("cut-starts.csv")).unwrap();
+    assert_eq!(said_to(b"", "wallcheck cross --starts cut-shapes.csv cut-lines.csv"), starts);
 }

@@ -177,15 +177,43 @@ fn refused_lists() {
     assert_eq!(walls("2,0,Port\n1,0,Port\n"), refused(&format!("{falls}\n  {about}")));
     let about = "row 3 of standard input: position 4 comes after 5 on line 2";
     assert_eq!(walls("2,5,Port\n2,4,Port\n"), refused(&format!("{falls}\n  {about}")));
-    let odd = "refused 12 at entry 2: a shape is crossed an odd number of times on the line that ends here";
-    let about = "line 2, which ends at row 4 of standard input: \"PORT\" (shape 1) is crossed once";
-    assert_eq!(walls("2,5,Port\n2,6,PORT\n2,7,Port\n3,1,Port\n"), refused(&format!("{odd}\n  {about}")));
+    let astray = "refused 15 at entry 1: a position at an end mark, -2147483648 or 2147483647, or a line with no start row";
+    for (position, open) in [("-2147483648", "start"), ("2147483647", "end")] {
+        let about = format!("row 3 of standard input: position {position} is the mark of a wall's open {open}; no crossing stands there");
+        assert_eq!(walls(&format!("2,5,Port\n2,{position},Port\n")), refused(&format!("{astray}\n  {about}")));
+    }
     // the sheet comes first, whatever the list holds
     let damaged = file("damaged.sheet", &worked()[..29]);
     assert_eq!(
         wallcheck(&["run", &damaged, "-"], b"nonsense"),
         refused("refused 1 at byte 29 of the customer's sheet: the sheet ends too soon")
     );
+}
+
+/// Lines of any numbers that start in air or in metal; an open end has no name.
+#[test]
+fn lines_that_start_in_metal() {
+    let path = file("starts.sheet", &sheet(&["Body", "Bore"], &[0, 1, 0xFFF2]));
+    let crossings = file("starts-crossings.csv", b"line,position,name\n7,5,Body\n4294967295,-5,Body\n");
+    let heading = "line,start,end,start_shape,end_shape\n";
+    let none = wallcheck(&["walls", &path, &crossings], b"");
+    assert_eq!(none, answered(&format!("{heading}7,5,2147483647,Body,\n4294967295,-5,2147483647,Body,\n")));
+    let from = |starts: &str| wallcheck(&["walls", "--starts", "-", &path, &crossings], starts.as_bytes());
+    assert_eq!(from("line,name\n"), none);
+    let due = format!("{heading}0,-2147483648,2147483647,,\n7,-2147483648,5,,Body\n4294967295,-5,2147483647,Body,\n");
+    // in any order, and twice is as once
+    assert_eq!(from("line,name\n7,Body\n9,Body\n9,Bore\n0,Body\n7,Body\n"), answered(&due));
+    assert_eq!(from("shape,line\n0,7\n0,0\n"), answered(&due));
+    let rows = "refused 14: the start rows' length is no multiple of the number of names, they are more than 4294967296, or a byte is neither 0 nor 1";
+    let letters = "row 3 of standard input: the sheet has no name \"body\"; names are compared letter by letter";
+    assert_eq!(from("line,name\n7,Body\n7,body\n"), refused(&format!("{rows}\n  {letters}")));
+    let number = "row 2 of standard input: shape 2, and the last one is 1";
+    assert_eq!(from("line,shape\n7,2\n"), refused(&format!("{rows}\n  {number}")));
+    assert_eq!(from("line,position,name\n"), unreadable("standard input: row 1: the heading is to be line,name or line,shape"));
+    for both in [["walls", "--starts", "-", "-", &crossings], ["walls", "--starts", "-", &path, "-"]] {
+        assert_eq!(wallcheck(&both, b"").0, Some(2));
+    }
+    assert_eq!(wallcheck(&["walls", "--starts", "-", "--fittings", "-", &path, &crossings], b"").0, Some(2));
 }
 
 #[test]

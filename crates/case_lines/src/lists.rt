@@ -13,8 +13,11 @@ pub const SHAPES: usize = 3;
 
 pub const ROOM: usize = 4;
 
+pub const ROWS: usize = 5;
+
 // Each list and its length. Room is how many entries of each answer list are lent.
 pub struct Lists {
+    pub rows: [u8; 64],
     pub lines: [u32; 64],
     pub positions: [i32; 64],
     pub shapes: [u16; 64],
@@ -25,6 +28,7 @@ pub struct Lists {
 
 pub fn none() -> Lists {
     Lists {
+        rows: [0u8; 64],
         lines: [0u32; 64],
         positions: [0i32; 64],
         shapes: [0u16; 64],
@@ -47,7 +51,20 @@ pub fn heading(w: &[u8]) -> usize {
     if same(w, b"room") {
         return ROOM;
     }
+    if same(w, b"rows") {
+        return ROWS;
+    }
     0
+}
+
+fn row(g: Lists, n: usize, x: u64) -> Lists {
+    let mut t = g;
+    if n < 64 && x < 256 {
+        t.rows[n] = x as u8;
+    } else {
+        t.good = false;
+    }
+    t
 }
 
 fn line(g: Lists, n: usize, x: u64) -> Lists {
@@ -96,6 +113,7 @@ fn put(g: Lists, list: usize, n: usize, w: &[u8]) -> Lists {
         LINES => line(g, n, number(w)),
         POSITIONS => position(g, n, marked(w)),
         SHAPES => shape(g, n, number(w)),
+        ROWS => row(g, n, number(w)),
         _ => room(g, n, number(w)),
     }
 }

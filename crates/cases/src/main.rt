@@ -1,12 +1,9 @@
 // Reads cases from standard input, a line each, runs each through its job and prints the answer under the case's name. A line that is no
 // case prints `malformed`. How a case is written stands at the top of the file `stdin`.
-mod answering;
-mod lending;
-mod printing;
-
+use case_answers::answering;
+use case_answers::printing::say;
 use case_lines::case::Case;
 use case_lines::words::between;
-use printing::say;
 ghost use Prim.Native.Nat.{_<_};
 ghost use lib.ListN.{length};
 

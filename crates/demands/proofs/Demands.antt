@@ -10,7 +10,7 @@ use Rattle.outcome.specs.Outcome.{Outcome, given, _>>_}
 use Rattle.outcome.specs.Lent.{filled}
 use Rattle.outcome.proofs.Questions.{given-same, part-given}
 use Rattle.formula.specs.Formula.{Formula, inside}
-use Rattle.formula.specs.States.{outside, toggledBy}
+use Rattle.formula.specs.States.{State, outside, toggledBy}
 use Rattle.contraction.specs.Rounds.{dwarf}
 use Rattle.contraction.specs.Height.{height}
 use Rattle.sheet.specs.Sheet.{Sheets, Sheet}
@@ -23,7 +23,7 @@ use Rattle.toggles.specs.Toggles.{Answers, toggleRun}
 use Rattle.toggles.specs.Demand.{rootsAfter, roots as rootsOf, leavesOf}
 use Rattle.toggles.proofs.Runs.{run-roots, length-roots, length-counts}
 use Rattle.toggles.proofs.Count.{count-bound}
-use Rattle.lines.specs.Lines.{CrossingLists, entries, AnswerLists, Wall}
+use Rattle.lines.specs.Lines.{LineLists, entries, rowCount, startState, AnswerLists, Wall}
 use Rattle.lines.specs.Right.{Right}
 use Rattle.lines.proofs.Theorems.{right-only, classified-right}
 use Rattle.job_run.specs.Running.{answersOf, running}
@@ -99,17 +99,23 @@ same-oddness-same-labels s x is ts rs cs ls nodes rs′ cs′ ls′ a us ps ds m
           ∙ sym (label-afresh s x is us ps ds ms nodes₂ ps′ ds′ ms′ b d (omega arith))),
     )
 
--- ---- Demand 2, lines that are answered: the walls reported are the longest stretches of positive length inside, all of them, in rising order, each with the shapes that bound it
+-- ---- Demand 2, lines that are answered: of each line that has a row, the walls reported are the longest stretches of positive length inside, all of them, in rising order, each with the shapes that bound it; a shape is inside by its start state, changed by an odd number of crossings
 
-module _ (s : Sheets) (x : Sheet) (is : accepted s ≡ given x) (c : CrossingLists) (lent : AnswerLists) (ws : List Wall) (gives : classifying s c lent ≡ given ws) where
-  pub walls-right : Right (x .formula) (entries c) ws
+module _ (s : Sheets) (x : Sheet) (is : accepted s ≡ given x) (c : LineLists) (lent : AnswerLists) (ws : List Wall) (gives : classifying s c lent ≡ given ws) where
+  abbrev rows : ℕ
+  rows = rowCount (length (x .names)) (c .rows)
+
+  abbrev start : ℕ → State
+  start = startState (length (x .names)) (c .rows)
+
+  pub walls-right : Right (x .formula) (rowCount (length (x .names)) (c .rows)) (startState (length (x .names)) (c .rows)) (entries c) ws
   walls-right =
       classified-right (x .formula) (length (x .names)) (guaranteed s x (accepted-read s x is .0) .own .good-names .few) c lent ws
       (sym (classifying-accepted c lent s x is) ∙ gives)
 
   -- No other list is right.
-  pub walls-only : (vs : List Wall) → Right (x .formula) (entries c) vs → vs ≡ ws
-  walls-only vs right = right-only (x .formula) (entries c) vs ws right walls-right
+  pub walls-only : (vs : List Wall) → Right (x .formula) (rowCount (length (x .names)) (c .rows)) (startState (length (x .names)) (c .rows)) (entries c) vs → vs ≡ ws
+  walls-only vs right = right-only (x .formula) rows start (entries c) vs ws right walls-right
 
 -- They are what the five lists hold, entry by entry, and their number is the answer.
 pub walls-listed : (o : Outcome (List Wall)) (lent : AnswerLists) (n : ℕ) (after : AnswerLists) → Classified o lent (classify.Walls n) after

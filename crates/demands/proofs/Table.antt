@@ -2,7 +2,7 @@
 use Prim.Native.Nat.{ℕ, zero, suc, _/_, _%_}
 use mathlib.Core.Path.{_≡_, refl}
 use mathlib.Core.List.{List, [], _∷_, _++_, map}
-use lib.IntN.{ℤ, pos}
+use lib.IntN.{ℤ, pos, negsuc}
 use lib.ListN.{length, replicate}
 use Rattle.outcome.specs.Outcome.{given, part}
 use Rattle.formula.specs.Formula.{union, intersection, difference, exclusive, Formula, leaf, node, postfix}
@@ -13,7 +13,7 @@ use Rattle.sheet.specs.Sheet.{alone, lengthAt, pastAt, bytesAt, allGood, same, 
 use Rattle.accepting.specs.Accepting.{accepted}
 use Rattle.toggles.specs.Toggles.{Answers, answers}
 use Rattle.lines.specs.Lines as lines
-use Rattle.lines.specs.Lines.{crossed, ordered, anyInside, firstLine, anyOn, lastOn, lowestFrom, shapeAt, wallsFrom, crossingLists, answerLists, classified}
+use Rattle.lines.specs.Lines.{crossed, bits, ordered, lowestFrom, shapeAt, wallsOn, crossingsOn, wallsFrom, lineLists, answerLists, classified}
 use Rattle.job_build.specs.Building.{giving, building, Summary, summary, summaryOf}
 use Rattle.job_run.specs.Running.{toggling, running}
 use Rattle.job_classify.specs.Classifying.{classifying}
@@ -75,16 +75,16 @@ pub data Case : Type 0 where
   lists : List ℕ → List (ℕ × ℕ × ℕ) → Case
   -- of a sheet and toggles
   runs : List ℕ → List ℕ → Answers → Case
-  -- of a sheet and the crossings of line 0, by position and shape: walls by start and end, with the shape at each
-  walls : List ℕ → List (ℤ × ℕ) → List ((ℤ × ℕ) × (ℤ × ℕ)) → Case
+  -- of a sheet, the start row of line 0 and its crossings, by position and shape: walls by start and end, with the shape at each
+  walls : List ℕ → List ℕ → List (ℤ × ℕ) → List ((ℤ × ℕ) × (ℤ × ℕ)) → Case
 
 abbrev pub Holds : Case → Type 0
 Holds (bytes s b) = s ≡ b
 Holds (builds s n) = part summaryOf (building (alone s) room room room) ≡ given n
 Holds (lists s rs) = part (λ f. map (λ r. (number (r .kind), r .first, r .second)) (dwarf f)) (building (alone s) room room room) ≡ given rs
 Holds (runs s ts a) = running (alone s) ts room room room ≡ given a
-Holds (walls s xs ws) =
-    classifying (alone s) (crossingLists (map (λ x. 0) xs) (map (λ x. x .0) xs) (map (λ x. x .1) xs)) (answerLists lentNumbers lentPlaces lentPlaces lentNumbers lentNumbers)
+Holds (walls s row xs ws) =
+    classifying (alone s) (lineLists row (map (λ x. 0) xs) (map (λ x. x .0) xs) (map (λ x. x .1) xs)) (answerLists lentNumbers lentPlaces lentPlaces lentNumbers lentNumbers)
     ≡ given (map (λ w. record { line = 0; start = w .0 .0; end = w .1 .0; startShape = w .0 .1; endShape = w .1 .1 }) ws)
 
 abbrev pub All : List Case → Type 0
@@ -113,15 +113,18 @@ table =
     -- A B union C D union intersection: 7 nodes, 2 rounds, height 2.
     ∷ builds (sheet 4 (node intersection (node union A B) (node union C D))) (summary 4 7 2 2)
     -- A less B, A at 0 and 100, B at 40 and 60: walls 0 to 40, 60 to 100.
-    ∷ walls (sheet 2 (node difference A B)) ((pos 0, 0) ∷ (pos 40, 1) ∷ (pos 60, 1) ∷ (pos 100, 0) ∷ []) (((pos 0, 0), (pos 40, 1)) ∷ ((pos 60, 1), (pos 100, 0)) ∷ [])
+    ∷ walls (sheet 2 (node difference A B)) (0 ∷ 0 ∷ []) ((pos 0, 0) ∷ (pos 40, 1) ∷ (pos 60, 1) ∷ (pos 100, 0) ∷ []) (((pos 0, 0), (pos 40, 1)) ∷ ((pos 60, 1), (pos 100, 0)) ∷ [])
     -- A union B, A at 0 and 50, B at 50 and 90: one wall, 0 to 90. Their intersection: none.
-    ∷ walls (sheet 2 (node union A B)) ((pos 0, 0) ∷ (pos 50, 0) ∷ (pos 50, 1) ∷ (pos 90, 1) ∷ []) (((pos 0, 0), (pos 90, 1)) ∷ [])
-    ∷ walls (sheet 2 (node intersection A B)) ((pos 0, 0) ∷ (pos 50, 0) ∷ (pos 50, 1) ∷ (pos 90, 1) ∷ []) []
+    ∷ walls (sheet 2 (node union A B)) (0 ∷ 0 ∷ []) ((pos 0, 0) ∷ (pos 50, 0) ∷ (pos 50, 1) ∷ (pos 90, 1) ∷ []) (((pos 0, 0), (pos 90, 1)) ∷ [])
+    ∷ walls (sheet 2 (node intersection A B)) (0 ∷ 0 ∷ []) ((pos 0, 0) ∷ (pos 50, 0) ∷ (pos 50, 1) ∷ (pos 90, 1) ∷ []) []
     -- A at 10 and 10: none. No crossings: none.
-    ∷ walls (sheet 1 A) ((pos 10, 0) ∷ (pos 10, 0) ∷ []) []
-    ∷ walls (sheet 1 A) [] []
+    ∷ walls (sheet 1 A) (0 ∷ []) ((pos 10, 0) ∷ (pos 10, 0) ∷ []) []
+    ∷ walls (sheet 1 A) (0 ∷ []) [] []
+    -- Document 02: A crossed at 5 only, from outside, is one wall from 5 to 2147483647; from inside, one that ends at 5.
+    ∷ walls (sheet 1 A) (0 ∷ []) ((pos 5, 0) ∷ []) (((pos 5, 0), (pos 2147483647, 65535)) ∷ [])
+    ∷ walls (sheet 1 A) (1 ∷ []) ((pos 5, 0) ∷ []) (((negsuc 2147483647, 65535), (pos 5, 0)) ∷ [])
     ∷ []
 
 pub table-holds : All table
-unfolding building giving running toggling classifying accepted reading own fields fieldAt header nameAt formulaAt formulaOf allCodes codesOf taken same allGood bytesAt pastAt lengthAt times classified lines.judged ordered firstLine anyInside crossed anyOn lastOn lowestFrom shapeAt wallsFrom
-table-holds = (refl, (refl, (refl, (refl, (refl, (refl, (refl, (refl, (refl, (refl, (refl, (refl, (refl, (refl, (refl, tt)))))))))))))))
+unfolding building giving running toggling classifying accepted reading own fields fieldAt header nameAt formulaAt formulaOf allCodes codesOf taken same allGood bytesAt pastAt lengthAt times classified lines.judged bits ordered crossed lowestFrom shapeAt wallsOn crossingsOn wallsFrom
+table-holds = (refl, (refl, (refl, (refl, (refl, (refl, (refl, (refl, (refl, (refl, (refl, (refl, (refl, (refl, (refl, (refl, (refl, tt)))))))))))))))))

@@ -1,18 +1,17 @@
 -- The states one toggle at a time are the states by oddness.
 use Prim.Native.Nat.{ℕ, suc, _+_}
 use native.Mathlib.Omega.{arith}
-use mathlib.Core.Path.{_≡_, refl, sym, ap, _∙_}
+use mathlib.Core.Path.{_≡_, refl, sym, ap, _∙_, fun-ext}
 use mathlib.Core.Bool.{Bool, true, false, not, cond}
 use mathlib.Core.List.{List, [], _∷_, _++_}
 use lib.Dec.{eqb}
 use borrow.Author.Tests.{eq-eqb, ne-eqb}
-use Rattle.formula.specs.States.{State, outside, odd, times, toggledBy, flipped}
+use Rattle.formula.specs.States.{State, outside, odd, times, toggledBy, changedBy, flipped}
 use Rattle.formula.specs.Flips.{after}
 
 -- a state in which the shapes of a list were toggled: changed where the list has the shape an odd number of times
 abbrev changed : Bool → Bool → Bool
-changed true b = not b
-changed false b = b
+changed a b = cond a (not b) b
 
 changed-not : (a b : Bool) → changed a (not b) ≡ changed (not a) b
 changed-not true true = refl
@@ -31,6 +30,9 @@ after-changed (s ∷ ss) state t = after-changed ss (flipped s state) t ∙ one-
 changed-false : (a : Bool) → changed a false ≡ a
 changed-false true = refl
 changed-false false = refl
+
+pub after-changedBy : (ss : List ℕ) (state : State) → after state ss ≡ changedBy state ss
+after-changedBy ss state = fun-ext (λ t. after-changed ss state t)
 
 pub after-outside : (ss : List ℕ) (t : ℕ) → after outside ss t ≡ toggledBy ss t
 after-outside ss t = after-changed ss outside t ∙ changed-false _

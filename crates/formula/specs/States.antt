@@ -24,6 +24,10 @@ times s (t ∷ ts) = cond (eqb s t) 1 0 + times s ts
 abbrev pub toggledBy : List ℕ → State
 toggledBy ts s = odd (times s ts)
 
+-- The same from any states: an odd count changes a shape's.
+abbrev pub changedBy : State → List ℕ → State
+changedBy state ts s = cond (odd (times s ts)) (not (state s)) (state s)
+
 -- Shape s toggled once more.
 abbrev pub flipped : ℕ → State → State
 flipped s state t = cond (eqb t s) (not (state t)) (state t)

@@ -13,7 +13,7 @@ use Rattle.formula.specs.Formula.{Formula}
 use Rattle.sheet.specs.Sheet.{Sheets, reading}
 use Rattle.sheet_reading.specs.Reading.{Numbers, numbersOf, told}
 use Rattle.sheet.proofs.Numbered.{reading-numbered}
-use Rattle.lines.specs.Lines.{CrossingLists, AnswerLists, Wall}
+use Rattle.lines.specs.Lines.{LineLists, AnswerLists, Wall}
 use Rattle.lines.proofs.GivenLaws.{lists-unique}
 use Rattle.job_name.specs.Naming.{Stand, placing}
 use Rattle.job_name.proofs.Settled.{name-numbered}
@@ -134,7 +134,7 @@ foundry-given c order first second toggles a b d =
     told-given (λ o. runReport o .number) (λ k p. refl) (λ k p. refl) (part (λ v. length (v .final)) job)
     (part-numbered (λ v. length (v .final)) job (served-numbered c order first second toggles a b d))
 
-pub classify-given : (s : Sheets) (c : CrossingLists) (lent : AnswerLists) → classifyReport (part length (classifying s c lent)) .number ≡ 0 → (v : ℕ) × (part length (classifying s c lent) ≡ given v)
+pub classify-given : (s : Sheets) (c : LineLists) (lent : AnswerLists) → classifyReport (part length (classifying s c lent)) .number ≡ 0 → (v : ℕ) × (part length (classifying s c lent) ≡ given v)
 classify-given s c lent =
     let job = classifying s c lent in
     told-given (λ o. classifyReport o .number) (λ k p. refl) (λ k p. refl) (part length job) (part-numbered length job (classify-numbered s c lent))

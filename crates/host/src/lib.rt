@@ -10,7 +10,7 @@ ghost use Rattle.job_build.specs.Building.{building};
 ghost use Rattle.job_run.specs.Running.{running};
 ghost use Rattle.job_run.specs.Ran.{ranOf};
 ghost use Rattle.job_both.specs.Shared.{lists};
-ghost use Rattle.lines.specs.Lines.{crossingLists, answerLists};
+ghost use Rattle.lines.specs.Lines.{lineLists, answerLists};
 ghost use Rattle.job_classify.specs.Classifying.{classifying};
 ghost use Rattle.cross_answer.specs.Answer.{crossedOf, madeLists};
 ghost use Rattle.cross_line.specs.Crossing.{crossingShapes};
@@ -365,6 +365,7 @@ pub extern "C" fn kressedach_classify(
     fitted: bool,
     fittings: &[u8],
     sheet: &[u8],
+    rows: &[u8],
     lines: &[u32],
     positions: &[i32],
     shapes: &[u16],
@@ -374,13 +375,14 @@ pub extern "C" fn kressedach_classify(
     start_shapes: &mut [u16],
     end_shapes: &mut [u16],
 ) -> ClassifyReport
-    ensures { λ r. ⌜ ClassifyReported (classifying (sheetsOf fitted (now (fittings .entry)) (now (sheet .entry))) (crossingLists (now (lines .entry)) (now (positions .entry)) (now (shapes .entry))) (answerLists (now («wall_lines» .entry)) (now (starts .entry)) (now (ends .entry)) (now («start_shapes» .entry)) (now («end_shapes» .entry))))
+    ensures { λ r. ⌜ ClassifyReported (classifying (sheetsOf fitted (now (fittings .entry)) (now (sheet .entry))) (lineLists (now (rows .entry)) (now (lines .entry)) (now (positions .entry)) (now (shapes .entry))) (answerLists (now («wall_lines» .entry)) (now (starts .entry)) (now (ends .entry)) (now («start_shapes» .entry)) (now («end_shapes» .entry))))
         (answerLists (now («wall_lines» .entry)) (now (starts .entry)) (now (ends .entry)) (now («start_shapes» .entry)) (now («end_shapes» .entry))) r (answerLists (now («wall_lines» .exit)) (now (starts .exit)) (now (ends .exit)) (now («start_shapes» .exit)) (now («end_shapes» .exit))) ⌝ }
 {
     match job_classify::classify(
         fitted,
         fittings,
         sheet,
+        rows,
         lines,
         positions,
         shapes,

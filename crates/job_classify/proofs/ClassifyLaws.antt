@@ -1,15 +1,15 @@
 -- The promise of classifying, exit by exit.
-use Prim.Native.Nat.{ℕ}
+use Prim.Native.Nat.{ℕ, _<_}
 use native.Mathlib.Omega.{arith}
 use mathlib.Core.Path.{_≡_, sym, ap, _∙_, subst}
 use mathlib.Core.List.{List}
-use lib.ListN.{length, take}
+use lib.ListN.{length}
 use Rattle.outcome.specs.Outcome.{Outcome, given, refused, unfit}
-use Rattle.formula.specs.Formula.{Formula, postfix, Over}
+use Rattle.formula.specs.Formula.{Formula, leaf, node, Over}
 use Rattle.sheet.specs.Sheet.{Sheets, Sheet}
-use Rattle.lines.specs.Lines.{CrossingLists, AnswerLists, Wall, classified}
+use Rattle.lines.specs.Lines.{LineLists, AnswerLists, Wall, classified}
 use Rattle.line_walls.specs.Answers.{answered, LinesAnswered}
-use Rattle.line_walls.specs.Walls.{FewCodes}
+use Rattle.line_walls.specs.Blocks.{FewCodes, JobDone}
 use Rattle.line_walls.specs.declared.LinesAnswer.{LinesAnswer}
 use Rattle.line_walls.specs.declared.LinesAnswer.the-variants as lines
 use Rattle.accepting.specs.Accepting.{accepted}
@@ -21,11 +21,11 @@ use Rattle.job_classify.specs.Classified.{classifiedOf, Classified}
 use Rattle.job_classify.specs.declared.ClassifyAnswer.{ClassifyAnswer}
 use Rattle.job_classify.specs.declared.ClassifyAnswer.the-variants as classify
 
-pub classifying-accepted : (c : CrossingLists) (lent : AnswerLists) (s : Sheets) (x : Sheet) → accepted s ≡ given x → classifying s c lent ≡ classified (x .formula) (length (x .names)) c lent
+pub classifying-accepted : (c : LineLists) (lent : AnswerLists) (s : Sheets) (x : Sheet) → accepted s ≡ given x → classifying s c lent ≡ classified (x .formula) (length (x .names)) c lent
 unfolding classifying
 classifying-accepted c lent s x is = rw is
 
-module _ (s : Sheets) (codes : List ℕ) (c : CrossingLists) (lent : AnswerLists) (r : Acceptance) (says : SaysCoded s codes r) where
+module _ (s : Sheets) (codes : List ℕ) (c : LineLists) (lent : AnswerLists) (r : Acceptance) (says : SaysCoded s codes r) where
   pub sheet-refused : (number place : ℕ) → r ≡ acceptance.Refused number place → Classified (classifying s c lent) lent (classify.Refused number place) lent
   unfolding classifying
   sheet-refused number place is =
@@ -42,11 +42,11 @@ module _ (s : Sheets) (codes : List ℕ) (c : CrossingLists) (lent : AnswerLists
     stands : (x : Sheet) × Coded s x names n codes
     stands = rw is at says
 
-    module _ (a : LinesAnswer) (after : AnswerLists) (gives : (g : Formula) → take n codes ≡ postfix g → Over names g → LinesAnswered (classified g names c lent) lent a after) where
+    module _ (a : LinesAnswer) (after : AnswerLists) (gives : JobDone codes n names c lent a after) where
       given-walls : LinesAnswered (classified (stands .0 .formula) names c lent) lent a after
       given-walls =
           let st = stands .1 in
-          gives (stands .0 .formula) (st .codes-are) (subst (λ m. Over m (stands .0 .formula)) (sym (st .names-are)) (st .facts .own .over))
+          gives .answered-so (stands .0 .formula) (st .codes-are) (subst (λ m. Over m (stands .0 .formula)) (sym (st .names-are)) (st .facts .own .over))
 
       job-is : classifying s c lent ≡ classified (stands .0 .formula) names c lent
       job-is =
@@ -62,8 +62,23 @@ module _ (s : Sheets) (codes : List ℕ) (c : CrossingLists) (lent : AnswerLists
       pub lines-refused : (number place : ℕ) → a ≡ lines.Refused number place → Classified (classifying s c lent) lent (classify.Refused number place) after
       lines-refused number place is-refused = answer-as (classify.Refused number place) (ap answered (sym is-refused))
 
--- an accepted sheet's codes and names are few enough for the lines
+-- a formula has a leaf, so there is a name
+some-names : (n : ℕ) (f : Formula) → Over n f → 0 < n
+some-names n (leaf s) under = omega (arith, under)
+some-names n (node o l r) under = some-names n l (under .0)
+
+-- an accepted sheet's codes and names are few enough for the lines, and its codes are a formula's
 pub few-codes : (s : Sheets) (codes : List ℕ) (r : Acceptance) {names n : ℕ} → SaysCoded s codes r → length codes ≡ 2048 → r ≡ acceptance.Given names n → FewCodes codes n names
 few-codes s codes r says long is =
+    let x = (rw is at says) .0 in
     let st = (rw is at says) .1 in
-    record { sized = long; few-codes = omega (arith, st .few-codes); few-names = omega (arith, st .names-are, st .facts .own .good-names .few) }
+    let under = subst (λ m. Over m (x .formula)) (sym (st .names-are)) (st .facts .own .over) in
+    record {
+      sized = long;
+      few-codes = omega (arith, st .few-codes);
+      some-names = some-names _ (x .formula) under;
+      few-names = omega (arith, st .names-are, st .facts .own .good-names .few);
+      formula = x .formula;
+      are = st .codes-are;
+      over = under;
+    }

@@ -11,7 +11,7 @@ use Rattle.outcome.proofs.Known.{known-by}
 use Rattle.sheet.specs.Sheet.{Sheets, Sheet}
 use Rattle.accepting.specs.Accepting.{accepted}
 use Rattle.accepting.proofs.Accepted.{accepted-numbered}
-use Rattle.lines.specs.Lines.{CrossingLists, AnswerLists, Wall, classified}
+use Rattle.lines.specs.Lines.{LineLists, AnswerLists, Wall, classified}
 use Rattle.lines.proofs.GivenLaws.{lists-unique, lists-refused, lists-unfit}
 use Rattle.lines.proofs.Numbered.{classified-numbered}
 use Rattle.job_classify.specs.Classifying.{classifying}
@@ -55,12 +55,12 @@ module _ (o : Outcome (List Wall)) (lent : AnswerLists) where
     classify-unfits is = classifiedOf-same r (answer.Unfit number place) (c .answer ∙ ap (part length) is)
 
 -- No refusal has number 0.
-pub classify-numbered : (s : Sheets) (c : CrossingLists) (lent : AnswerLists) → Numbered (classifying s c lent)
+pub classify-numbered : (s : Sheets) (c : LineLists) (lent : AnswerLists) → Numbered (classifying s c lent)
 unfolding classifying
 classify-numbered s c lent = bind-numbered (accepted s) _ (accepted-numbered s) (λ (x : Sheet). classified-numbered (x .formula) (length (x .names)) c lent)
 
 -- A job that answers has accepted the sheet, and it is the sheet's formula that the lines are classified against.
-pub classified-accepted : (s : Sheets) (c : CrossingLists) (lent : AnswerLists) (ws : List Wall) → classifying s c lent ≡ given ws
+pub classified-accepted : (s : Sheets) (c : LineLists) (lent : AnswerLists) (ws : List Wall) → classifying s c lent ≡ given ws
     → (x : Sheet) × (accepted s ≡ given x) × (classified (x .formula) (length (x .names)) c lent ≡ given ws)
 unfolding classifying
 classified-accepted s c lent ws is = bind-given (accepted s) (λ (y : Sheet). classified (y .formula) (length (y .names)) c lent) ws is

@@ -1,7 +1,7 @@
 // The job of classifying lines: where there is metal, given to the caller's lists.
 use accepting::Acceptance;
 use line_walls::LinesAnswer;
-ghost use Rattle.lines.specs.Lines.{crossingLists, answerLists};
+ghost use Rattle.lines.specs.Lines.{lineLists, answerLists};
 ghost use Rattle.sheet.specs.Sheet.{sheetsOf};
 ghost use Rattle.job_classify.specs.Classifying.{classifying};
 ghost use Rattle.job_classify.specs.Classified.{Classified};
@@ -18,6 +18,7 @@ pub fn classify(
     fitted: bool,
     fittings: &[u8],
     sheet: &[u8],
+    rows: &[u8],
     lines: &[u32],
     positions: &[i32],
     shapes: &[u16],
@@ -27,7 +28,7 @@ pub fn classify(
     start_shapes: &mut [u16],
     end_shapes: &mut [u16],
 ) -> ClassifyAnswer
-    ensures { λ r. ⌜ Classified (classifying (sheetsOf fitted (now (fittings .entry)) (now (sheet .entry))) (crossingLists (now (lines .entry)) (now (positions .entry)) (now (shapes .entry))) (answerLists (now («wall_lines» .entry)) (now (starts .entry)) (now (ends .entry)) (now («start_shapes» .entry)) (now («end_shapes» .entry))))
+    ensures { λ r. ⌜ Classified (classifying (sheetsOf fitted (now (fittings .entry)) (now (sheet .entry))) (lineLists (now (rows .entry)) (now (lines .entry)) (now (positions .entry)) (now (shapes .entry))) (answerLists (now («wall_lines» .entry)) (now (starts .entry)) (now (ends .entry)) (now («start_shapes» .entry)) (now («end_shapes» .entry))))
         (answerLists (now («wall_lines» .entry)) (now (starts .entry)) (now (ends .entry)) (now («start_shapes» .entry)) (now («end_shapes» .entry))) r (answerLists (now («wall_lines» .exit)) (now (starts .exit)) (now (ends .exit)) (now («start_shapes» .exit)) (now («end_shapes» .exit))) ⌝ }
 {
     let mut codes = [0u16; 2048];
@@ -38,6 +39,7 @@ pub fn classify(
             &codes,
             n,
             names,
+            rows,
             lines,
             positions,
             shapes,

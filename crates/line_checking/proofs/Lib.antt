@@ -1,3 +1,5 @@
-pub mod States
-mod Laws
+mod ItemLaws
+mod GreatestLaws
+mod OrderLaws
 mod RoomLaws
+mod JudgeLaws

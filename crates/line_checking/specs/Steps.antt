@@ -1,61 +1,62 @@
--- What the pass keeps: a byte a shape, how many shapes are inside, and what is still to be asked.
-use Prim.Native.Nat.{ℕ, zero, suc, _+_, _-_, _≤_}
+-- What the judgement keeps: what is asked of one item, what is still to be asked, and the greatest of a list.
+use Prim.Native.Nat.{ℕ, zero, suc, _<_, _≤_}
 use mathlib.Core.Path.{_≡_}
-use mathlib.Core.Bool.{Bool, false, not, cond, _&&_}
+use mathlib.Core.Bool.{Bool, true, false, cond, _||_}
 use mathlib.Core.List.{List, [], _∷_}
 use mathlib.Core.Option.{Option, none, some}
-use lib.Dec.{eqb, ltb}
-use lib.IntN.{ℤ}
+use lib.Dec.{ltb}
+use lib.IntN.{ℤ, pos}
 use lib.ListN.{length, drop, getD}
-use Rattle.outcome.specs.Outcome.{Outcome, refused, _>>_, need}
-use Rattle.formula.specs.States.{State}
-use Rattle.lines.specs.Lines.{Crossing, crossings, falls, ordered, even, anyInside}
-use Rattle.lines.specs.Steps.{item, endsLine, evenFrom}
-
--- what one pass over lists of one length decides
-abbrev pub asked : ℕ → List Crossing → Outcome (Unit {0})
-asked names xs = ordered names none 0 xs >> even names xs
+use lib.Signed.{leZ}
+use Rattle.outcome.specs.Outcome.{Outcome, given}
+use Rattle.lines.specs.Lines.{Crossing, crossings, low, high, falls, strays, ordered}
+use Rattle.lines.specs.Steps.{item}
 
 -- the crossing before the i-th
 abbrev pub prior : List ℕ → List ℤ → List ℕ → ℕ → Option Crossing
 prior ls ps ss zero = none
 prior ls ps ss (suc i) = some (item ls ps ss i)
 
--- a line has ended before y: x, which stands before it, is on another one
-abbrev pub lineEnded : Option Crossing → Crossing → Bool
-lineEnded none y = false
-lineEnded (some x) y = endsLine x (y ∷ [])
+-- the i-th falls behind the one before it: its shape does not matter
+unfoldable pub fallsAt : List ℕ → List ℤ → ℕ → Bool
+fallsAt ls ps i = falls (prior ls ps [] i) (item ls ps [] i)
 
--- what the i-th shows of the one before it, after which n shapes are inside: that it falls behind, that a line ended uneven, or neither
-pub record Shown (ls : List ℕ) (ps : List ℤ) (n i number : ℕ) : Type 0 where
-  pub is : (ss : List ℕ) → number ≡ cond (falls (prior ls ps ss i) (item ls ps ss i)) 11 (cond (lineEnded (prior ls ps ss i) (item ls ps ss i) && ltb 0 n) 12 0)
+abbrev pub atMark : ℤ → Bool
+atMark p = leZ p low || leZ high p
 
--- 10 and 11 from the i-th on
-abbrev pub orderedFrom : ℕ → List ℕ → List ℤ → List ℕ → ℕ → Outcome (Unit {0})
-orderedFrom names ls ps ss i = ordered names (prior ls ps ss i) i (drop i (crossings ls ps ss))
+-- what is wrong with the i-th: 10, 15, 11, or 0 for nothing
+unfoldable pub wrongAt : ℕ → ℕ → List ℕ → List ℤ → List ℕ → ℕ → ℕ
+wrongAt names rows ls ps ss i = cond (ltb (getD ss i 0) names) (cond (strays rows (item ls ps ss i)) 15 (cond (fallsAt ls ps i) 11 0)) 10
 
--- the same, where the line before the i-th ended uneven
-abbrev pub askedUneven : ℕ → List ℕ → List ℤ → List ℕ → ℕ → Outcome (Unit {0})
-askedUneven names ls ps ss i = orderedFrom names ls ps ss i >> refused 12 (i - 1)
+-- 10, 15 and 11 from the i-th on
+unfoldable pub orderedFrom : ℕ → ℕ → List ℕ → List ℤ → List ℕ → ℕ → Outcome (Unit {0})
+orderedFrom names rows ls ps ss i = ordered names rows (prior ls ps ss i) i (drop i (crossings ls ps ss))
 
--- a byte for each shape: 0 is outside
-abbrev pub stateOf : List ℕ → State
-stateOf a s = not (eqb (getD a s 0) 0)
+-- the lists have one length
+pub record Alike (ls : List ℕ) (ps : List ℤ) (ss : List ℕ) : Type 0 where
+  pub positions : length ps ≡ length ls
+  pub shapes : length ss ≡ length ls
 
--- how many of the shapes below n are inside
-unfoldable pub ones : ℕ → State → ℕ
-ones zero state = 0
-ones (suc n) state = cond (state n) 1 0 + ones n state
+-- an item that is there, and not the first
+pub record Later (ls : List ℕ) (ps : List ℤ) (i : ℕ) : Type 0 where
+  pub after : 0 < i
+  pub line-there : i < length ls
+  pub place-there : i < length ps
 
--- a byte for each of 256 shapes, 0 or 1, of which n are 1
-pub record Held (bytes : List ℕ) (n : ℕ) : Type 0 where
-  pub sized : length bytes ≡ 256
-  pub small : (s : ℕ) → getD bytes s 0 ≤ 1
-  pub counted : n ≡ ones 256 (stateOf bytes)
+-- found is 0 only if the i-th neither falls nor is at an end mark
+pub record StrayAt (ls : List ℕ) (ps : List ℤ) (i found : ℕ) : Type 0 where
+  pub rises : found ≡ 0 → fallsAt ls ps i ≡ false
+  pub inner : found ≡ 0 → atMark (getD ps i (pos 0)) ≡ false
 
--- 12 from the i-th on, and first what the crossing before it left: whether a line ended there is seen only from the i-th
-unfoldable pub due : List ℕ → List ℤ → List ℕ → State → ℕ → Outcome (Unit {0})
-due ls ps ss state zero = evenFrom state 0 (crossings ls ps ss)
-due ls ps ss state (suc i) = do
-  need (not (endsLine (item ls ps ss i) (drop (suc i) (crossings ls ps ss)) && anyInside 256 state)) 12 i
-  evenFrom state (suc i) (drop (suc i) (crossings ls ps ss))
+-- the same of the first n, but for the first
+pub record NoneStray (ls : List ℕ) (ps : List ℤ) (n found : ℕ) : Type 0 where
+  pub each : (i : ℕ) → 0 < i → i < n → StrayAt ls ps i found
+
+-- r says that nothing is wrong with any item, and is not wrong then
+pub record AllFine (names rows : ℕ) (ls : List ℕ) (ps : List ℤ) (ss : List ℕ) (r : Bool) : Type 0 where
+  pub fine : r ≡ true → orderedFrom names rows ls ps ss 0 ≡ given tt
+
+-- of the first n entries m is the greatest, or 0
+pub record Greatest (xs : List ℕ) (n m : ℕ) : Type 0 where
+  pub above : (j : ℕ) → j < n → getD xs j 0 ≤ m
+  pub among : 0 < m → (j : ℕ) × (j < n) × (getD xs j 0 ≡ m)

@@ -1,23 +1,22 @@
-// Judges crossing lists in one pass, and the room in the answer lists: document 01's refusals 13, 10, 11, 12 and 9.
+// Judges start rows and crossing lists, and the room in the answer lists: refusals 13, 14, 10, 15, 11 and 9.
 ghost use mathlib.Core.Path.{_≡_};
-ghost use Prim.Native.Nat.{_<_, _≤_};
+ghost use Prim.Native.Nat.{_<_, max};
 ghost use lib.IntN.{pos};
 ghost use lib.ListN.{getD, length};
-ghost use lib.Signed.{ltZ};
-ghost use Rattle.formula.specs.States.{flipped};
-ghost use Rattle.lines.specs.Lines.{crossings, judged, roomy};
-ghost use Rattle.line_checking.specs.Verdicts.{verdict};
-ghost use Rattle.line_checking.specs.Steps.{asked, askedUneven, Shown, Held, stateOf};
+ghost use lib.Signed.{ltZ, leZ};
+ghost use Rattle.lines.specs.Lines.{lineLists, roomy};
+ghost use Rattle.line_checking.specs.Verdicts.{verdict, RowsJudged, ItemsJudged, Judged};
+ghost use Rattle.line_checking.specs.Steps.{fallsAt, atMark, wrongAt, Alike, Later, StrayAt, NoneStray, AllFine, Greatest};
 
 pub enum Verdict {
-    Fine,
+    // whether every line starts in air
+    Fine(bool),
     Refused(u8, usize),
 }
 
-fn shape_number(s: u16) -> usize
-    ensures { λ r. ⌜ r ≡ s ⌝ }
-{
-    s as usize
+// A position by value: a signed number of a slice is not compared with a constant.
+struct Place {
+    at: i32,
 }
 
 // The position at i is below that at j.
@@ -28,93 +27,221 @@ pub fn below(at: &[i32], i: usize, j: usize) -> bool
     at[i] < at[j]
 }
 
-// What the item at i shows of the one before it, with n shapes inside: 11, 12, or 0 for neither.
-// One function answers both, so that the two lines are compared once.
-fn shown(line: &[u32], at: &[i32], i: usize, n: usize) -> u8
-    requires { ⌜ (i < length (now line)) × (i < length (now at)) ⌝ }
-    ensures { λ r. ⌜ Shown (now (line .entry)) (now (at .entry)) n i r ⌝ }
+fn spot(at: &[i32], i: usize) -> Place
+    requires { ⌜ i < length (now at) ⌝ }
+    ensures { λ r. ⌜ r .at ≡ getD (now (at .entry)) i (pos 0) ⌝ }
 {
-    if i == 0 {
-        return 0;
+    let p = at[i];
+    Place { at: p }
+}
+
+fn not_beyond(a: Place, b: Place) -> bool
+    ensures { λ r. ⌜ r ≡ leZ (a .at) (b .at) ⌝ }
+{
+    a.at <= b.at
+}
+
+fn at_mark(p: Place) -> bool
+    ensures { λ r. ⌜ r ≡ atMark (p .at) ⌝ }
+{
+    if not_beyond(p, Place { at: -2147483648 }) {
+        return true;
     }
+    not_beyond(Place { at: 2147483647 }, p)
+}
+
+// The item at i, not the first, falls behind the one before it. The positions are compared in any case: then no branch is needed.
+fn falls_behind(line: &[u32], at: &[i32], i: usize) -> bool
+    requires { ⌜ Later (now line) (now at) i ⌝ }
+    ensures { λ r. ⌜ r ≡ fallsAt (now (line .entry)) (now (at .entry)) i ⌝ }
+{
     let l0 = line[i - 1];
     let l1 = line[i];
-    if l1 == l0 {
-        if below(at, i, i - 1) {
-            return 11;
-        }
-        return 0;
-    }
+    let down = below(at, i, i - 1);
     if l1 < l0 {
-        return 11;
+        return true;
     }
-    if 0 < n {
-        return 12;
+    if l1 == l0 {
+        return down;
+    }
+    false
+}
+
+// 1 if the item at i, not the first, falls behind the one before it or is at an end mark.
+fn stray(line: &[u32], at: &[i32], i: usize) -> u8
+    requires { ⌜ Later (now line) (now at) i ⌝ }
+    ensures { λ r. ⌜ StrayAt (now (line .entry)) (now (at .entry)) i r ⌝ }
+{
+    let p = spot(at, i);
+    let falls = falls_behind(line, at, i);
+    let mark = at_mark(p);
+    if falls {
+        return 1;
+    }
+    if mark {
+        return 1;
     }
     0
 }
 
-// Shape s crossed once, where n shapes are inside. No branch: which way it went would hang on the crossings.
-fn toggle(st: &mut [u8; 256], s: usize, n: usize) -> usize
-    requires { ⌜ (s < 256) × Held (now st) n ⌝ }
-    ensures { λ r. ⌜ Held (now (st .exit)) r × (stateOf (now (st .exit)) ≡ flipped s (stateOf (now (st .entry)))) ⌝ }
+fn larger_byte(a: u8, b: u8) -> u8
+    ensures { λ r. ⌜ r ≡ max a b ⌝ }
 {
-    let b = st[s];
-    st[s] = b ^ 1;
-    n + 1 - 2 * (b as usize)
+    if a < b {
+        return b;
+    }
+    a
 }
 
-// 10 and 11 from the item at j on; where none is met, 12 for the line that ended uneven before it.
-fn pass_uneven(names: usize, line: &[u32], at: &[i32], shape: &[u16], j: usize) -> Verdict
-    requires { ⌜ (length (now at) ≡ length (now line)) × (length (now shape) ≡ length (now line)) × (0 < j) × (j ≤ length (now line)) ⌝ }
-    ensures { λ r. ⌜ verdict r ≡ askedUneven names (now (line .entry)) (now (at .entry)) (now (shape .entry)) j ⌝ }
+fn larger_shape(a: u16, b: u16) -> u16
+    ensures { λ r. ⌜ r ≡ max a b ⌝ }
 {
-    let mut i = j;
+    if a < b {
+        return b;
+    }
+    a
+}
+
+// 0 if no item but perhaps the first falls or is at an end mark. No way out before the end: then many items are looked at at once.
+fn strays(line: &[u32], at: &[i32]) -> u8
+    requires { ⌜ length (now at) ≡ length (now line) ⌝ }
+    ensures { λ r. ⌜ NoneStray (now (line .entry)) (now (at .entry)) (length (now (line .entry))) r ⌝ }
+{
+    let mut found: u8 = 0;
+    let mut i: usize = 1;
     while i < line.len() {
-        if names <= shape_number(shape[i]) {
-            return Verdict::Refused(10, i);
-        }
-        if shown(line, at, i, 0) == 11 {
-            return Verdict::Refused(11, i);
-        }
+        let s = stray(line, at, i);
+        found = larger_byte(found, s);
         i += 1;
     }
-    Verdict::Refused(12, j - 1)
+    found
 }
 
-// 10 and 11 item by item, and 12 from the item after the line, which shows that it ended: one pass over the lists.
-fn pass(names: usize, line: &[u32], at: &[i32], shape: &[u16]) -> Verdict
-    requires { ⌜ (length (now at) ≡ length (now line)) × (length (now shape) ≡ length (now line)) × (names ≤ 256) ⌝ }
-    ensures { λ r. ⌜ verdict r ≡ asked names (crossings (now (line .entry)) (now (at .entry)) (now (shape .entry))) ⌝ }
+pub fn greatest_byte(bytes: &[u8]) -> u8
+    ensures { λ r. ⌜ Greatest (now (bytes .entry)) (length (now (bytes .entry))) r ⌝ }
 {
-    let mut st = [0u8; 256];
-    let mut n: usize = 0;
+    let mut most: u8 = 0;
+    let mut i: usize = 0;
+    while i < bytes.len() {
+        let b = bytes[i];
+        most = larger_byte(most, b);
+        i += 1;
+    }
+    most
+}
+
+fn greatest_shape(shapes: &[u16]) -> u16
+    ensures { λ r. ⌜ Greatest (now (shapes .entry)) (length (now (shapes .entry))) r ⌝ }
+{
+    let mut most: u16 = 0;
+    let mut i: usize = 0;
+    while i < shapes.len() {
+        let s = shapes[i];
+        most = larger_shape(most, s);
+        i += 1;
+    }
+    most
+}
+
+// 10, 15 or 11 for the item at i; 0 where nothing is wrong with it.
+fn wrong(names: usize, rows: usize, line: &[u32], at: &[i32], shape: &[u16], i: usize) -> u8
+    requires { ⌜ Alike (now line) (now at) (now shape) × (i < length (now line)) ⌝ }
+    ensures { λ r. ⌜ r ≡ wrongAt names rows (now (line .entry)) (now (at .entry)) (now (shape .entry)) i ⌝ }
+{
+    if names <= basics::wide(shape[i]) {
+        return 10;
+    }
+    if at_mark(spot(at, i)) {
+        return 15;
+    }
+    if rows <= basics::wide_long(line[i]) {
+        return 15;
+    }
+    if i == 0 {
+        return 0;
+    }
+    if falls_behind(line, at, i) {
+        return 11;
+    }
+    0
+}
+
+// Item by item: the first reason met. `air` is what is known of the rows.
+fn first_wrong(
+    names: usize,
+    rows: usize,
+    line: &[u32],
+    at: &[i32],
+    shape: &[u16],
+    air: bool,
+) -> Verdict
+    requires { ⌜ Alike (now line) (now at) (now shape) ⌝ }
+    ensures { λ r. ⌜ ItemsJudged names rows (now (line .entry)) (now (at .entry)) (now (shape .entry)) air r ⌝ }
+{
     let mut i: usize = 0;
     while i < line.len() {
-        let s = shape_number(shape[i]);
-        if names <= s {
-            return Verdict::Refused(10, i);
+        let number = wrong(names, rows, line, at, shape, i);
+        if number != 0 {
+            return Verdict::Refused(number, i);
         }
-        let m = shown(line, at, i, n);
-        if m == 11 {
-            return Verdict::Refused(11, i);
-        }
-        if m == 12 {
-            return pass_uneven(names, line, at, shape, i);
-        }
-        n = toggle(&mut st, s, n);
         i += 1;
     }
-    if n == 0 {
-        return Verdict::Fine;
-    }
-    Verdict::Refused(12, i - 1)
+    Verdict::Fine(air)
 }
 
-// The crossing lists: 13, then 10 and 11, then 12.
-pub fn judge(names: usize, line: &[u32], at: &[i32], shape: &[u16]) -> Verdict
-    requires { ⌜ names ≤ 256 ⌝ }
-    ensures { λ r. ⌜ verdict r ≡ judged names (now (line .entry)) (now (at .entry)) (now (shape .entry)) ⌝ }
+// Nothing is wrong with any item. A no may be wrong: then they are asked one by one.
+fn all_fine(names: usize, rows: usize, line: &[u32], at: &[i32], shape: &[u16]) -> bool
+    requires { ⌜ Alike (now line) (now at) (now shape) × (0 < length (now line)) ⌝ }
+    ensures { λ r. ⌜ AllFine names rows (now (line .entry)) (now (at .entry)) (now (shape .entry)) r ⌝ }
+{
+    if wrong(names, rows, line, at, shape, 0) != 0 {
+        return false;
+    }
+    if rows <= basics::wide_long(line[line.len() - 1]) {
+        return false;
+    }
+    if names <= basics::wide(greatest_shape(shape)) {
+        return false;
+    }
+    strays(line, at) == 0
+}
+
+// 10, 15 and 11 over all items.
+fn items(names: usize, rows: usize, line: &[u32], at: &[i32], shape: &[u16], air: bool) -> Verdict
+    requires { ⌜ Alike (now line) (now at) (now shape) ⌝ }
+    ensures { λ r. ⌜ ItemsJudged names rows (now (line .entry)) (now (at .entry)) (now (shape .entry)) air r ⌝ }
+{
+    if line.len() == 0 {
+        return Verdict::Fine(air);
+    }
+    if all_fine(names, rows, line, at, shape) {
+        return Verdict::Fine(air);
+    }
+    first_wrong(names, rows, line, at, shape, air)
+}
+
+// 14, and whether every line starts in air.
+fn judge_rows(names: usize, rows: &[u8]) -> Verdict
+    requires { ⌜ 0 < names ⌝ }
+    ensures { λ r. ⌜ RowsJudged names (now (rows .entry)) r ⌝ }
+{
+    if rows.len() % names != 0 {
+        return Verdict::Refused(14, 0);
+    }
+    if 4294967296 < rows.len() / names {
+        return Verdict::Refused(14, 0);
+    }
+    let most = greatest_byte(rows);
+    if 1 < most {
+        return Verdict::Refused(14, 0);
+    }
+    Verdict::Fine(most == 0)
+}
+
+// Start rows and crossing lists: 13, then 14, then 10, 15 and 11.
+pub fn judge(names: usize, rows: &[u8], line: &[u32], at: &[i32], shape: &[u16]) -> Verdict
+    requires { ⌜ 0 < names ⌝ }
+    ensures { λ r. ⌜ Judged names (lineLists (now (rows .entry)) (now (line .entry)) (now (at .entry)) (now (shape .entry))) r ⌝ }
 {
     if at.len() != line.len() {
         return Verdict::Refused(13, 0);
@@ -122,7 +249,11 @@ pub fn judge(names: usize, line: &[u32], at: &[i32], shape: &[u16]) -> Verdict
     if shape.len() != line.len() {
         return Verdict::Refused(13, 0);
     }
-    pass(names, line, at, shape)
+    let v = judge_rows(names, rows);
+    match v {
+        Verdict::Refused(number, place) => Verdict::Refused(number, place),
+        Verdict::Fine(air) => items(names, rows.len() / names, line, at, shape, air),
+    }
 }
 
 // 9: the answer lists line, start, end, start shape, end shape, of which each needs n entries.
@@ -151,5 +282,5 @@ pub fn room(
     if end_shapes < n {
         return Verdict::Refused(9, n);
     }
-    Verdict::Fine
+    Verdict::Fine(false)
 }

@@ -3,7 +3,7 @@ use Prim.Native.Nat.{ℕ, zero, suc, _+_, _-_, _≤_, _<_}
 use native.Mathlib.Decide.{decLt}
 use native.Mathlib.Nat.{not-suc-le-zero, le-of-suc-le-suc}
 use native.Mathlib.Omega.{arith}
-use mathlib.Core.Path.{_≡_, refl, sym, ap, _∙_, fun-ext}
+use mathlib.Core.Path.{_≡_, refl, sym, ap, _∙_}
 use mathlib.Core.Bool.{Bool, true, false, not, cond, _&&_, _||_, Bool·beq, true≢false, false≢true}
 use mathlib.Core.List.{List, [], _∷_, _++_}
 use mathlib.Core.Logic.{_⊎_, inl, inr}
@@ -15,17 +15,16 @@ use lib.Seq.{drop-cons, getD-take, getD-drop, take-length}
 use lib.Signed.{ltZ, leZ}
 use Rattle.formula.specs.States.{State, outside, flipped}
 use Rattle.formula.specs.Flips.{after}
-use Rattle.formula.proofs.States.{after-outside, after-append}
-use Rattle.lines.specs.Lines.{CrossingLists, crossingLists, Crossing, crossings, crossed, shortOf, asFarAs, stateBefore, stateAt, lowestFrom, shapeAt}
+use Rattle.formula.proofs.States.{after-changedBy, after-append}
+use Rattle.lines.specs.Lines.{LineLists, lineLists, Crossing, crossings, bits, ordered, judged, crossed, shortOf, asFarAs, stateBefore, stateAt, lowestFrom, shapeAt}
 use Rattle.lines.specs.Right.{LowestChanged}
 use Rattle.lines.specs.Steps.{item, groupEndsAt, Ascending}
-use Rattle.lines.proofs.Keys.{yes-leK, ltZ-not, total, trans, lt→no, lt→le}
+use Rattle.lines.proofs.Keys.{yes-leK, ltZ-not, lt→no, lt→le, leZ-self, lt-le, le-lt}
+use Rattle.lines.proofs.Items.{judged-ascending}
 use Rattle.lines.proofs.Lowest.{lowest-is}
-use Rattle.lines.proofs.WallsCover.{crossed-in, crossed-out}
-use Rattle.line_checking.specs.Steps.{stateOf}
-use Rattle.line_checking.proofs.States.{none-inside}
-use Rattle.line_shapes.specs.Groups.{aside, GroupStart, GroupEnd, FewShapes, Least, Tallied}
-use Rattle.line_shapes.proofs.TallyLaws.{least-lowest}
+use Rattle.lines.proofs.Crossings.{crossed-in, crossed-out}
+use Rattle.line_shapes.specs.Groups.{stateOf, aside, GroupStart, GroupEnd, GroupShape, FewShapes, Least, Tallied}
+use Rattle.line_shapes.proofs.TallyLaws.{none-inside, least-lowest}
 
 -- ---- the crossings that pass a test, by their index
 
@@ -80,25 +79,11 @@ more-pass t u (suc g) n (l ∷ ls) (p ∷ ps) (s ∷ ss) e f h same one none =
 
 -- ---- the order of accepted lists
 
-le-lt : (a b c : ℤ) → leZ a b ≡ true → ltZ b c ≡ true → ltZ a c ≡ true
-le-lt a b c e f = by (leZ c a) refl
-  where
-    by : (t : Bool) → leZ c a ≡ t → ltZ a c ≡ true
-    by true g = absurd (true≢false (sym (trans c a b g e) ∙ lt→no b c f))
-    by false g = ltZ-not a c ∙ ap not g
-
-lt-le : (a b c : ℤ) → ltZ a b ≡ true → leZ b c ≡ true → ltZ a c ≡ true
-lt-le a b c e f = by (leZ c a) refl
-  where
-    by : (t : Bool) → leZ c a ≡ t → ltZ a c ≡ true
-    by true g = absurd (true≢false (sym (trans b c a f g) ∙ lt→no a b e))
-    by false g = ltZ-not a c ∙ ap not g
-
 or-right : (a b : Bool) → a ≡ true → (not a || b) ≡ true → b ≡ true
 or-right true b e h = h
 or-right false b e h = absurd (false≢true e)
 
-module _ (c : CrossingLists) (up : Ascending c) where
+module _ (names : ℕ) (c : LineLists) (up : Ascending names c) where
   abbrev L : ℕ → ℕ
   L j = getD (c .lines) j 0
 
@@ -199,7 +184,17 @@ lowest-same (suc k) n a b p q h = by (Bool·beq (a n) (b n)) (Bool·beq (p n) (q
     by false true e ih = absurd (false≢true e)
     by false false e ih = refl
 
-module _ {ls : List ℕ} {ps : List ℤ} {ss : List ℕ} {i g : ℕ} (end : GroupEnd (crossingLists ls ps ss) i) (start : GroupStart ls ps i g) where
+pub group-end : (names : ℕ) (rows ls : List ℕ) (ps : List ℤ) (ss : List ℕ) (i : ℕ) → Ascending names (lineLists rows ls ps ss) → i < length ls → groupEndsAt ls ps i ≡ true → GroupEnd ls ps ss i
+group-end names rows ls ps ss i up h ends = record { inside = h; ends = ends; names = names; rows = rows; accepted = up }
+
+-- there are such lists
+two-at-five : GroupEnd (0 ∷ 0 ∷ []) (pos 5 ∷ pos 5 ∷ []) (1 ∷ 0 ∷ []) 1
+unfolding judged ordered bits
+two-at-five =
+    let c : LineLists = lineLists (1 ∷ 0 ∷ []) (0 ∷ 0 ∷ []) (pos 5 ∷ pos 5 ∷ []) (1 ∷ 0 ∷ []) in
+    group-end 2 (c .rows) (c .lines) (c .positions) (c .shapes) 1 (judged-ascending 2 (omega arith) c refl) (omega arith) refl
+
+module _ {ls : List ℕ} {ps : List ℤ} {ss : List ℕ} {i g : ℕ} (end : GroupEnd ls ps ss i) (begun : GroupStart ls ps i g) where
   abbrev xs : List Crossing
   xs = crossings ls ps ss
 
@@ -214,32 +209,35 @@ module _ {ls : List ℕ} {ps : List ℤ} {ss : List ℕ} {i g : ℕ} (end : Grou
 
   crossed-group : crossed (asFarAs l p) xs ≡ crossed (shortOf l p) xs ++ group
   crossed-group =
-      let c : CrossingLists = crossingLists ls ps ss in
+      let names : ℕ = end .names in
+      let c : LineLists = lineLists (end .rows) ls ps ss in
       let up = end .accepted in
-      let top : g + (i + 1 - g) ≡ i + 1 = omega (arith, start .within) in
+      let top : g + (i + 1 - g) ≡ i + 1 = omega (arith, begun .within) in
       more-pass (asFarAs l p) (shortOf l p) g (i + 1 - g) ls ps ss (up .positions) (up .shapes) (omega (arith, end .inside))
-      (early c up i (end .inside) g start) (λ j lo hi. here c up i (end .inside) g start j lo (omega arith)) (λ j lo hi. late c up i (end .inside) (end .ends) j (omega arith) hi)
+      (early names c up i (end .inside) g begun) (λ j lo hi. here names c up i (end .inside) g begun j lo (omega arith)) (λ j lo hi. late names c up i (end .inside) (end .ends) j (omega arith) hi)
 
-  group-lowest : shapeAt xs l p ≡ lowestFrom 256 0 outside (after outside group)
+  -- what is inside at the line's start makes no difference
+  group-lowest : (start : ℕ → State) → shapeAt start xs l p ≡ lowestFrom 256 0 outside (after outside group)
   unfolding shapeAt
-  group-lowest = lowest-same 256 0 before beyond outside (after outside group) (λ t. ap (Bool·beq (before t)) (now t) ∙ turned-alike group before outside t (before t) false (beq-self (before t)))
+  group-lowest start = lowest-same 256 0 before beyond outside (after outside group) (λ t. ap (Bool·beq (before t)) (now t) ∙ turned-alike group before outside t (before t) false (beq-self (before t)))
     where
       before : State
-      before = stateBefore l p xs
+      before = stateBefore start xs l p
 
       beyond : State
-      beyond = stateAt l p xs
+      beyond = stateAt start xs l p
 
       now : (t : ℕ) → beyond t ≡ after before group t
       now t =
-          sym (after-outside (crossed (asFarAs l p) xs) t) ∙ ap (λ (us : List ℕ). after outside us t) crossed-group
-          ∙ after-append (crossed (shortOf l p) xs) group outside t ∙ ap (λ (u : State). after u group t) (fun-ext (after-outside (crossed (shortOf l p) xs)))
+          ap (λ (u : State). u t) (sym (after-changedBy (crossed (asFarAs l p) xs) (start l))) ∙ ap (λ (us : List ℕ). after (start l) us t) crossed-group
+          ∙ after-append (crossed (shortOf l p) xs) group (start l) t ∙ ap (λ (u : State). after u group t) (after-changedBy (crossed (shortOf l p) xs) (start l))
 
-  pub group-one : g ≡ i → getD ss g 0 ≡ shapeAt xs l p
+  pub group-one : g ≡ i → GroupShape ls ps ss i (getD ss g 0)
   unfolding after
-  group-one same =
-      sym (group-lowest ∙ ap (λ (us : List ℕ). lowestFrom 256 0 outside (after outside us)) only
-      ∙ lowest-is outside (after outside (s ∷ [])) s (omega (arith, end .accepted .few i (end .inside), ap (λ (k : ℕ). getD ss k 0) same)) alone)
+  group-one same = record {
+    is = λ start. sym (group-lowest start ∙ ap (λ (us : List ℕ). lowestFrom 256 0 outside (after outside us)) only
+        ∙ lowest-is outside (after outside (s ∷ [])) s (omega (arith, end .accepted .few i (end .inside), ap (λ (k : ℕ). getD ss k 0) same)) alone);
+  }
     where
       s : ℕ
       s = getD ss g 0
@@ -256,10 +254,10 @@ module _ {ls : List ℕ} {ps : List ℤ} {ss : List ℕ} {i g : ℕ} (end : Grou
   few-group = record { few = λ j h. by j (omega (arith, length-take (i + 1 - g) (drop g ss), h)) }
     where
       by : (j : ℕ) → j < i + 1 - g → getD group j 0 < 256
-      by j h = rw (getD-take (i + 1 - g) (drop g ss) j 0 h, getD-drop g ss j 0) (end .accepted .few (g + j) (omega (arith, end .inside, start .within)))
+      by j h = rw (getD-take (i + 1 - g) (drop g ss) j 0 h, getD-drop g ss j 0) (end .accepted .few (g + j) (omega (arith, end .inside, begun .within)))
 
-  pub group-many : {odd : List ℕ} {r : ℕ} → Tallied group (length group) (replicate 256 0) odd → Least group (length group) (stateOf odd) r → r ≡ shapeAt xs l p
-  group-many {odd} t least = sym (group-lowest ∙ ap (lowestFrom 256 0 outside) (sym states) ∙ least-lowest states few-group least)
+  pub group-many : {odd : List ℕ} {r : ℕ} → Tallied group (length group) (replicate 256 0) odd → Least group (length group) (stateOf odd) r → GroupShape ls ps ss i r
+  group-many {odd} t least = record { is = λ start. sym (group-lowest start ∙ ap (lowestFrom 256 0 outside) (sym states) ∙ least-lowest states few-group least) }
     where
       states : stateOf odd ≡ after outside group
       states = t .states ∙ rw (none-inside 256, take-length group)
@@ -271,14 +269,7 @@ pub record Back (ls : List ℕ) (ps : List ℤ) (i g : ℕ) : Type 0 where
   pub together : (k : ℕ) → g ≤ k → k ≤ i → aside ls ps k i ≡ false
 
 pub back-start : {ls : List ℕ} {ps : List ℤ} {i : ℕ} → Back ls ps i i
-back-start {ls} {ps} {i} = record { within = omega arith; together = λ k lo hi. let z : k ≡ i = omega arith in rw (z, eq-eqb (getD ls i 0) (getD ls i 0) refl, ltZ-not (getD ps i (pos 0)) (getD ps i (pos 0)), self (getD ps i (pos 0))) }
-  where
-    self : (p : ℤ) → leZ p p ≡ true
-    self p = by (leZ p p) refl
-      where
-        by : (t : Bool) → leZ p p ≡ t → leZ p p ≡ true
-        by true e = e
-        by false e = total p p e
+back-start {ls} {ps} {i} = record { within = omega arith; together = λ k lo hi. let z : k ≡ i = omega arith in rw (z, eq-eqb (getD ls i 0) (getD ls i 0) refl, ltZ-not (getD ps i (pos 0)) (getD ps i (pos 0)), leZ-self (getD ps i (pos 0))) }
 
 module _ {ls : List ℕ} {ps : List ℤ} {i g : ℕ} (b : Back ls ps i g) where
   pub back-end : g ≤ 0 → GroupStart ls ps i g

@@ -1,2 +1,2 @@
-mod GroupLaws
+pub mod GroupLaws
 mod TallyLaws

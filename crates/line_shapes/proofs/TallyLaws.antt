@@ -1,26 +1,40 @@
 -- A byte a shape turned at each crossing, and the least that is on.
-use Prim.Native.Nat.{ℕ, suc, _+_, _≤_, _<_}
+use Prim.Native.Nat.{ℕ, zero, suc, _+_, _≤_, _<_}
 use native.Mathlib.Decide.{decLt}
 use native.Mathlib.Numerals.{add-one}
 use native.Mathlib.Omega.{arith}
-use mathlib.Core.Path.{_≡_, refl, sym, ap, _∙_, fun-ext}
-use mathlib.Core.Bool.{Bool, true, false, cond, _&&_, true≢false, false≢true}
+use mathlib.Core.Path.{_≡_, refl, sym, ap, _∙_, fun-ext, subst}
+use mathlib.Core.Bool.{Bool, true, false, not, cond, _&&_, true≢false, false≢true}
 use mathlib.Core.List.{List, [], _∷_}
 use mathlib.Core.Logic.{_⊎_, inl, inr}
 use borrow.Author.Tests.{eq-eqb, ne-eqb, eqb-true, eqb-false, lt-ltb, le-ltb, ltb-true, ltb-false}
 use lib.Dec.{eqb, ltb}
-use lib.ListN.{length, getD, set, take, length-set}
-use lib.Seq.{take-suc, take-all, take-length}
+use lib.ListN.{length, getD, set, take, replicate, length-set}
+use lib.Seq.{getD-set-same, getD-set-other, take-suc, take-all, take-length}
 use Rattle.formula.specs.States.{State, outside, flipped}
 use Rattle.formula.specs.Flips.{after}
-use Rattle.formula.proofs.States.{flipped-other, after-snoc}
+use Rattle.formula.proofs.States.{flipped-here, flipped-other, after-snoc}
 use Rattle.lines.specs.Lines.{lowestFrom}
 use Rattle.lines.proofs.Lowest.{lowest-is, lowest-none}
-use Rattle.line_checking.specs.Steps.{stateOf}
-use Rattle.line_checking.proofs.States.{flipped-set}
-use Rattle.line_shapes.specs.Groups.{Flipped, Tallied, FewShapes, Least}
+use Rattle.line_shapes.specs.Groups.{stateOf, Flipped, Tallied, FewShapes, Least}
 
 -- ---- the bytes
+
+-- a store of the other state
+flipped-set : (a : List ℕ) (s v : ℕ) → s < length a → not (eqb v 0) ≡ not (stateOf a s) → stateOf (set a s v) ≡ flipped s (stateOf a)
+flipped-set a s v h e = fun-ext (λ t. go t (eqb t s) refl)
+  where
+    go : (t : ℕ) (b : Bool) → eqb t s ≡ b → stateOf (set a s v) t ≡ flipped s (stateOf a) t
+    go t true q = subst (λ (u : ℕ). stateOf (set a s v) u ≡ flipped s (stateOf a) u) (sym (eqb-true t s q)) (rw (getD-set-same a s v 0 h) (e ∙ sym (flipped-here s (stateOf a))))
+    go t false q = rw (getD-set-other a s t v 0 (eqb-false t s q), q)
+
+zero-at : (n s : ℕ) → _≡_ {A = ℕ} (getD (replicate n 0) s 0) 0
+zero-at zero s = refl
+zero-at (suc n) zero = refl
+zero-at (suc n) (suc s) = zero-at n s
+
+pub none-inside : (n : ℕ) → stateOf (replicate n 0) ≡ outside
+none-inside n = fun-ext (λ s. ap (λ (k : ℕ). not (eqb k 0)) (zero-at n s))
 
 pub turned-on : {odd : List ℕ} {s : ℕ} → s < 256 → length odd ≡ 256 → getD odd s 0 ≡ 0 → Flipped s odd (set odd s 1)
 turned-on {odd} {s} h long off = record { sized = simp length-set long; states = flipped-set odd s 1 (omega arith) (rw (eq-eqb _ _ off)) }

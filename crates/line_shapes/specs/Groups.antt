@@ -10,9 +10,12 @@ use lib.ListN.{getD, length, take}
 use lib.Signed.{ltZ}
 use Rattle.formula.specs.States.{State, flipped}
 use Rattle.formula.specs.Flips.{after}
-use Rattle.lines.specs.Lines.{CrossingLists}
+use Rattle.lines.specs.Lines.{lineLists, crossings, shapeAt}
 use Rattle.lines.specs.Steps.{groupEndsAt, Ascending}
-use Rattle.line_checking.specs.Steps.{stateOf}
+
+-- a byte a shape: 0 is outside
+abbrev pub stateOf : List ℕ → State
+stateOf bytes s = not (eqb (getD bytes s 0) 0)
 
 -- crossing k is on another line than crossing i, or short of it
 abbrev pub aside : List ℕ → List ℤ → ℕ → ℕ → Bool
@@ -24,11 +27,17 @@ pub record GroupStart (ls : List ℕ) (ps : List ℤ) (i g : ℕ) : Type 0 where
   pub together : (k : ℕ) → g ≤ k → k ≤ i → aside ls ps k i ≡ false
   pub first : 0 < g → aside ls ps (g - 1) i ≡ true
 
--- crossing i is the last that acts at its position, in accepted lists
-pub record GroupEnd (c : CrossingLists) (i : ℕ) : Type 0 where
-  pub inside : i < length (c .lines)
-  pub ends : groupEndsAt (c .lines) (c .positions) i ≡ true
-  pub accepted : Ascending c
+-- crossing i is the last that acts at its position, in lists that are accepted for some names and start rows
+pub record GroupEnd (ls : List ℕ) (ps : List ℤ) (ss : List ℕ) (i : ℕ) : Type 0 where
+  pub inside : i < length ls
+  pub ends : groupEndsAt ls ps i ≡ true
+  pub names : ℕ
+  pub rows : List ℕ
+  pub accepted : Ascending names (lineLists rows ls ps ss)
+
+-- r is the shape at the position of crossing i, whatever is inside at the lines' starts
+pub record GroupShape (ls : List ℕ) (ps : List ℤ) (ss : List ℕ) (i r : ℕ) : Type 0 where
+  pub is : (start : ℕ → State) → r ≡ shapeAt start (crossings ls ps ss) (getD ls i 0) (getD ps i (pos 0))
 
 pub record FewShapes (shapes : List ℕ) : Type 0 where
   pub few : (j : ℕ) → j < length shapes → getD shapes j 0 < 256

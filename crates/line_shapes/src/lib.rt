@@ -1,13 +1,10 @@
 // The shape at a position of a line: the lowest that the crossings there change.
 ghost use mathlib.Core.Path.{_≡_};
 ghost use mathlib.Core.Bool.{cond, _&&_};
-ghost use Prim.Native.Nat.{ℕ, _<_};
+ghost use Prim.Native.Nat.{_<_};
 ghost use lib.Dec.{ltb};
-ghost use lib.IntN.{pos};
-ghost use lib.ListN.{getD, length};
-ghost use Rattle.lines.specs.Lines.{crossingLists, entries, shapeAt};
-ghost use Rattle.line_checking.specs.Steps.{stateOf};
-ghost use Rattle.line_shapes.specs.Groups.{GroupStart, Flipped, Tallied, FewShapes, Least, GroupEnd};
+ghost use lib.ListN.{length};
+ghost use Rattle.line_shapes.specs.Groups.{stateOf, GroupStart, Flipped, Tallied, FewShapes, Least, GroupEnd, GroupShape};
 
 // The first of the crossings that act together with the one at i.
 fn group_start(line: &[u32], at: &[i32], i: usize) -> usize
@@ -47,7 +44,7 @@ fn tally(shapes: &[u16], odd: &mut [u8; 256])
 {
     let mut j: usize = 0;
     while j < shapes.len() {
-        let s = line_strips::index(shapes[j]);
+        let s = basics::wide(shapes[j]);
         turn_byte(odd, s);
         j += 1;
     }
@@ -58,7 +55,7 @@ fn lesser(odd: &[u8; 256], s: u16, r: u16) -> u16
     requires { ⌜ (s < 256) × (length (now odd) ≡ 256) ⌝ }
     ensures { λ q. ⌜ q ≡ cond (stateOf (now (odd .entry)) s && ltb s r) s r ⌝ }
 {
-    let k = line_strips::index(s);
+    let k = basics::wide(s);
     if odd[k] == 0 {
         return r;
     }
@@ -85,8 +82,8 @@ fn least(shapes: &[u16], odd: &[u8; 256]) -> u16
 
 // The shape at the position of the crossing at i, which is the last there. Only a position with several crossings needs a byte a shape.
 pub fn group_shape(line: &[u32], at: &[i32], shape: &[u16], i: usize) -> u16
-    requires { ⌜ GroupEnd (crossingLists (now line) (now at) (now shape)) i ⌝ }
-    ensures { λ r. ⌜ r ≡ shapeAt (entries (crossingLists (now (line .entry)) (now (at .entry)) (now (shape .entry)))) (getD (now (line .entry)) i 0) (getD (now (at .entry)) i (pos 0)) ⌝ }
+    requires { ⌜ GroupEnd (now line) (now at) (now shape) i ⌝ }
+    ensures { λ r. ⌜ GroupShape (now (line .entry)) (now (at .entry)) (now (shape .entry)) i r ⌝ }
 {
     let g = group_start(line, at, i);
     if g == i {

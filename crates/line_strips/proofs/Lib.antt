@@ -1,4 +1,7 @@
 pub mod Digits
+pub mod Spans
 pub mod Stores
-pub mod Fills
+pub mod Turns
+pub mod Lays
+pub mod Opens
 pub mod Blocks

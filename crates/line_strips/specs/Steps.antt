@@ -1,48 +1,201 @@
--- What the steps of a block keep: the shapes' rows word by word.
-use Prim.Native.Nat.{ℕ, _+_, _-_, _*_, _/_, _%_, _^_, _≤_, _<_}
+-- What a fill needs and gives, and what its steps keep: the shapes' rows word by word.
+use Prim.Native.Nat.{ℕ, zero, suc, _+_, _-_, _*_, _/_, _≤_, _<_}
 use mathlib.Core.Path.{_≡_}
-use mathlib.Core.Bool.{false}
-use mathlib.Core.List.{List}
-use lib.ListN.{length, take}
-use Rattle.formula.specs.Flips.{after}
-use Rattle.line_strips.specs.Strips.{columns, on, Stand}
+use mathlib.Core.Bool.{Bool, true, false, not, _&&_, cond}
+use mathlib.Core.List.{List, []}
+use lib.Dec.{eqb, ltb, leb}
+use lib.ListN.{length, getD}
+use Rattle.formula.specs.States.{State}
+use Rattle.lines.specs.Lines.{LineLists, lineLists}
+use Rattle.line_strips.specs.Words.{bit}
+use Rattle.line_strips.specs.Strips.{wide, columns, on, planned, turnsAt, lastAt, entering, leaving, Filled}
 
--- All ones, shifted: off below bit j and on from there.
-abbrev pub mask : ℕ → ℕ
-mask j = (2 ^ 64 - 1) * 2 ^ j % 2 ^ 64
+-- ---- a fill
 
--- Every column of word k stands for the crossings done.
-pub record Level (names : ℕ) (rows : List ℕ) (k : ℕ) (done : List ℕ) : Type 0 where
-  pub is : (b : ℕ) → b < 64 → Stand names rows (64 * k + b) done
+-- Column j can turn its shapes: a start has a whole row of zeros and ones, a crossing has one of the names.
+pub record Turnable (names : ℕ) (rows shapes cols starts : List ℕ) (a j : ℕ) : Type 0 where
+  pub row : getD cols j 0 ≡ 65535 → getD starts j 0 * names + names ≤ length rows
+  pub bytes : getD cols j 0 ≡ 65535 → (s : ℕ) → s < names → getD rows (getD starts j 0 * names + s) 0 ≤ 1
+  pub there : (getD cols j 0 ≡ 65535 → ⊥) → a + getD cols j 0 < length shapes
+  pub named : (getD cols j 0 ≡ 65535 → ⊥) → getD shapes (a + getD cols j 0) 0 < names
+
+-- So can the first n columns of the block.
+pub record Legible (names : ℕ) (rows shapes cols starts : List ℕ) (a n : ℕ) : Type 0 where
+  pub few : names ≤ 256
+  pub colsLong : length cols ≡ columns
+  pub startsLong : length starts ≡ columns
+  pub most : n ≤ columns
+  pub column : (j : ℕ) → j < n → Turnable names rows shapes cols starts a j
+
+-- What a fill needs.
+pub record Fillable (names : ℕ) (rows shapes cols starts lasts : List ℕ) (a n : ℕ) (words : List ℕ) : Type 0 where
+  pub legible : Legible names rows shapes cols starts a n
+  pub lastsLong : length lasts ≡ wide
+  pub some : 1 ≤ n
+  pub room : 256 * wide ≤ length words
+
+-- The states before the block's first column: where its line goes on, those after the last column of the block before, else all outside.
+pub record Entered (names : ℕ) (goesOn : Bool) (words : List ℕ) (first : State) : Type 0 where
+  pub kept : goesOn ≡ true → (s : ℕ) → s < names → on words s (columns - 1) ≡ first s
+  pub none : goesOn ≡ false → (s : ℕ) → s < names → first s ≡ false
+
+-- What a fill gives.
+pub record Fills (names : ℕ) (rows shapes cols starts lasts : List ℕ) (a n : ℕ) (goesOn : Bool) (words words′ : List ℕ) : Type 0 where
+  pub long : length words′ ≡ length words
+  pub filled : (c : LineLists) (first : State) → c .rows ≡ rows → c .shapes ≡ shapes → Entered names goesOn words first → Filled names (turnsAt names c a (planned cols starts lasts)) (lastAt (planned cols starts lasts)) first words′ n
+
+-- ---- its steps
+
+-- The shapes that turn at a column, by the lists that say so.
+unfoldable pub turnsOf : ℕ → List ℕ → List ℕ → List ℕ → List ℕ → ℕ → ℕ → State
+turnsOf names rows shapes cols starts a c = turnsAt names (lineLists rows [] [] shapes) a (planned cols starts []) c
+
+-- Of a row of bytes, the first e: those that are 1.
+unfoldable pub insideTo : List ℕ → ℕ → State
+insideTo row e s = ltb s e && eqb (getD row s 0) 1
+
+-- A start row can turn its shapes.
+pub record Bytes (row : List ℕ) : Type 0 where
+  pub few : length row ≤ 256
+  pub bits : (s : ℕ) → s < length row → getD row s 0 ≤ 1
+
+-- A yes says that all bytes are zeros.
+pub record Quiet (bytes : List ℕ) (told : Bool) : Type 0 where
+  pub zeros : told ≡ true → (i : ℕ) → i < length bytes → getD bytes i 0 ≡ 0
+
+-- From i on, d of them: none.
+unfoldable pub none : (ℕ → Bool) → ℕ → ℕ → Bool
+none f i zero = true
+none f i (suc d) = not (f i) && none f (suc i) d
+
+-- A word whose bits are on from j on.
+pub record From (w j : ℕ) : Type 0 where
+  pub is : (b : ℕ) → b < 64 → bit w b ≡ leb j b
+
+pub record Moved (w r : ℕ) : Type 0 where
+  pub is : (j : ℕ) → From w j → From r (j + 1)
+
+-- A word whose bits are on from j to the first one that is on in w, or to the last.
+pub record Span (w j m : ℕ) : Type 0 where
+  pub is : (b : ℕ) → b < 64 → bit m b ≡ (leb j b && none (bit w) j (b - j))
+
+-- Whatever bit j it is from which those of `from` are on.
+pub record Spans (w from m : ℕ) : Type 0 where
+  pub is : (j : ℕ) → From from j → Span w j m
+
+-- The last bit that is on is the one before r; with r 0 nothing is said.
+pub record Since (w r : ℕ) : Type 0 where
+  pub most : r ≤ 64
+  pub last : 0 < r → bit w (r - 1) ≡ true
+  pub none : 0 < r → (b : ℕ) → r ≤ b → b < 64 → bit w b ≡ false
+
+-- No word but k changes, of the names' rows.
+pub record Apart (names k : ℕ) (words words′ : List ℕ) : Type 0 where
+  pub long : length words′ ≡ length words
+  pub other : (s j : ℕ) → s < names → j < columns → (j / 64 ≡ k → ⊥) → on words′ s j ≡ on words s j
+
+-- Word k of the rows of some shapes is flipped at the bits of m.
+pub record Flips (names : ℕ) (turns : State) (k m : ℕ) (words words′ : List ℕ) : Type 0 where
+  pub apart : Apart names k words words′
+  pub here : (s b : ℕ) → s < names → b < 64 → on words′ s (64 * k + b) ≡ cond (turns s && bit m b) (not (on words s (64 * k + b))) (on words s (64 * k + b))
+
+-- The same from bit j to the first one that is on in w, or to the last.
+pub record SpanTurned (names : ℕ) (turns : State) (k j w : ℕ) (words words′ : List ℕ) : Type 0 where
+  pub apart : Apart names k words words′
+  pub here : (s b : ℕ) → s < names → b < 64 → on words′ s (64 * k + b) ≡ cond (turns s && (leb j b && none (bit w) j (b - j))) (not (on words s (64 * k + b))) (on words s (64 * k + b))
+
+-- Whatever bit j it is from which those of `from` are on.
+pub record SpanFlips (names : ℕ) (turns : State) (k w from : ℕ) (words words′ : List ℕ) : Type 0 where
+  pub is : (j : ℕ) → From from j → SpanTurned names turns k j w words words′
+
+-- A start row that was turned up to byte a is now turned up to byte e.
+pub record GoesOn (row : List ℕ) (k m a e : ℕ) (words words′ : List ℕ) : Type 0 where
+  pub is : (before : List ℕ) → Flips (length row) (insideTo row a) k m before words → Flips (length row) (insideTo row e) k m before words′
 
 -- The columns from m on are off.
-pub record Blank (names : ℕ) (rows : List ℕ) (m : ℕ) : Type 0 where
-  pub off : (s j : ℕ) → s < names → m ≤ j → j < columns → on rows s j ≡ false
+pub record Blank (names m : ℕ) (words : List ℕ) : Type 0 where
+  pub off : (s j : ℕ) → s < names → m ≤ j → j < columns → on words s j ≡ false
 
--- No other word than k changes.
-pub record Apart (rows rows′ : List ℕ) (k : ℕ) : Type 0 where
-  pub long : length rows′ ≡ length rows
-  pub other : (s j : ℕ) → j < columns → (j / 64 ≡ k → ⊥) → on rows′ s j ≡ on rows s j
+-- The columns before m are right, of a block of n.
+pub record Right (names : ℕ) (turns : ℕ → State) (last : ℕ → Bool) (first : State) (n m : ℕ) (words : List ℕ) : Type 0 where
+  pub is : (s j : ℕ) → s < names → j < n → j < m → on words s j ≡ leaving turns last first j s
 
--- Word k of the rows after crossings: its bit b has seen `seen b`.
-pub record Seen (rows rows′ : List ℕ) (k : ℕ) (seen : ℕ → List ℕ) : Type 0 where
-  pub apart : Apart rows rows′ k
-  pub here : (s b : ℕ) → b < 64 → on rows′ s (64 * k + b) ≡ after (λ t. on rows t (64 * k + b)) (seen b) s
+-- Word k when its first j columns have turned their shapes, each up to its line's last column.
+pub record Laid (names : ℕ) (turns : ℕ → State) (last : ℕ → Bool) (first : State) (k j : ℕ) (words : List ℕ) : Type 0 where
+  pub done : (s b : ℕ) → s < names → b < j → on words s (64 * k + b) ≡ leaving turns last first (64 * k + b) s
+  pub ahead : (s b : ℕ) → s < names → j ≤ b → b < 64 → on words s (64 * k + b) ≡ (none last (64 * k + j) (b - j) && entering turns last first (64 * k + j) s)
 
--- Each bit has seen the crossings up to its own.
-pub record Turned (rows rows′ : List ℕ) (k : ℕ) (crossings : List ℕ) : Type 0 where
-  pub is : Seen rows rows′ k (λ b. take (b + 1) crossings)
+-- From j of its columns to e of them.
+pub record Lays (names : ℕ) (turns : ℕ → State) (last : ℕ → Bool) (k j e : ℕ) (words words′ : List ℕ) : Type 0 where
+  pub apart : Apart names k words words′
+  pub laid : (first : State) → Laid names turns last first k j words → Laid names turns last first k e words′
 
--- Each bit has seen all of them.
-pub record Replayed (rows rows′ : List ℕ) (k : ℕ) (crossings : List ℕ) : Type 0 where
-  pub is : Seen rows rows′ k (λ b. crossings)
+-- To more of them, m at most.
+pub record LaysSome (names : ℕ) (turns : ℕ → State) (last : ℕ → Bool) (k j m e : ℕ) (words words′ : List ℕ) : Type 0 where
+  pub more : j < e
+  pub most : e ≤ m
+  pub lays : Lays names turns last k j e words words′
 
--- Word `to` of the first n rows is the last column of word k throughout.
-pub record Carried (n : ℕ) (rows rows′ : List ℕ) (k to : ℕ) : Type 0 where
-  pub apart : Apart rows rows′ to
-  pub here : (s b : ℕ) → s < n → b < 64 → on rows′ s (64 * to + b) ≡ on rows s (64 * k + 63)
-  pub left : (s j : ℕ) → j < columns → n ≤ s → on rows′ s j ≡ on rows s j
+-- All are outside before column c, and no column from there to e is its line's last.
+pub record Within (names : ℕ) (turns : ℕ → State) (last : ℕ → Bool) (first : State) (c e : ℕ) : Type 0 where
+  pub begins : (s : ℕ) → s < names → entering turns last first c s ≡ false
+  pub goes : (i : ℕ) → c ≤ i → i < e → last i ≡ false
 
--- The part of at most 64 crossings that begins at a, of those before n, ends at e.
-abbrev pub Part : ℕ → ℕ → ℕ → Type 0
-Part a e n = (a ≤ e) × (e ≤ n) × (e ≤ a + 64) × (e < a + 64 → e ≡ n)
+-- Such columns turned at the bits of m of word k, where it was off: there it has the states before column e.
+pub record Replayed (names : ℕ) (turns : ℕ → State) (k m c e : ℕ) (words words′ : List ℕ) : Type 0 where
+  pub apart : Apart names k words words′
+  pub here : (last : ℕ → Bool) (first : State) → Within names turns last first c e → (s b : ℕ) → s < names → b < 64 → on words′ s (64 * k + b) ≡ (entering turns last first e s && bit m b)
+
+-- By the last bit of w, the bits of m or none.
+pub record Masked (w m r : ℕ) : Type 0 where
+  pub is : (b : ℕ) → b < 64 → bit r b ≡ (bit w 63 && bit m b)
+
+-- Word `to` of the first n rows is the last column of word k at the bits of m; the rows from n on are as they were.
+pub record Carried (n k to m : ℕ) (words words′ : List ℕ) : Type 0 where
+  pub long : length words′ ≡ length words
+  pub other : (s j : ℕ) → j < columns → (j / 64 ≡ to → ⊥) → on words′ s j ≡ on words s j
+  pub here : (s b : ℕ) → s < n → b < 64 → on words′ s (64 * to + b) ≡ (on words s (64 * k + 63) && bit m b)
+  pub left : (s j : ℕ) → n ≤ s → j < columns → on words′ s j ≡ on words s j
+
+-- One row of a block whose first line goes on: its first word, the others off.
+pub record Row (s v : ℕ) (words words′ : List ℕ) : Type 0 where
+  pub long : length words′ ≡ length words
+  pub first : (b : ℕ) → b < 64 → on words′ s b ≡ bit v b
+  pub rest : (j : ℕ) → 64 ≤ j → j < columns → on words′ s j ≡ false
+  pub other : (u j : ℕ) → j < columns → (u ≡ s → ⊥) → on words′ u j ≡ on words u j
+
+-- The first n rows of such a block; the rows from n on are as they were.
+pub record Opened (n m : ℕ) (words words′ : List ℕ) : Type 0 where
+  pub long : length words′ ≡ length words
+  pub first : (s b : ℕ) → s < n → b < 64 → on words′ s b ≡ (on words s (columns - 1) && bit m b)
+  pub rest : (s j : ℕ) → s < n → 64 ≤ j → j < columns → on words′ s j ≡ false
+  pub left : (s j : ℕ) → n ≤ s → j < columns → on words′ s j ≡ on words s j
+
+-- Word k begins where the word before it ends.
+pub record Opens (names : ℕ) (turns : ℕ → State) (last : ℕ → Bool) (k : ℕ) (words words′ : List ℕ) : Type 0 where
+  pub apart : Apart names k words words′
+  pub opened : (first : State) (n : ℕ) → 64 * k ≤ n → Right names turns last first n (64 * k) words → Laid names turns last first k 0 words′
+
+-- The block's first word begins, and the others are off.
+pub record Begins (names : ℕ) (last : ℕ → Bool) (goesOn : Bool) (words words′ : List ℕ) : Type 0 where
+  pub long : length words′ ≡ length words
+  pub blank : Blank names 64 words′
+  pub opened : (turns : ℕ → State) (first : State) → Entered names goesOn words first → Laid names turns last first 0 0 words′
+
+-- The block's first word is done, and the others are off.
+pub record Starts (names : ℕ) (turns : ℕ → State) (last : ℕ → Bool) (goesOn : Bool) (n : ℕ) (words words′ : List ℕ) : Type 0 where
+  pub long : length words′ ≡ length words
+  pub blank : Blank names (64 * 1) words′
+  pub right : (first : State) → Entered names goesOn words first → Right names turns last first n (64 * 1) words′
+
+-- Of n columns word k has m: all 64, or those that are left.
+pub record InWord (n k m : ℕ) : Type 0 where
+  pub most : m ≤ 64
+  pub within : 64 * k + m ≤ n
+  pub all : (j : ℕ) → j < n → j < 64 * k + 64 → j < 64 * k + m
+
+-- The columns of words before word e are right, if those of words before word k were.
+pub record Advances (names : ℕ) (turns : ℕ → State) (last : ℕ → Bool) (n k e : ℕ) (words words′ : List ℕ) : Type 0 where
+  pub long : length words′ ≡ length words
+  pub blank : Blank names (64 * e) words′
+  pub right : (first : State) → Right names turns last first n (64 * k) words → Right names turns last first n (64 * e) words′

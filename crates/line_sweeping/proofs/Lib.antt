@@ -1,2 +1,4 @@
 mod BitLaws
-pub mod ChangeLaws
+mod EndLaws
+pub mod ListedLaws
+mod EventLaws

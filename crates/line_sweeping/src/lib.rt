@@ -1,19 +1,26 @@
-// A block's row gone through from one change of metal to the next: the columns where metal changes.
+// A block's row gone through from one event to the next. See specs/Events.antt.
 ghost use mathlib.Core.Path.{_≡_};
 ghost use mathlib.Core.Bool.{not, Bool·beq};
-ghost use Prim.Native.Nat.{ℕ, _+_, _<_};
+ghost use Prim.Native.Nat.{ℕ, _+_, _*_, _/_, _^_, _≤_, _<_};
+ghost use lib.Count.{trailingZeros};
 ghost use lib.ListN.{length};
 ghost use Rattle.lines.specs.Steps.{groupEndsAt};
 ghost use Rattle.line_strips.specs.Words.{bit};
-ghost use Rattle.line_strips.specs.Strips.{columns};
-ghost use Rattle.line_sweeping.specs.Changes.{endsIn, NextUnlike, Reached, Turned, Sweepable, Changes};
+ghost use Rattle.line_strips.specs.Strips.{columns, cell};
+ghost use Rattle.line_sweeping.specs.Events.{endsIn};
+ghost use Rattle.line_sweeping.specs.Steps.{NextNoisy, ColumnThere, EventRoom, Reached, Changed, Left, Stepped, Sweepable, WordPart, Swept, Listed};
 
 const W: usize = line_strips::W;
 
-// The crossings of a block.
-pub const COLUMNS: usize = 64 * W;
+const COLUMNS: usize = line_strips::COLUMNS;
 
-// Whether there is metal after the columns gone through, and how many changes were found there.
+// A column has two events at most.
+pub const EVENTS: usize = 2 * COLUMNS;
+
+// A line's start among the columns.
+const START: u16 = 65535;
+
+// Whether there is metal after the columns gone through, and how many events they have.
 struct Found {
     metal: bool,
     count: usize,
@@ -33,10 +40,70 @@ fn group_ends(line: &[u32], at: &[i32], i: usize) -> bool
     line_checking::below(at, i, j)
 }
 
-fn wide_count(x: u32) -> usize
-    ensures { λ r. ⌜ r ≡ x ⌝ }
+// Crossing o of a block whose first crossing is a, of n crossings in all.
+pub fn crossing_at(a: usize, o: u16, n: usize) -> usize
+    requires { ⌜ a + o < n ⌝ }
+    ensures { λ r. ⌜ (r ≡ a + o) × (r < n) ⌝ }
 {
-    x as usize
+    a + basics::wide(o)
+}
+
+fn column_ends(line: &[u32], at: &[i32], a: usize, cols: &[u16; COLUMNS], c: usize) -> bool
+    requires { ⌜ ColumnThere (now line) (now at) a (now cols) c ⌝ }
+    ensures { λ r. ⌜ r ≡ endsIn (now (line .entry)) (now (at .entry)) a (now (cols .entry)) c ⌝ }
+{
+    let o = cols[c];
+    if o == START {
+        return true;
+    }
+    let i = crossing_at(a, o, line.len());
+    group_ends(line, at, i)
+}
+
+// Metal changes at column c, if its bit says something else than before and all that stands at its position has acted.
+fn change(
+    line: &[u32],
+    at: &[i32],
+    a: usize,
+    cols: &[u16; COLUMNS],
+    c: usize,
+    metal: bool,
+    events: &mut [u16; EVENTS],
+    f: Found,
+) -> Found
+    requires { ⌜ ColumnThere (now line) (now at) a (now cols) c × EventRoom c (now events) f ⌝ }
+    ensures { λ r. ⌜ Changed (endsIn (now (line .entry)) (now (at .entry)) a (now (cols .entry)) c) metal c (now (events .entry)) f (now (events .exit)) r ⌝ }
+{
+    if metal == f.metal {
+        return f;
+    }
+    if column_ends(line, at, a, cols, c) {
+        let k = f.count;
+        events[k] = basics::narrow(c);
+        return Found {
+            metal,
+            count: k + 1,
+        };
+    }
+    f
+}
+
+// Metal goes on past column c, if there is some and c is the last column of its line. Nothing runs on into another line.
+fn leave(c: usize, last: bool, events: &mut [u16; EVENTS], f: Found) -> Found
+    requires { ⌜ EventRoom c (now events) f ⌝ }
+    ensures { λ r. ⌜ Left last c (now (events .entry)) f (now (events .exit)) r ⌝ }
+{
+    if last {
+        if f.metal {
+            let k = f.count;
+            events[k] = basics::narrow(COLUMNS + c);
+            return Found {
+                metal: false,
+                count: k + 1,
+            };
+        }
+    }
+    f
 }
 
 // The bits that differ from what there is before them.
@@ -49,60 +116,106 @@ fn differing(w: u64, metal: bool) -> u64
     w
 }
 
-// The next bit from j on that differs from what there is before it, or none of the 64.
-fn change(w: u64, j: usize, metal: bool) -> usize
+// The zeros below the lowest bit that is on, from bit j on.
+fn zeros(d: u64, j: usize) -> usize
     requires { ⌜ j < 64 ⌝ }
-    ensures { λ r. ⌜ NextUnlike w j metal r ⌝ }
+    ensures { λ r. ⌜ (r ≡ trailingZeros 64 (d / 2 ^ j)) × (r ≤ 64) ⌝ }
 {
-    let d = differing(w, metal);
-    wide_count(u64::trailing_zeros(d >> j)) + j
+    basics::wide_long(u64::trailing_zeros(d >> j))
 }
 
-// At column c there is something else than before it. Metal changes there, if no crossing after it acts together with it.
-fn step(line: &[u32], at: &[i32], a: usize, c: usize, cols: &mut [u16; COLUMNS], f: Found) -> Found
-    requires { ⌜ Reached (now line) (now at) a c (now cols) f ⌝ }
-    ensures { λ r. ⌜ Turned (endsIn (now (line .entry)) (now (at .entry)) a c) c (now (cols .entry)) f (now (cols .exit)) r ⌝ }
+// The next bit from j on that may be an event, or none of the 64: it differs from what there is before it, or is on at a line's end.
+fn next_noisy(w: u64, y: u64, j: usize, metal: bool) -> usize
+    requires { ⌜ j < 64 ⌝ }
+    ensures { λ r. ⌜ NextNoisy w y j metal r ⌝ }
 {
-    if group_ends(line, at, a + c) {
-        let k = f.count;
-        cols[k] = c as u16;
-        return Found {
-            metal: !f.metal,
-            count: k + 1,
-        };
+    let d = differing(w, metal) | w & y;
+    zeros(d, j) + j
+}
+
+fn is_on(w: u64, b: usize) -> bool
+    requires { ⌜ b < 64 ⌝ }
+    ensures { λ r. ⌜ r ≡ bit w b ⌝ }
+{
+    (w >> b) % 2 == 1
+}
+
+// Column b of word k, whose bits are w, with line ends y.
+fn step(
+    line: &[u32],
+    at: &[i32],
+    a: usize,
+    cols: &[u16; COLUMNS],
+    w: u64,
+    y: u64,
+    k: usize,
+    b: usize,
+    events: &mut [u16; EVENTS],
+    f: Found,
+) -> Found
+    requires { ⌜ (b < 64) × Reached (now line) (now at) a (now cols) (64 * k + b) (now events) f ⌝ }
+    ensures { λ r. ⌜ Stepped (endsIn (now (line .entry)) (now (at .entry)) a (now (cols .entry)) (64 * k + b)) (bit w b) (bit y b) (64 * k + b) (now (events .entry)) f (now (events .exit)) r ⌝ }
+{
+    let c = 64 * k + b;
+    let g = change(line, at, a, cols, c, is_on(w, b), events, f);
+    leave(c, is_on(y, b), events, g)
+}
+
+// The columns of word k before e.
+fn sweep_word(
+    row: &[u64; W],
+    lasts: &[u64; W],
+    line: &[u32],
+    at: &[i32],
+    a: usize,
+    cols: &[u16; COLUMNS],
+    k: usize,
+    e: usize,
+    metal: bool,
+    events: &mut [u16; EVENTS],
+    found: Found,
+) -> Found
+    requires { ⌜ WordPart k e × Sweepable (now line) (now at) a e (now cols) (now row) (now lasts) × Swept (now line) (now at) a (now cols) (now row) (now lasts) metal (64 * k) (now events) found ⌝ }
+    ensures { λ r. ⌜ Swept (now (line .entry)) (now (at .entry)) a (now (cols .entry)) (now (row .entry)) (now (lasts .entry)) metal e (now (events .exit)) r ⌝ }
+{
+    let w = row[k];
+    let y = lasts[k];
+    let mut f = found;
+    let mut c = 64 * k;
+    while c < e {
+        let b = next_noisy(w, y, c - 64 * k, f.metal);
+        let d = 64 * k + b;
+        if e <= d {
+            return f;
+        }
+        f = step(line, at, a, cols, w, y, k, b, events, f);
+        c = d + 1;
     }
     f
 }
 
-// The columns where metal changes, of the crossings from a to e by their block's row; how many.
+// The events of a block of n columns, whose first crossing is a; how many.
 pub fn sweep(
-    row: [u64; W],
+    row: &[u64; W],
+    lasts: &[u64; W],
     line: &[u32],
     at: &[i32],
     a: usize,
-    e: usize,
+    cols: &[u16; COLUMNS],
+    n: usize,
     metal: bool,
-    cols: &mut [u16; COLUMNS],
+    events: &mut [u16; EVENTS],
 ) -> usize
-    requires { ⌜ Sweepable (now line) (now at) a e (now cols) ⌝ }
-    ensures { λ r. ⌜ Changes (now (line .entry)) (now (at .entry)) row a e metal (now (cols .exit)) r ⌝ }
+    requires { ⌜ Sweepable (now line) (now at) a n (now cols) (now row) (now lasts) × (length (now events) ≡ 2 * columns) ⌝ }
+    ensures { λ r. ⌜ Listed (endsIn (now (line .entry)) (now (at .entry)) a (now (cols .entry))) (cell (now (row .entry))) (cell (now (lasts .entry))) metal n (now (events .exit)) r ⌝ }
 {
-    let m = e - a;
     let mut f = Found { metal, count: 0 };
-    let mut j: usize = 0;
-    while j < m {
-        let k = j / 64;
-        let b = change(row[k], j % 64, f.metal);
-        if 64 <= b {
-            j = 64 * k + 64;
-            continue;
-        }
-        let c = 64 * k + b;
-        if m <= c {
-            return f.count;
-        }
-        f = step(line, at, a, c, cols, f);
-        j = c + 1;
+    let mut k: usize = 0;
+    let mut e: usize = 0;
+    while e < n {
+        e = basics::part_end(64 * k, n, 64);
+        f = sweep_word(row, lasts, line, at, a, cols, k, e, metal, events, f);
+        k += 1;
     }
     f.count
 }

@@ -1,6 +1,8 @@
 mod ListLaws
-mod WallLaws
+mod EventWalls
 mod TurnLaws
+mod HeldLaws
+mod RowLaws
 mod BlockLaws
-mod Evenness
+mod PassBlocks
 mod JobLaws

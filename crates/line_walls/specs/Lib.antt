@@ -1,2 +1,4 @@
 pub mod Answers
-pub mod Walls
+pub mod Turns
+pub mod Steps
+pub mod Blocks

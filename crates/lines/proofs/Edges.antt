@@ -9,15 +9,15 @@ use lib.Dec.{eqb, ltb, leb·suc-suc}
 use lib.IntN.{ℤ, pos, negsuc, predℤ}
 use lib.Signed.{ltZ, leZ}
 use Rattle.formula.specs.Formula.{Formula, inside}
-use Rattle.formula.specs.States.{times, toggledBy}
-use Rattle.lines.specs.Lines.{Crossing, crossed, shortOf, asFarAs, stateBefore, stateAt, shapeAt, Wall}
-use Rattle.lines.specs.Right.{covers, apart, Next, Rising, Bounds}
-use Rattle.lines.proofs.Keys.{leK, eq-leK, lt-leK, le, le-total, le-trans, le-antisym, ltZ-not, total, trans, lt→le}
+use Rattle.formula.specs.States.{State, times, changedBy}
+use Rattle.lines.specs.Lines.{Crossing, crossed, low, high, strays, shortOf, asFarAs, stateBefore, stateAt, lowestFrom, shapeAt, Wall}
+use Rattle.lines.specs.Right.{covers, apart, Next, Rising, LowestChanged, Bounds}
+use Rattle.lines.proofs.Keys.{leK, eq-leK, lt-leK, le, le-total, le-trans, le-antisym, ltZ-not, total, trans, lt→le, lt→no, leZ-self, lt-le, le-lt, no→lt}
 use Rattle.lines.proofs.Stretches.{inStretch, beyond}
 use Rattle.lines.proofs.RisingOnly.{stretch, stretches, in-wall, covers-is, rises-is}
-use Rattle.lines.proofs.WallsCover.{crossed-in, crossed-out}
-use Rattle.lines.proofs.Judgement.{Named}
-use Rattle.lines.proofs.Lowest.{lowest-found}
+use Rattle.lines.proofs.Crossings.{crossed-in, crossed-out, crossed-nil, Each, each-map, Named, Kept, kept-low, kept-high}
+use Rattle.lines.proofs.Judgement.{Accepted}
+use Rattle.lines.proofs.Lowest.{lowest-found, lowest-none}
 
 -- ---- the cell before a position
 
@@ -29,15 +29,11 @@ ltZ-pred (negsuc a) (pos zero) = sym (le-leb 0 a (omega arith))
 ltZ-pred (negsuc a) (pos (suc b)) = refl
 ltZ-pred (negsuc a) (negsuc b) = refl
 
-self : (p : ℤ) → leZ p p ≡ true
-self p = by (leZ p p) refl
-  where
-    by : (t : Bool) → leZ p p ≡ t → leZ p p ≡ true
-    by true e = e
-    by false e = total p p e
+pred-le : (p : ℤ) → leZ (predℤ p) p ≡ true
+pred-le p = lt→le (predℤ p) p (ltZ-pred (predℤ p) p ∙ leZ-self (predℤ p))
 
-before-at : (l : ℕ) (p : ℤ) (xs : List Crossing) → stateBefore l p xs ≡ stateAt l (predℤ p) xs
-before-at l p xs = ap (λ (test : Crossing → Bool). toggledBy (crossed test xs)) (fun-ext (λ x. ap (λ (b : Bool). eqb (x .line) l && b) (ltZ-pred (x .at) p)))
+before-at : (start : ℕ → State) (xs : List Crossing) (l : ℕ) (p : ℤ) → stateBefore start xs l p ≡ stateAt start xs l (predℤ p)
+before-at start xs l p = ap (λ (test : Crossing → Bool). changedBy (start l) (crossed test xs)) (fun-ext (λ x. ap (λ (b : Bool). eqb (x .line) l && b) (ltZ-pred (x .at) p)))
 
 -- ---- a wall of a rising list covers its first and its last cell, and nothing covers the cells beside them
 
@@ -94,38 +90,55 @@ module _ (c : ℕ → ℤ → Bool) where
       is : (p : ℤ) → leZ (predℤ (w .start)) p ≡ true → leZ p (w .end) ≡ true → c (w .line) p ≡ (leZ (w .start) p && ltZ p (w .end))
       is p h k = at p h ∙ covers-cons (w .line) p w ws ∙ rw (eq-eqb (w .line) (w .line) refl, none-after w ws r p k) (or-false _)
 
-      -- just before a position, and at it
-      step : (p : ℤ) → leZ (predℤ p) p ≡ true
-      step p = lt→le (predℤ p) p (ltZ-pred (predℤ p) p ∙ self (predℤ p))
-
       up : leZ (w .start) (w .end) ≡ true
       up = lt→le (w .start) (w .end) (r .0)
 
       first : c (w .line) (predℤ (w .start)) ≡ false
-      first = is (predℤ (w .start)) (self (predℤ (w .start))) (trans (predℤ (w .start)) (w .start) (w .end) (step (w .start)) up)
-          ∙ rw (sym (ltZ-pred (w .start) (w .start)) ∙ ltZ-not (w .start) (w .start), self (w .start))
+      first = is (predℤ (w .start)) (leZ-self (predℤ (w .start))) (trans (predℤ (w .start)) (w .start) (w .end) (pred-le (w .start)) up)
+          ∙ rw (sym (ltZ-pred (w .start) (w .start)) ∙ ltZ-not (w .start) (w .start), leZ-self (w .start))
 
       second : c (w .line) (w .start) ≡ true
-      second = is (w .start) (step (w .start)) up ∙ rw (self (w .start), r .0)
+      second = is (w .start) (pred-le (w .start)) up ∙ rw (leZ-self (w .start), r .0)
 
       third : c (w .line) (predℤ (w .end)) ≡ true
-      third = is (predℤ (w .end)) (trans (predℤ (w .start)) (w .start) (predℤ (w .end)) (step (w .start)) long) (step (w .end))
-          ∙ rw (long, ltZ-pred (predℤ (w .end)) (w .end), self (predℤ (w .end)))
+      third = is (predℤ (w .end)) (trans (predℤ (w .start)) (w .start) (predℤ (w .end)) (pred-le (w .start)) long) (pred-le (w .end))
+          ∙ rw (long, ltZ-pred (predℤ (w .end)) (w .end), leZ-self (predℤ (w .end)))
 
       fourth : c (w .line) (w .end) ≡ false
-      fourth = is (w .end) (trans (predℤ (w .start)) (w .start) (w .end) (step (w .start)) up) (self (w .end))
-          ∙ rw (up, ltZ-not (w .end) (w .end), self (w .end))
+      fourth = is (w .end) (trans (predℤ (w .start)) (w .start) (w .end) (pred-le (w .start)) up) (leZ-self (w .end))
+          ∙ rw (up, ltZ-not (w .end) (w .end), leZ-self (w .end))
 
       rest : (vs : List Wall) → Next w vs → ((l : ℕ) (p : ℤ) → Ahead (w ∷ vs) l p → c l p ≡ covers l p (w ∷ vs)) → (l : ℕ) (p : ℤ) → Ahead vs l p → c l p ≡ covers l p vs
       rest [] n same′ l p h = absurd h
       rest (v ∷ vs) n same′ l p h =
           let past : leK (w .line) (w .end) l p ≡ true = le-trans (w .line, w .end) (v .line, predℤ (v .start)) (l, p) (gap w v n) h in
           let ahead : leK (w .line) (predℤ (w .start)) (w .line) (w .end) ≡ true =
-          eq-leK (w .line) (predℤ (w .start)) (w .line) (w .end) refl ∙ trans (predℤ (w .start)) (w .start) (w .end) (step (w .start)) up in
+          eq-leK (w .line) (predℤ (w .start)) (w .line) (w .end) refl ∙ trans (predℤ (w .start)) (w .start) (w .end) (pred-le (w .start)) up in
           same′ l p (le-trans (w .line, predℤ (w .start)) (w .line, w .end) (l, p) ahead past)
           ∙ covers-cons l p w (v ∷ vs) ∙ ap (λ (b : Bool). b || covers l p (v ∷ vs)) (in-wall l p w ∙ past-it l p w past)
 
--- ---- no shape without a name is crossed
+-- ---- at an end mark nothing is crossed, and no shape without a name anywhere
+
+-- of crossings at which two tests agree
+crossed-alike : (test other : Crossing → Bool) (xs : List Crossing) → Each (λ x. test x ≡ other x) xs → crossed test xs ≡ crossed other xs
+crossed-alike test other [] h = crossed-nil test ∙ sym (crossed-nil other)
+crossed-alike test other (x ∷ xs) h = by (other x) refl (crossed-alike test other xs (h .1))
+  where
+    by : (b : Bool) → other x ≡ b → crossed test xs ≡ crossed other xs → crossed test (x ∷ xs) ≡ crossed other (x ∷ xs)
+    by true e ih = crossed-in test x xs (h .0 ∙ e) ∙ ap (λ ss. x .shape ∷ ss) ih ∙ sym (crossed-in other x xs e)
+    by false e ih = crossed-out test x xs (h .0 ∙ e) ∙ ih ∙ sym (crossed-out other x xs e)
+
+-- at an end mark, or beyond it
+abbrev atMark : ℤ → Bool
+atMark p = leZ p low || leZ high p
+
+mark-apart : (rows : ℕ) (p : ℤ) → atMark p ≡ true → (x : Crossing) → strays rows x ≡ false → ltZ (x .at) p ≡ leZ (x .at) p
+mark-apart rows p e x k = by (leZ p low) refl (leZ high p) refl
+  where
+    by : (a : Bool) → leZ p low ≡ a → (b : Bool) → leZ high p ≡ b → ltZ (x .at) p ≡ leZ (x .at) p
+    by true a b c = ltZ-not (x .at) p ∙ rw (lt→le p (x .at) (le-lt p low (x .at) a (kept-low rows x k)), lt→no p (x .at) (le-lt p low (x .at) a (kept-low rows x k)))
+    by false a true c = let h : ltZ (x .at) p ≡ true = lt-le (x .at) high p (kept-high rows x k) c in h ∙ sym (lt→le (x .at) p h)
+    by false a false c = absurd (false≢true (rw (a, c) at e))
 
 none-of : (names t : ℕ) (test : Crossing → Bool) (xs : List Crossing) → Named names xs → names ≤ t → times t (crossed test xs) ≡ 0
 unfolding crossed times
@@ -136,29 +149,60 @@ none-of names t test (x ∷ xs) nm h = by (test x) refl (none-of names t test xs
     by true e ih = rw (crossed-in test x xs e, ne-eqb t (x .shape) (omega (arith, nm .0))) (omega (arith, ih))
     by false e ih = rw (crossed-out test x xs e) ih
 
-far-same : (names l : ℕ) (p : ℤ) (xs : List Crossing) → Named names xs → names ≤ 256 → (t : ℕ) → 256 ≤ t → stateBefore l p xs t ≡ stateAt l p xs t
-far-same names l p xs nm few t h = rw (none-of names t (shortOf l p) xs nm (omega arith), none-of names t (asFarAs l p) xs nm (omega arith))
+or-no : (a b : Bool) → (a || b) ≡ false → (a ≡ false) × (b ≡ false)
+or-no true b e = absurd (true≢false e)
+or-no false b e = (refl, e)
 
--- ---- so a shape bounds each wall at both ends, and the search finds it
-
-abbrev pub Bound : List Crossing → List Wall → Type 0
-Bound xs [] = Unit {0}
-Bound xs (w ∷ ws) = (Bounds xs (w .line) (w .start) (shapeAt xs (w .line) (w .start)) × Bounds xs (w .line) (w .end) (shapeAt xs (w .line) (w .end))) × Bound xs ws
-
-module _ (f : Formula) (names : ℕ) (few : names ≤ 256) (xs : List Crossing) (nm : Named names xs) where
-  bounded-at : (l : ℕ) (p : ℤ) → (inside f (stateAt l (predℤ p) xs) ≡ inside f (stateAt l p xs) → ⊥) → Bounds xs l p (shapeAt xs l p)
+module _ (start : ℕ → State) (xs : List Crossing) where
+  -- so an end mark's shape is 65535
+  pub mark-shape : (rows l : ℕ) (p : ℤ) → Kept rows xs → atMark p ≡ true → shapeAt start xs l p ≡ 65535
   unfolding shapeAt
-  bounded-at l p h = lowest-found (stateBefore l p xs) (stateAt l p xs) (far-same names l p xs nm few) (λ e. h (ap (inside f) (sym (before-at l p xs) ∙ e)))
+  mark-shape rows l p ke e =
+      let alike : crossed (shortOf l p) xs ≡ crossed (asFarAs l p) xs =
+      crossed-alike (shortOf l p) (asFarAs l p) xs (each-map (λ x. strays rows x ≡ false) (λ x. shortOf l p x ≡ asFarAs l p x) (λ x k. ap (λ (b : Bool). eqb (x .line) l && b) (mark-apart rows p e x k)) xs ke) in
+      lowest-none (stateBefore start xs l p) (stateAt start xs l p) (λ t h. ap (λ (ss : List ℕ). changedBy (start l) ss t) alike)
 
-  pub ends-bounded : (ws : List Wall) → Rising ws → ((l : ℕ) (p : ℤ) → covers l p ws ≡ inside f (stateAt l p xs)) → Bound xs ws
-  ends-bounded ws r cells = each ws (edged (λ l p. inside f (stateAt l p xs)) ws r (λ l p h. sym (cells l p)))
-    where
-      each : (ws : List Wall) → Edged (λ l p. inside f (stateAt l p xs)) ws → Bound xs ws
-      each [] e = tt
-      each (w ∷ ws) e = (
-        (
-          bounded-at (w .line) (w .start) (λ q. false≢true (sym (e .0 .0 .0) ∙ q ∙ e .0 .0 .1)),
-          bounded-at (w .line) (w .end) (λ q. true≢false (sym (e .0 .1 .0) ∙ q ∙ e .0 .1 .1)),
-        ),
-        each ws (e .1),
-      )
+  far-same : (names l : ℕ) (p : ℤ) → Named names xs → names ≤ 256 → (t : ℕ) → 256 ≤ t → stateBefore start xs l p t ≡ stateAt start xs l p t
+  far-same names l p nm few t h = rw (none-of names t (shortOf l p) xs nm (omega arith), none-of names t (asFarAs l p) xs nm (omega arith))
+
+  -- ---- so a shape bounds each wall at both ends, and the search finds it
+
+  abbrev pub Bound : List Wall → Type 0
+  Bound [] = Unit {0}
+  Bound (w ∷ ws) = (Bounds start xs (w .line) (w .start) (shapeAt start xs (w .line) (w .start)) × Bounds start xs (w .line) (w .end) (shapeAt start xs (w .line) (w .end))) × Bound ws
+
+  module _ (f : Formula) (names rows : ℕ) (few : names ≤ 256) (all : Accepted names rows xs) where
+    abbrev metal : ℕ → ℤ → Bool
+    metal l p = ltb l rows && (leZ low p && (ltZ p high && inside f (stateAt start xs l p)))
+
+    -- between the marks the states alone decide
+    decided : (l : ℕ) (p : ℤ) → leZ low p ≡ true → ltZ p high ≡ true → metal l p ≡ (ltb l rows && inside f (stateAt start xs l p))
+    decided l p a b = rw (a, b)
+
+    alike : (l : ℕ) (p : ℤ) → leZ p low ≡ false → leZ high p ≡ false → stateAt start xs l (predℤ p) ≡ stateAt start xs l p → metal l (predℤ p) ≡ metal l p
+    alike l p a b same =
+        let under : ltZ p high ≡ true = no→lt p high b in
+        decided l (predℤ p) (sym (ltZ-pred low p) ∙ no→lt low p a) (le-lt (predℤ p) p high (pred-le p) under)
+        ∙ ap (λ (state : State). ltb l rows && inside f state) same
+        ∙ sym (decided l p (total p low a) under)
+
+    bounded-at : (l : ℕ) (p : ℤ) → (metal l (predℤ p) ≡ metal l p → ⊥) → Bounds start xs l p (shapeAt start xs l p)
+    unfolding shapeAt
+    bounded-at l p h = record { open-end = mark-shape rows l p (all .kept); crossed-there = λ e. there (or-no (leZ p low) (leZ high p) e) }
+      where
+        there : (leZ p low ≡ false) × (leZ high p ≡ false) → LowestChanged (stateBefore start xs l p) (stateAt start xs l p) (lowestFrom 256 0 (stateBefore start xs l p) (stateAt start xs l p))
+        there e =
+            lowest-found (stateBefore start xs l p) (stateAt start xs l p) (far-same names l p (all .named) few) (λ same. h (alike l p (e .0) (e .1) (sym (before-at start xs l p) ∙ same)))
+
+    pub ends-bounded : (ws : List Wall) → Rising ws → ((l : ℕ) (p : ℤ) → covers l p ws ≡ metal l p) → Bound ws
+    ends-bounded ws r cells = each ws (edged metal ws r (λ l p h. sym (cells l p)))
+      where
+        each : (ws : List Wall) → Edged metal ws → Bound ws
+        each [] e = tt
+        each (w ∷ ws) e = (
+          (
+            bounded-at (w .line) (w .start) (λ q. false≢true (sym (e .0 .0 .0) ∙ q ∙ e .0 .0 .1)),
+            bounded-at (w .line) (w .end) (λ q. true≢false (sym (e .0 .1 .0) ∙ q ∙ e .0 .1 .1)),
+          ),
+          each ws (e .1),
+        )

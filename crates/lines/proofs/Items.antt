@@ -10,12 +10,12 @@ use borrow.Author.Tests.{eqb-true, eqb-false}
 use lib.Dec.{eqb}
 use lib.IntN.{ℤ, pos}
 use lib.ListN.{length, drop, getD, drop-of-length-le}
-use Rattle.lines.specs.Lines.{Crossing, crossings}
-use Rattle.lines.specs.Steps.{item}
-use lib.Signed.{leZ}
-use Rattle.lines.proofs.Keys.{leK, eq-leK, le-trans, total}
-use Rattle.lines.proofs.WallsCover.{Sorted}
-use Rattle.lines.proofs.Judgement.{Named}
+use Rattle.outcome.specs.Outcome.{given}
+use Rattle.lines.specs.Lines.{LineLists, rowCount, Crossing, crossings, strays, judged}
+use Rattle.lines.specs.Steps.{item, Ascending}
+use Rattle.lines.proofs.Keys.{leK, eq-leK, le-trans, leZ-self}
+use Rattle.lines.proofs.Crossings.{Each, Sorted}
+use Rattle.lines.proofs.Judgement.{judged-positions, judged-shapes, judged-accepted}
 
 pub length-crossings : (ls : List ℕ) (ps : List ℤ) (ss : List ℕ) → length ps ≡ length ls → length ss ≡ length ls → length (crossings ls ps ss) ≡ length ls
 length-crossings [] ps ss e f = refl
@@ -45,14 +45,14 @@ after-item ls ps ss i e f h F = go (eqb (i + 1) (length ls)) refl
     go true q = ap F (sym (drop-all ls ps ss (suc i) e f (omega (arith, eqb-true (i + 1) (length ls) q))))
     go false q = rw (drop-item ls ps ss (suc i) e f (omega (arith, eqb-false (i + 1) (length ls) q)), add-one i)
 
--- the shapes of named crossings
-pub named-shape : (names : ℕ) (ls : List ℕ) (ps : List ℤ) (ss : List ℕ) → length ps ≡ length ls → length ss ≡ length ls
-    → Named names (crossings ls ps ss) → (i : ℕ) → i < length ls → getD ss i 0 < names
-named-shape names [] ps ss e f nm i h = absurd (not-suc-le-zero h)
-named-shape names (l ∷ ls) [] ss e f nm i h = let z : ⊥ = omega arith in absurd z
-named-shape names (l ∷ ls) (p ∷ ps) [] e f nm i h = let z : ⊥ = omega arith in absurd z
-named-shape names (l ∷ ls) (p ∷ ps) (s ∷ ss) e f nm zero h = nm .0
-named-shape names (l ∷ ls) (p ∷ ps) (s ∷ ss) e f nm (suc i) h = named-shape names ls ps ss (omega arith) (omega arith) (nm .1) i (le-of-suc-le-suc h)
+-- what holds of each entry
+pub each-item : (P : Crossing → Type 0) (ls : List ℕ) (ps : List ℤ) (ss : List ℕ) → length ps ≡ length ls → length ss ≡ length ls
+    → Each P (crossings ls ps ss) → (i : ℕ) → i < length ls → P (item ls ps ss i)
+each-item P [] ps ss e f all i h = absurd (not-suc-le-zero h)
+each-item P (l ∷ ls) [] ss e f all i h = let z : ⊥ = omega arith in absurd z
+each-item P (l ∷ ls) (p ∷ ps) [] e f all i h = let z : ⊥ = omega arith in absurd z
+each-item P (l ∷ ls) (p ∷ ps) (s ∷ ss) e f all zero h = all .0
+each-item P (l ∷ ls) (p ∷ ps) (s ∷ ss) e f all (suc i) h = each-item P ls ps ss (omega arith) (omega arith) (all .1) i (le-of-suc-le-suc h)
 
 -- sorted entries rise from one index to any later one
 pub sorted-items : (ls : List ℕ) (ps : List ℤ) (ss : List ℕ) → length ps ≡ length ls → length ss ≡ length ls → Sorted (crossings ls ps ss) → (i j : ℕ) → i ≤ j → j < length ls
@@ -60,14 +60,7 @@ pub sorted-items : (ls : List ℕ) (ps : List ℤ) (ss : List ℕ) → length ps
 sorted-items [] ps ss e f so i j h k = absurd (not-suc-le-zero k)
 sorted-items (l ∷ ls) [] ss e f so i j h k = let z : ⊥ = omega arith in absurd z
 sorted-items (l ∷ ls) (p ∷ ps) [] e f so i j h k = let z : ⊥ = omega arith in absurd z
-sorted-items (l ∷ ls) (p ∷ ps) (s ∷ ss) e f so zero zero h k = eq-leK l p l p refl ∙ self p
-  where
-    self : (p : ℤ) → leZ p p ≡ true
-    self p = by (leZ p p) refl
-      where
-        by : (t : Bool) → leZ p p ≡ t → leZ p p ≡ true
-        by true q = q
-        by false q = total p p q
+sorted-items (l ∷ ls) (p ∷ ps) (s ∷ ss) e f so zero zero h k = eq-leK l p l p refl ∙ leZ-self p
 sorted-items (l ∷ []) (p ∷ ps) (s ∷ ss) e f so zero (suc j) h k = let z : ⊥ = omega arith in absurd z
 sorted-items (l ∷ m ∷ ls) (p ∷ []) (s ∷ ss) e f so zero (suc j) h k = let z : ⊥ = omega arith in absurd z
 sorted-items (l ∷ m ∷ ls) (p ∷ q ∷ ps) (s ∷ []) e f so zero (suc j) h k = let z : ⊥ = omega arith in absurd z
@@ -75,3 +68,19 @@ sorted-items (l ∷ m ∷ ls) (p ∷ q ∷ ps) (s ∷ t ∷ ss) e f so zero (suc
     le-trans (l, p) (m, q) (getD (m ∷ ls) j 0, getD (q ∷ ps) j (pos 0)) (so .0) (sorted-items (m ∷ ls) (q ∷ ps) (t ∷ ss) (omega arith) (omega arith) (so .1) zero j (omega arith) (le-of-suc-le-suc k))
 sorted-items (l ∷ ls) (p ∷ ps) (s ∷ ss) e f so (suc i) zero h k = absurd (not-suc-le-zero h)
 sorted-items (l ∷ ls) (p ∷ ps) (s ∷ ss) e f so (suc i) (suc j) h k = sorted-items ls ps ss (omega arith) (omega arith) (so .1) i j (le-of-suc-le-suc h) (le-of-suc-le-suc k)
+
+-- accepted lists, at an index
+pub judged-ascending : (names : ℕ) → names ≤ 256 → (c : LineLists) → judged names c ≡ given tt → Ascending names c
+judged-ascending names few c e =
+    let ps = judged-positions names c e in
+    let ss = judged-shapes names c e in
+    let all = judged-accepted names c e in
+    let shape = each-item (λ x. x .shape < names) (c .lines) (c .positions) (c .shapes) ps ss (all .named) in
+    record {
+      positions = ps;
+      shapes = ss;
+      few = λ i h. omega (arith, shape i h);
+      named = shape;
+      kept = each-item (λ x. strays (rowCount names (c .rows)) x ≡ false) (c .lines) (c .positions) (c .shapes) ps ss (all .kept);
+      rises = sorted-items (c .lines) (c .positions) (c .shapes) ps ss (all .sorted);
+    }

@@ -1,19 +1,19 @@
--- What an accepted judgement gives: the lists are of one length, the entries rise, and every shape has a name.
-use Prim.Native.Nat.{ℕ, _+_, _<_}
+-- What an accepted judgement gives: the rows are whole rows of 0 and 1, the lists of crossings are of one length, and the entries rise, each with a shape that has a name and at a place that is kept.
+use Prim.Native.Nat.{ℕ, zero, suc, _+_, _*_, _%_, _≤_}
+use native.Mathlib.Nat.{div-add-mod'}
 use native.Mathlib.Omega.{arith}
 use mathlib.Core.Path.{_≡_, refl, sym, _∙_}
 use mathlib.Core.Bool.{Bool, true, false, not, _&&_, true≢false, false≢true}
 use mathlib.Core.List.{List, [], _∷_}
 use mathlib.Core.Option.{Option, none, some}
-use borrow.Author.Tests.{eqb-true, eqb-false, ltb-true, ltb-false}
-use lib.Dec.{eqb, ltb}
-use lib.IntN.{ℤ}
-use lib.ListN.{length}
+use borrow.Author.Tests.{eqb-true, eqb-false, ltb-true, ltb-false, leb-true}
+use lib.Dec.{eqb, ltb, leb}
+use lib.ListN.{length, getD}
 use Rattle.outcome.specs.Outcome.{Outcome, given, refused, unfit, _>>_, need}
 use Rattle.outcome.proofs.Questions.{need-yes}
-use Rattle.lines.specs.Lines.{Crossing, crossings, falls, ordered, even, judged}
-use Rattle.lines.proofs.Keys.{leK, lt-leK, eq-leK, not-lt→}
-use Rattle.lines.proofs.WallsCover.{Follows, Sorted}
+use Rattle.lines.specs.Lines.{LineLists, rowCount, Crossing, entries, falls, bits, rowed, strays, ordered, judged}
+use Rattle.lines.proofs.Keys.{lt-leK, eq-leK, not-lt→}
+use Rattle.lines.proofs.Crossings.{Named, Kept, Follows, Later, Sorted}
 
 pub refused-given {ℓ} : {X : Type ℓ} {A : Type 0} (n p : ℕ) (a : A) → _≡_ {A = Outcome A} (refused n p) (given a) → X
 refused-given n p a q = let z : _≡_ {A = ℕ} 0 1 = cc in let w : ⊥ = omega arith in absurd w
@@ -31,57 +31,105 @@ pub not-yes : (b : Bool) → not b ≡ true → b ≡ false
 not-yes true e = absurd (false≢true e)
 not-yes false e = refl
 
-rises-to : (x y : Crossing) → falls (some x) y ≡ false → leK (x .line) (x .at) (y .line) (y .at) ≡ true
+-- ---- the crossings
+
+pub rises-to : (x y : Crossing) → falls (some x) y ≡ false → Later x y
 rises-to x y e = by (ltb (y .line) (x .line)) refl (eqb (y .line) (x .line)) refl
   where
-    by : (a : Bool) → ltb (y .line) (x .line) ≡ a → (b : Bool) → eqb (y .line) (x .line) ≡ b → leK (x .line) (x .at) (y .line) (y .at) ≡ true
+    by : (a : Bool) → ltb (y .line) (x .line) ≡ a → (b : Bool) → eqb (y .line) (x .line) ≡ b → Later x y
     by true a b c = absurd (true≢false (rw a at e))
     by false a true c = eq-leK (x .line) (x .at) (y .line) (y .at) (sym (eqb-true (y .line) (x .line) c)) ∙ not-lt→ (y .at) (x .at) (rw (a, c) at e)
     by false a false c = lt-leK (x .line) (x .at) (y .line) (y .at) (omega (arith, ltb-false (y .line) (x .line) a, eqb-false (y .line) (x .line) c))
-
-abbrev pub Named : ℕ → List Crossing → Type 0
-Named names [] = Unit {0}
-Named names (x ∷ xs) = (x .shape < names) × Named names xs
 
 -- the first of the list, after what is before it
 abbrev From : Option Crossing → List Crossing → Type 0
 From none xs = Unit {0}
 From (some x) xs = Follows x xs
 
-ordered-from : (names : ℕ) (x : Option Crossing) (i : ℕ) (ys : List Crossing) → ordered names x i ys ≡ given tt → From x ys × (Sorted ys × Named names ys)
-unfolding ordered
-ordered-from names none i [] e = (tt, (tt, tt))
-ordered-from names (some x) i [] e = (tt, (tt, tt))
-ordered-from names x i (y ∷ ys) e =
-    let a = both (need (ltb (y .shape) names) 10 i) (need (not (falls x y)) 11 i >> ordered names (some y) (i + 1) ys) tt e in
-    let b = both (need (not (falls x y)) 11 i) (ordered names (some y) (i + 1) ys) tt (a .1) in
-    let r = ordered-from names (some y) (i + 1) ys (b .1) in
-    (follows x (not-yes _ (need-yes _ 11 i (b .0))), ((r .0, r .1 .0), (ltb-true (y .shape) names (need-yes _ 10 i (a .0)), r .1 .1)))
-  where
-    follows : (x : Option Crossing) → falls x y ≡ false → From x (y ∷ ys)
-    follows none f = tt
-    follows (some x) f = rises-to x y f
+pub record Accepted (names rows : ℕ) (xs : List Crossing) : Type 0 where
+  pub sorted : Sorted xs
+  pub named : Named names xs
+  pub kept : Kept rows xs
 
-pub ordered-gives : (names : ℕ) (xs : List Crossing) → ordered names none 0 xs ≡ given tt → Sorted xs × Named names xs
-ordered-gives names xs e = ordered-from names none 0 xs e .1
+module _ (names rows : ℕ) where
+  ordered-from : (x : Option Crossing) (i : ℕ) (ys : List Crossing) → ordered names rows x i ys ≡ given tt → From x ys × Accepted names rows ys
+  unfolding ordered
+  ordered-from none i [] e = (tt, record { sorted = tt; named = tt; kept = tt })
+  ordered-from (some x) i [] e = (tt, record { sorted = tt; named = tt; kept = tt })
+  ordered-from x i (y ∷ ys) e =
+      let rest = ordered names rows (some y) (i + 1) ys in
+      let a = both (need (ltb (y .shape) names) 10 i) (need (not (strays rows y)) 15 i >> (need (not (falls x y)) 11 i >> rest)) tt e in
+      let b = both (need (not (strays rows y)) 15 i) (need (not (falls x y)) 11 i >> rest) tt (a .1) in
+      let d = both (need (not (falls x y)) 11 i) rest tt (b .1) in
+      let r = ordered-from (some y) (i + 1) ys (d .1) in (
+        follows x (not-yes _ (need-yes _ 11 i (d .0))),
+        record {
+          sorted = (r .0, r .1 .sorted);
+          named = (ltb-true (y .shape) names (need-yes _ 10 i (a .0)), r .1 .named);
+          kept = (not-yes _ (need-yes _ 15 i (b .0)), r .1 .kept);
+        },
+      )
+    where
+      follows : (x : Option Crossing) → falls x y ≡ false → From x (y ∷ ys)
+      follows none f = tt
+      follows (some x) f = rises-to x y f
 
-module _ (names : ℕ) (ls : List ℕ) (ps : List ℤ) (ss : List ℕ) (e : judged names ls ps ss ≡ given tt) where
-  parts : ((eqb (length ps) (length ls) && eqb (length ss) (length ls)) ≡ true) × ((ordered names none 0 (crossings ls ps ss) ≡ given tt) × (even names (crossings ls ps ss) ≡ given tt))
+  pub ordered-gives : (xs : List Crossing) → ordered names rows none 0 xs ≡ given tt → Accepted names rows xs
+  ordered-gives xs e = ordered-from none 0 xs e .1
+
+-- ---- the rows
+
+bits-at : (rows : List ℕ) → bits rows ≡ true → (j : ℕ) → getD rows j 0 ≤ 1
+unfolding bits
+bits-at [] e j = omega arith
+bits-at (b ∷ bs) e zero = leb-true b 1 (and-yes (leb b 1) (bits bs) e .0)
+bits-at (b ∷ bs) e (suc j) = bits-at bs (and-yes (leb b 1) (bits bs) e .1) j
+
+pub record WholeRows (names : ℕ) (rows : List ℕ) : Type 0 where
+  pub whole : length rows % names ≡ 0
+  pub few : rowCount names rows ≤ 4294967296
+  pub bytes : (j : ℕ) → getD rows j 0 ≤ 1
+
+pub rowed-gives : (names : ℕ) (rows : List ℕ) → rowed names rows ≡ given tt → WholeRows names rows
+rowed-gives names rows e =
+    let a = and-yes (eqb (length rows % names) 0) (leb (rowCount names rows) 4294967296 && bits rows) (need-yes _ 14 0 e) in
+    let b = and-yes (leb (rowCount names rows) 4294967296) (bits rows) (a .1) in
+    record { whole = eqb-true (length rows % names) 0 (a .0); few = leb-true (rowCount names rows) 4294967296 (b .0); bytes = bits-at rows (b .1) }
+
+-- ---- the whole judgement
+
+module _ (names : ℕ) (c : LineLists) (e : judged names c ≡ given tt) where
+  abbrev alike : Bool
+  alike = eqb (length (c .positions)) (length (c .lines)) && eqb (length (c .shapes)) (length (c .lines))
+
+  parts : (alike ≡ true) × ((rowed names (c .rows) ≡ given tt) × (ordered names (rowCount names (c .rows)) none 0 (entries c) ≡ given tt))
   unfolding judged
   parts =
-      let a = both (need (eqb (length ps) (length ls) && eqb (length ss) (length ls)) 13 0) (ordered names none 0 (crossings ls ps ss) >> even names (crossings ls ps ss)) tt e in
-      (need-yes _ 13 0 (a .0), both (ordered names none 0 (crossings ls ps ss)) (even names (crossings ls ps ss)) tt (a .1))
+      let items = ordered names (rowCount names (c .rows)) none 0 (entries c) in
+      let a = both (need alike 13 0) (rowed names (c .rows) >> items) tt e in
+      (need-yes _ 13 0 (a .0), both (rowed names (c .rows)) items tt (a .1))
 
-  pub judged-lengths : (length ps ≡ length ls) × (length ss ≡ length ls)
-  judged-lengths =
-      let a = and-yes _ _ (parts .0) in
-      (eqb-true (length ps) (length ls) (a .0), eqb-true (length ss) (length ls) (a .1))
+  lengths : (eqb (length (c .positions)) (length (c .lines)) ≡ true) × (eqb (length (c .shapes)) (length (c .lines)) ≡ true)
+  lengths = and-yes (eqb (length (c .positions)) (length (c .lines))) (eqb (length (c .shapes)) (length (c .lines))) (parts .0)
 
-  pub judged-sorted : Sorted (crossings ls ps ss)
-  judged-sorted = ordered-gives names (crossings ls ps ss) (parts .1 .0) .0
+  pub judged-positions : length (c .positions) ≡ length (c .lines)
+  judged-positions = eqb-true (length (c .positions)) (length (c .lines)) (lengths .0)
 
-  pub judged-named : Named names (crossings ls ps ss)
-  judged-named = ordered-gives names (crossings ls ps ss) (parts .1 .0) .1
+  pub judged-shapes : length (c .shapes) ≡ length (c .lines)
+  judged-shapes = eqb-true (length (c .shapes)) (length (c .lines)) (lengths .1)
 
-  pub judged-even : even names (crossings ls ps ss) ≡ given tt
-  judged-even = parts .1 .1
+  pub judged-accepted : Accepted names (rowCount names (c .rows)) (entries c)
+  judged-accepted = ordered-gives names (rowCount names (c .rows)) (entries c) (parts .1 .1)
+
+  pub judged-rows : WholeRows names (c .rows)
+  judged-rows = rowed-gives names (c .rows) (parts .1 .0)
+
+  -- as many bytes as rows and names give
+  pub judged-whole : length (c .rows) ≡ rowCount names (c .rows) * names
+  judged-whole = omega (arith, div-add-mod' (length (c .rows)) names, judged-rows .whole)
+
+  pub judged-few : rowCount names (c .rows) ≤ 4294967296
+  judged-few = judged-rows .few
+
+  pub judged-bytes : (j : ℕ) → getD (c .rows) j 0 ≤ 1
+  judged-bytes = judged-rows .bytes

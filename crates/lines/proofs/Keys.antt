@@ -70,6 +70,35 @@ lt-trans a b c e f = go (ltZ a c) refl
     go true g = g
     go false g = absurd (true≢false (sym (trans c a b (not-lt→ a c g) (lt→le a b e)) ∙ lt→no b c f))
 
+pub leZ-self : (a : ℤ) → leZ a a ≡ true
+leZ-self a = go (leZ a a) refl
+  where
+    go : (t : Bool) → leZ a a ≡ t → leZ a a ≡ true
+    go true e = e
+    go false e = total a a e
+
+pub lt-le : (a b c : ℤ) → ltZ a b ≡ true → leZ b c ≡ true → ltZ a c ≡ true
+lt-le a b c e f = no→lt a c (go (leZ c a) refl)
+  where
+    go : (t : Bool) → leZ c a ≡ t → leZ c a ≡ false
+    go true g = absurd (true≢false (sym (trans b c a f g) ∙ lt→no a b e))
+    go false g = g
+
+pub le-lt : (a b c : ℤ) → leZ a b ≡ true → ltZ b c ≡ true → ltZ a c ≡ true
+le-lt a b c e f = no→lt a c (go (leZ c a) refl)
+  where
+    go : (t : Bool) → leZ c a ≡ t → leZ c a ≡ false
+    go true g = absurd (true≢false (sym (trans c a b g e) ∙ lt→no b c f))
+    go false g = g
+
+-- what is short of a is short of what a reaches
+pub leZ-off : (a b p : ℤ) → leZ a b ≡ true → leZ a p ≡ false → leZ b p ≡ false
+leZ-off a b p e f = go (leZ b p) refl
+  where
+    go : (t : Bool) → leZ b p ≡ t → leZ b p ≡ false
+    go true g = absurd (true≢false (sym (trans a b p e g) ∙ f))
+    go false g = g
+
 -- ---- line first
 
 abbrev pub leK : ℕ → ℤ → ℕ → ℤ → Bool

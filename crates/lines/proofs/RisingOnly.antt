@@ -3,14 +3,15 @@ use Prim.Native.Nat.{ℕ, _<_}
 use native.Mathlib.Decide.{decLt}
 use native.Mathlib.Omega.{arith}
 use mathlib.Core.Path.{_≡_, refl, sym, ap, _∙_}
-use mathlib.Core.Bool.{Bool, true, false, not, _&&_, false≢true}
+use mathlib.Core.Bool.{Bool, true, false, not, _&&_, _||_, false≢true}
 use mathlib.Core.List.{List, [], _∷_}
 use borrow.Author.Tests.{eq-eqb, ne-eqb, eqb-true, ltb-true}
 use lib.Dec.{eqb, ltb}
 use lib.IntN.{ℤ}
 use lib.Signed.{leZ, ltZ}
-use Rattle.lines.specs.Lines.{Crossing, Wall}
-use Rattle.lines.specs.Right.{covers, apart, Rising, Bounded}
+use Rattle.formula.specs.States.{State}
+use Rattle.lines.specs.Lines.{Crossing, low, high, stateBefore, stateAt, Wall}
+use Rattle.lines.specs.Right.{covers, apart, Rising, Bounds, Bounded}
 use Rattle.lines.proofs.Keys.{leK, lt-leK, gt-leK, eq-leK, Key, le, le-total, le-trans, le-antisym, ltZ-not, lt→no}
 use Rattle.lines.proofs.Lowest.{lowest-only}
 use Rattle.lines.proofs.Stretches.{Stretch, covered, inStretch, Rises, unique}
@@ -23,20 +24,28 @@ unfoldable pub stretches : List Wall → List (Stretch Key)
 stretches [] = []
 stretches (w ∷ ws) = stretch w ∷ stretches ws
 
-same-walls : (xs : List Crossing) (vs ws : List Wall) → stretches vs ≡ stretches ws → Bounded xs vs → Bounded xs ws → vs ≡ ws
+-- one shape is at a position
+pub bounds-only : (start : ℕ → State) (xs : List Crossing) (l : ℕ) (p : ℤ) (s t : ℕ) → Bounds start xs l p s → Bounds start xs l p t → s ≡ t
+bounds-only start xs l p s t a b = by (leZ p low || leZ high p) refl
+  where
+    by : (m : Bool) → (leZ p low || leZ high p) ≡ m → s ≡ t
+    by true e = a .open-end e ∙ sym (b .open-end e)
+    by false e = lowest-only (stateBefore start xs l p) (stateAt start xs l p) s t (a .crossed-there e) (b .crossed-there e)
+
+same-walls : (start : ℕ → State) (xs : List Crossing) (vs ws : List Wall) → stretches vs ≡ stretches ws → Bounded start xs vs → Bounded start xs ws → vs ≡ ws
 unfolding stretches stretch
-same-walls xs [] [] e b c = refl
-same-walls xs [] (w ∷ ws) e b c = let z : _≡_ {A = ℕ} 0 1 = cc in let b : ⊥ = omega arith in absurd b
-same-walls xs (v ∷ vs) [] e b c = let z : _≡_ {A = ℕ} 0 1 = cc in let b : ⊥ = omega arith in absurd b
-same-walls xs (v ∷ vs) (w ∷ ws) e b c =
+same-walls start xs [] [] e b c = refl
+same-walls start xs [] (w ∷ ws) e b c = let z : _≡_ {A = ℕ} 0 1 = cc in let b : ⊥ = omega arith in absurd b
+same-walls start xs (v ∷ vs) [] e b c = let z : _≡_ {A = ℕ} 0 1 = cc in let b : ⊥ = omega arith in absurd b
+same-walls start xs (v ∷ vs) (w ∷ ws) e b c =
     let a : stretch v ≡ stretch w = cc in
     let d : stretches vs ≡ stretches ws = cc in
-    let t : vs ≡ ws = same-walls xs vs ws d (b .1) (c .1) in
+    let t : vs ≡ ws = same-walls start xs vs ws d (b .1) (c .1) in
     let l : v .line ≡ w .line = ap (λ (k : Stretch Key). k .lo .0) a in
     let p : v .start ≡ w .start = ap (λ (k : Stretch Key). k .lo .1) a in
     let q : v .end ≡ w .end = ap (λ (k : Stretch Key). k .hi .1) a in
-    let f : v .startShape ≡ w .startShape = lowest-only _ _ _ _ (rw (l, p) at (b .0 .0)) (c .0 .0) in
-    let g : v .endShape ≡ w .endShape = lowest-only _ _ _ _ (rw (l, q) at (b .0 .1)) (c .0 .1) in
+    let f : v .startShape ≡ w .startShape = bounds-only start xs (w .line) (w .start) (v .startShape) (w .startShape) (rw (l, p) at (b .0 .0)) (c .0 .0) in
+    let g : v .endShape ≡ w .endShape = bounds-only start xs (w .line) (w .end) (v .endShape) (w .endShape) (rw (l, q) at (b .0 .1)) (c .0 .1) in
     λ i. record { line = l i; start = p i; end = q i; startShape = f i; endShape = g i } ∷ t i
 
 pub in-wall : (l : ℕ) (p : ℤ) (w : Wall) → (eqb (w .line) l && leZ (w .start) p && ltZ p (w .end)) ≡ inStretch le (l, p) (stretch w)
@@ -72,8 +81,8 @@ rises-is [] r = tt
 rises-is (w ∷ []) r = (long w (r .0), (tt, tt))
 rises-is (w ∷ v ∷ vs) r = (long w (r .0), (apart-is w v (r .1 .0), rises-is (v ∷ vs) (r .1 .1)))
 
-pub rising-only : (xs : List Crossing) (vs ws : List Wall) → Rising vs → Rising ws → ((l : ℕ) (p : ℤ) → covers l p vs ≡ covers l p ws) → Bounded xs vs → Bounded xs ws → vs ≡ ws
-rising-only xs vs ws a b same =
-    same-walls xs vs ws
+pub rising-only : (start : ℕ → State) (xs : List Crossing) (vs ws : List Wall) → Rising vs → Rising ws → ((l : ℕ) (p : ℤ) → covers l p vs ≡ covers l p ws) → Bounded start xs vs → Bounded start xs ws → vs ≡ ws
+rising-only start xs vs ws a b same =
+    same-walls start xs vs ws
     (unique le le-total le-trans le-antisym (stretches vs) (stretches ws) (rises-is vs a) (rises-is ws b)
     (λ k. sym (covers-is (k .0) (k .1) vs) ∙ same (k .0) (k .1) ∙ covers-is (k .0) (k .1) ws))

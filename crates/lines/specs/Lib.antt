@@ -2,3 +2,5 @@ pub mod Lines
 pub mod Right
 pub mod Given
 pub mod Steps
+pub mod Columns
+pub mod Marked

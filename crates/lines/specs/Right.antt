@@ -8,7 +8,7 @@ use lib.IntN.{ℤ}
 use lib.Signed.{ltZ, leZ}
 use Rattle.formula.specs.Formula.{Formula, inside}
 use Rattle.formula.specs.States.{State}
-use Rattle.lines.specs.Lines.{Crossing, stateBefore, stateAt, Wall}
+use Rattle.lines.specs.Lines.{Crossing, low, high, stateBefore, stateAt, Wall}
 
 -- The unit cell from p to p + 1 of line l lies in a wall of the list.
 unfoldable pub covers : ℕ → ℤ → List Wall → Bool
@@ -33,17 +33,18 @@ pub record LowestChanged (a b : State) (s : ℕ) : Type 0 where
   pub changed : a s ≡ b s → ⊥
   pub lowest : (t : ℕ) → t < s → a t ≡ b t
 
--- The shape at position p of line l.
-abbrev pub Bounds : List Crossing → ℕ → ℤ → ℕ → Type 0
-Bounds xs l p s = LowestChanged (stateBefore l p xs) (stateAt l p xs) s
+-- The shape at position p of line l; an open end's is 65535.
+pub record Bounds (start : ℕ → State) (xs : List Crossing) (l : ℕ) (p : ℤ) (s : ℕ) : Type 0 where
+  pub open-end : (leZ p low || leZ high p) ≡ true → s ≡ 65535
+  pub crossed-there : (leZ p low || leZ high p) ≡ false → LowestChanged (stateBefore start xs l p) (stateAt start xs l p) s
 
 -- Each wall names the shape at its start and the one at its end.
-abbrev pub Bounded : List Crossing → List Wall → Type 0
-Bounded xs [] = Unit {0}
-Bounded xs (w ∷ ws) = (Bounds xs (w .line) (w .start) (w .startShape) × Bounds xs (w .line) (w .end) (w .endShape)) × Bounded xs ws
+abbrev pub Bounded : (ℕ → State) → List Crossing → List Wall → Type 0
+Bounded start xs [] = Unit {0}
+Bounded start xs (w ∷ ws) = (Bounds start xs (w .line) (w .start) (w .startShape) × Bounds start xs (w .line) (w .end) (w .endShape)) × Bounded start xs ws
 
--- The longest stretches of positive length inside, all of them, in rising order, with the shapes that bound them.
-pub record Right (f : Formula) (xs : List Crossing) (ws : List Wall) : Type 0 where
-  pub cells : (l : ℕ) (p : ℤ) → covers l p ws ≡ inside f (stateAt l p xs)
+-- Of the lines that have a row, between the end marks: the longest stretches of positive length inside, all of them, in rising order, with the shapes that bound them.
+pub record Right (f : Formula) (rows : ℕ) (start : ℕ → State) (xs : List Crossing) (ws : List Wall) : Type 0 where
+  pub cells : (l : ℕ) (p : ℤ) → covers l p ws ≡ (ltb l rows && (leZ low p && (ltZ p high && inside f (stateAt start xs l p))))
   pub rising : Rising ws
-  pub shapes : Bounded xs ws
+  pub shapes : Bounded start xs ws

@@ -69,27 +69,40 @@ fn heading() {
     println!("- `library`: the proved library, called through the Rust crate.");
     println!("- `plain`: safe Rust of the same method.");
     println!("- `walk`: plain Rust that flips leaves and walks up the contracted tree at each crossing.");
+    println!("- `pass`: one plain pass over the start rows, a byte a name and line: what a call in air has to look at, and nothing more.");
     println!("- `copy`: a plain copy of the call's lists, those read and those written.\n");
+    println!("For classify, lines start in air where nothing else is said.");
     println!("All lists are made before and lent again at each turn; none is cleared.\n");
-    println!("| job | formula | leaves | lists | library | plain | walk | copy | library / plain | walk / library | library / copy |");
-    println!("|---|---|--:|---|--:|--:|--:|--:|--:|--:|--:|");
+    println!(
+        "| job | formula | leaves | lists | library | plain | walk | pass | copy | library / plain | walk / library | library / copy |"
+    );
+    println!("|---|---|--:|---|--:|--:|--:|--:|--:|--:|--:|--:|");
 }
 
 /// Times and prints a row.
 fn line(row: &mut Row) -> Said {
     let mut functions: Vec<&mut dyn FnMut()> = vec![&mut row.library, &mut row.plain, &mut row.copy];
     functions.extend(row.walk.as_mut().map(|walk| walk as &mut dyn FnMut()));
-    let times: Vec<f64> = best(&mut functions).into_iter().map(|time| time / row.items as f64).collect();
-    let (library, plain, copy) = (times[0], times[1], times[2]);
-    let [walk, faster] =
-        times.get(3).map_or([String::new(), String::new()], |time| [format!("{time:.2}"), format!("{:.1}", time / library)]);
+    functions.extend(row.pass.as_mut().map(|pass| pass as &mut dyn FnMut()));
+    let mut times = best(&mut functions).into_iter().map(|time| time / row.items as f64);
+    let mut next = || times.next().unwrap_or_default();
+    let (library, plain, copy) = (next(), next(), next());
+    let (walk, pass) = (row.walk.as_ref().map(|_| next()), row.pass.as_ref().map(|_| next()));
+    let shown = |time: Option<f64>| time.map_or(String::new(), |time| format!("{time:.2}"));
+    let faster = walk.map_or(String::new(), |time| format!("{:.1}", time / library));
     let what = format!("{} | {} | {} | {}", row.job, row.formula, row.leaves, row.lists);
-    println!("| {what} | {library:.2} | {plain:.2} | {walk} | {copy:.2} | {:.2} | {faster} | {:.0} |", library / plain, library / copy);
+    println!(
+        "| {what} | {library:.2} | {plain:.2} | {} | {} | {copy:.2} | {:.2} | {faster} | {:.0} |",
+        shown(walk),
+        shown(pass),
+        library / plain,
+        library / copy
+    );
     Said {
         what: what.replace(" |", ","),
         leaves: row.leaves,
         plain: library / plain,
-        walk: times.get(3).filter(|_| row.leaves >= 256).map(|time| time / library),
+        walk: walk.filter(|_| row.leaves >= 256).map(|time| time / library),
     }
 }
 

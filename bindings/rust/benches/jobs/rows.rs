@@ -18,6 +18,8 @@ pub struct Row {
     pub plain: Box<dyn FnMut()>,
     pub walk: Option<Box<dyn FnMut()>>,
     pub copy: Box<dyn FnMut()>,
+    /// One plain pass over the start rows.
+    pub pass: Option<Box<dyn FnMut()>>,
     /// Compares the answers.
     pub check: Box<dyn Fn()>,
 }
@@ -62,8 +64,15 @@ pub fn all(crossings: usize) -> Vec<Row> {
     for formula in ["chain", "balanced", "split", "ninety"] {
         let sizes = &SIZES[if formula == "ninety" { 2 } else { 0 }..];
         for (leaves, a_line) in sizes.iter().flat_map(|leaves| [2, 10, 200].map(|a_line| (*leaves, a_line))) {
-            rows.push(classify(formula, leaves, a_line, crossings));
+            rows.push(classify(formula, leaves, a_line, Starts::Air, crossings));
         }
+    }
+    let started = [Starts::Three { every: 10 }, Starts::Three { every: 1 }, Starts::Random];
+    for (formula, leaves) in ["chain", "balanced"].into_iter().flat_map(|formula| SIZES.map(|leaves| (formula, leaves))) {
+        rows.extend(started.map(|starts| classify(formula, leaves, 10, starts, crossings)));
+    }
+    for a_line in [2, 200] {
+        rows.extend(started.map(|starts| classify("balanced", 256, a_line, starts, crossings)));
     }
     rows.push(walls_only(64, crossings));
     rows.push(together(64, crossings));
@@ -92,6 +101,7 @@ fn read(formula: &'static str, leaves: usize) -> Row {
         plain: Box::new(move || _ = black_box(plain::read(black_box(&b)))),
         walk: None,
         copy: Box::new(copying(c)),
+        pass: None,
         check: Box::new(move || {
             let read = kressedach::read(&sheet).unwrap();
             assert_eq!(plain::read(&sheet), Ok((read.names, read.leaves, read.formula.start, read.formula.end)));
@@ -122,6 +132,7 @@ fn read_pair(formula: &'static str, fitted: usize, leaves: usize) -> Row {
         plain: Box::new(move || _ = black_box(plain::read_pair(black_box(&b.0), black_box(&b.1)))),
         walk: None,
         copy: Box::new(copying(c)),
+        pass: None,
         check: Box::new(move || {
             let read = kressedach::read(kressedach::Sheets::beside(&fittings, &own)).unwrap();
             assert_eq!(plain::read_pair(&fittings, &own), Ok((read.names, read.leaves, read.formula.start, read.formula.end)));
@@ -163,6 +174,7 @@ fn build(formula: &'static str, leaves: usize) -> Row {
             copy_sheet();
             copy_lists();
         }),
+        pass: None,
         check: Box::new(move || {
             let size = [due.leaves, nodes, due.rounds, due.height()];
             let lists = |list: fn(&peer::dwarf::Record) -> u16| due.records.iter().map(list).collect::<Vec<u16>>();
@@ -213,6 +225,7 @@ fn run(formula: &'static str, leaves: usize, count: usize) -> Row {
             copy_bytes();
             copy_counts();
         }),
+        pass: None,
         check: Box::new(move || {
             let due = peer::run(Sheets::alone(&sheet), &toggles, [usize::MAX; 3]).unwrap();
             let (mut roots, mut counts, mut labels) = (vec![0; toggles.len()], vec![0; toggles.len()], vec![0; NODES]);
@@ -240,8 +253,46 @@ fn crossings(names: usize, a_line: usize, count: usize) -> Vec<Crossing> {
     all
 }
 
+/// How the lines of a call start.
+#[derive(Clone, Copy)]
+enum Starts {
+    Air,
+    /// Every so manieth line starts inside three shapes.
+    Three {
+        every: usize,
+    },
+    /// Every byte by the dice.
+    Random,
+}
+
+impl Starts {
+    fn rows(self, names: usize, lines: usize) -> Vec<u8> {
+        let dice = &mut Dice::of(15, names as u64);
+        let mut rows = vec![0; names * lines];
+        for (line, row) in rows.chunks_mut(names).enumerate() {
+            match self {
+                Starts::Air => {}
+                Starts::Three { every } if line % every == 0 => (0..3).for_each(|_| row[dice.below(names)] = 1),
+                Starts::Three { .. } => {}
+                Starts::Random => row.iter_mut().for_each(|byte| *byte = dice.below(2) as u8),
+            }
+        }
+        rows
+    }
+
+    fn named(self) -> &'static str {
+        match self {
+            Starts::Air => "",
+            Starts::Three { every: 1 } => ", all start in 3 shapes",
+            Starts::Three { .. } => ", a tenth start in 3 shapes",
+            Starts::Random => ", start rows by the dice",
+        }
+    }
+}
+
 struct Lines {
     sheet: Vec<u8>,
+    rows: Vec<u8>,
     lines: Vec<u32>,
     positions: Vec<i32>,
     shapes: Vec<u16>,
@@ -277,14 +328,21 @@ impl Room {
 /// A way to classify, with the lists it writes.
 type Way = fn(&Lines, &mut WallLists) -> usize;
 
-const LIBRARY: Way = |l, walls| kressedach::classify_into(&l.sheet, &l.lines, &l.positions, &l.shapes, walls).unwrap();
-const WORDS: Way = |l, walls| plain::by_words(&l.sheet, &l.lines, &l.positions, &l.shapes, walls).unwrap();
-const WALK: Way = |l, walls| plain::by_walk(&l.sheet, &l.lines, &l.positions, &l.shapes, walls).unwrap();
+const LIBRARY: Way = |l, walls| kressedach::classify_into(&l.sheet, &l.rows, &l.lines, &l.positions, &l.shapes, walls).unwrap();
+const WORDS: Way = |l, walls| plain::by_words(&l.sheet, l.plain(), walls).unwrap();
+const WALK: Way = |l, walls| plain::by_walk(&l.sheet, l.plain(), walls).unwrap();
+
+impl Lines {
+    fn plain(&self) -> plain::Lines<'_> {
+        plain::Lines { rows: &self.rows, lines: &self.lines, positions: &self.positions, shapes: &self.shapes }
+    }
+}
 
 /// Random crossings, so many a line.
-fn classify(formula: &'static str, leaves: usize, a_line: usize, count: usize) -> Row {
+fn classify(formula: &'static str, leaves: usize, a_line: usize, starts: Starts, count: usize) -> Row {
     let (sheet, names) = sheet(formula, leaves);
-    lines_row(formula, leaves, sheet, crossings(names, a_line, count), format!("{a_line} a line"))
+    let named = format!("{a_line} a line{}", starts.named());
+    lines_row(formula, leaves, sheet, starts.rows(names, count / a_line), crossings(names, a_line, count), named)
 }
 
 /// Every two crossings make a wall: on each line the first shape alone is crossed, of a union of all.
@@ -292,7 +350,8 @@ fn walls_only(leaves: usize, count: usize) -> Row {
     let names: Vec<String> = (0..leaves).map(|shape| format!("rib{shape:03}")).collect();
     let codes: Vec<u16> = (0..leaves as u16).flat_map(|leaf| if leaf == 0 { vec![0] } else { vec![leaf, 0xFFF0] }).collect();
     let all = (0..count).map(|k| Crossing { line: (k / 10) as u32, position: 10 * (k % 10) as i32, shape: 0 }).collect();
-    lines_row("union", leaves, make::sheet(&names, &codes), all, "a wall for every two".into())
+    let rows = Starts::Air.rows(leaves, count.div_ceil(10));
+    lines_row("union", leaves, make::sheet(&names, &codes), rows, all, "a wall for every two".into())
 }
 
 /// Two positions a line, at which all its crossings lie: every shape at both.
@@ -302,23 +361,26 @@ fn together(leaves: usize, count: usize) -> Row {
     let count = count / (2 * leaves) * 2 * leaves;
     let one =
         |k: usize| Crossing { line: (k / (2 * leaves)) as u32, position: (k / leaves % 2) as i32, shape: (leaves - 1 - k % leaves) as u16 };
-    lines_row("union", leaves, make::sheet(&names, &codes), (0..count).map(one).collect(), format!("{leaves} at one position"))
+    let rows = Starts::Air.rows(leaves, count / (2 * leaves));
+    lines_row("union", leaves, make::sheet(&names, &codes), rows, (0..count).map(one).collect(), format!("{leaves} at one position"))
 }
 
-fn lines_row(formula: &'static str, leaves: usize, sheet: Vec<u8>, all: Vec<Crossing>, named: String) -> Row {
+fn lines_row(formula: &'static str, leaves: usize, sheet: Vec<u8>, rows: Vec<u8>, all: Vec<Crossing>, named: String) -> Row {
     let count = all.len();
+    let room = count / 2 + rows.len() / leaves.min(256);
     let lines = std::rc::Rc::new(Lines {
         sheet: sheet.clone(),
+        rows: rows.clone(),
         lines: all.iter().map(|c| c.line).collect(),
         positions: all.iter().map(|c| c.position).collect(),
         shapes: all.iter().map(|c| c.shape).collect(),
     });
     let timed = |way: Way| -> Box<dyn FnMut()> {
-        let (lines, mut room) = (lines.clone(), Room::of(count / 2));
+        let (lines, mut room) = (lines.clone(), Room::of(room));
         Box::new(move || _ = black_box(way(black_box(&lines), &mut room.lent())))
     };
-    let walls = WORDS(&lines, &mut Room::of(count / 2).lent());
-    let (mut copy_sheet, mut copy_shapes) = (copying(sheet), copying(lines.shapes.clone()));
+    let walls = WORDS(&lines, &mut Room::of(room).lent());
+    let (mut copy_sheet, mut copy_rows, mut copy_shapes) = (copying(sheet), copying(rows.clone()), copying(lines.shapes.clone()));
     let (mut copy_words, mut copy_walls) = (copying(vec![0u32; 2 * count]), copying(vec![0u32; 4 * walls]));
     Row {
         job: "classify",
@@ -331,15 +393,17 @@ fn lines_row(formula: &'static str, leaves: usize, sheet: Vec<u8>, all: Vec<Cros
         walk: Some(timed(WALK)),
         copy: Box::new(move || {
             copy_sheet();
+            copy_rows();
             copy_shapes();
             copy_words();
             copy_walls();
         }),
+        pass: Some(Box::new(move || _ = black_box(plain::over(black_box(&rows))))),
         check: Box::new(move || {
-            let crossings = Crossings { lines: &lines.lines, positions: &lines.positions, shapes: &lines.shapes };
-            let due = peer::classify(Sheets::alone(&lines.sheet), crossings, [count; 5]).unwrap();
+            let crossings = Crossings { rows: &lines.rows, lines: &lines.lines, positions: &lines.positions, shapes: &lines.shapes };
+            let due = peer::classify(Sheets::alone(&lines.sheet), crossings, [room; 5]).unwrap();
             for way in [LIBRARY, WORDS, WALK] {
-                let mut room = Room::of(count / 2);
+                let mut room = Room::of(room);
                 assert_eq!(way(&lines, &mut room.lent()), due.len());
                 for (k, wall) in due.iter().enumerate() {
                     assert_eq!((room.lines[k], room.starts[k], room.ends[k]), (wall.line, wall.start, wall.end));
@@ -455,6 +519,7 @@ fn cross(shapes: &'static str, count: usize) -> Row {
                 copy_numbers();
             }
         }),
+        pass: None,
         check: Box::new(move || {
             for way in [PROVED, BY_BITS] {
                 let (mut starts, mut positions, mut numbers) = room();

@@ -83,8 +83,9 @@ pub fn run_both(sheets: Sheets, order: &[u8], lists: [&[u16]; 2], rooms: [[usize
 pub fn classify(sheets: Sheets, crossings: Crossings, rooms: [usize; 5]) -> Result<Vec<Wall>, Refused> {
     let (sheet, _) = contracted(sheets)?;
     let judged = lines::judge(sheet.names.len(), crossings)?;
-    enough(rooms, [judged.len() / 2; 5])?;
-    Ok(lines::walls(&sheet.formula, sheet.names.len(), &judged))
+    // "room is half the crossings, rounded down, plus the number of rows"
+    enough(rooms, [judged.len() / 2 + crossings.rows.len() / sheet.names.len(); 5])?;
+    Ok(lines::walls(&sheet.formula, sheet.names.len(), crossings.rows, &judged))
 }
 
 /// Asking for a shape's name: its bytes; "past the joined names is 10, place 0".

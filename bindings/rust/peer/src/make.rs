@@ -1,4 +1,4 @@
-//! Sheets, toggle lists and crossing lists made from a seed: good, damaged, extreme and long ones.
+//! Sheets, toggle lists, start rows and crossing lists made from a seed: good, damaged, extreme and long ones.
 
 use crate::lines::Crossing;
 
@@ -298,48 +298,85 @@ pub fn toggles(dice: &mut Dice, names: usize, most: usize) -> Vec<u16> {
     (0..count).map(|_| dice.below(among) as u16).collect()
 }
 
-/// Crossings that are good: so many lines at most, so many crossings a line at most, every shape crossed evenly on each.
-pub fn crossings(dice: &mut Dice, names: usize, most_lines: usize, most_a_line: usize) -> Vec<Crossing> {
+/// Start rows for so many lines: all in air, mostly; or few lines that start inside few shapes; or every byte by the dice, or all 1.
+pub fn rows(dice: &mut Dice, names: usize, lines: usize) -> Vec<u8> {
+    let mut rows = vec![0; lines * names];
+    match dice.below(8) {
+        0..=2 => {}
+        3 | 4 => {
+            for row in rows.chunks_mut(names).filter(|_| dice.once_in(4)) {
+                row[0] = 1;
+                row[names - 1] = 1;
+            }
+        }
+        5 => {
+            for _ in 0..lines / 2 {
+                rows[dice.below(lines * names)] = 1;
+            }
+        }
+        6 => rows.iter_mut().for_each(|byte| *byte = dice.below(2) as u8),
+        _ => rows.fill(1),
+    }
+    rows
+}
+
+/// Changes start rows in one place: a length that is no multiple, a byte that is neither 0 nor 1, a row that is missing, no rows at all.
+pub fn damage_rows(dice: &mut Dice, names: usize, rows: &mut Vec<u8>) {
+    match dice.below(6) {
+        0 => drop(rows.pop()),
+        1 => rows.push(dice.of_these(&[0, 0, 1, 2])),
+        2 | 3 if !rows.is_empty() => {
+            let at = dice.of_these(&[0, rows.len() - 1, rows.len() / 2]);
+            rows[at] = dice.of_these(&[2, 2, 3, 128, 255]);
+        }
+        4 => rows.truncate(rows.len().saturating_sub(names)),
+        _ => rows.clear(),
+    }
+}
+
+/// Crossings that are good: some or none on each of so many lines, so many a line at most, of any shapes. On some lines every shape is
+/// crossed evenly.
+pub fn crossings(dice: &mut Dice, names: usize, lines: usize, most_a_line: usize) -> Vec<Crossing> {
+    const ALL: i64 = (1 << 32) - 2;
+    let lowest_of_all = i64::from(i32::MIN) + 1;
     let mut all = Vec::new();
-    let mut line = dice.of_these(&[0, 0, 1, 7, u32::MAX - 2, u32::MAX]);
-    for _ in 0..dice.size(most_lines) {
-        let spread = dice.of_these(&[1, 4, 4, 30, 30, 1000, 1 << 32]);
-        let lowest =
-            if spread == 1 << 32 { i64::from(i32::MIN) } else { dice.of_these(&[0, -15, i64::from(i32::MIN), (1i64 << 31) - spread]) };
+    for line in 0..lines as u32 {
+        if dice.once_in(5) {
+            continue;
+        }
+        let spread = dice.of_these(&[1, 4, 4, 30, 30, 1000, ALL]);
+        let lowest = if spread == ALL { lowest_of_all } else { dice.of_these(&[0, -15, lowest_of_all, i64::from(i32::MAX) - spread]) };
         let among = if dice.once_in(2) { names } else { names.min(4) };
+        let times = 1 + dice.below(2);
         let mut here = Vec::new();
-        for _ in 0..dice.size(most_a_line / 2) {
+        for _ in 0..dice.size(most_a_line / times) {
             let shape = dice.below(among) as u16;
-            for _ in 0..2 {
+            for _ in 0..times {
                 here.push(Crossing { line, position: (lowest + dice.below(spread as usize) as i64) as i32, shape });
             }
         }
         here.sort_by_key(|crossing| crossing.position);
         all.extend(here);
-        let gap = dice.of_these(&[1, 1, 1, 2, 100, 1 << 30]);
-        match line.checked_add(gap) {
-            Some(next) => line = next,
-            None => break,
-        }
     }
     all
 }
 
-/// Changes crossings in one place.
-pub fn damage_crossings(dice: &mut Dice, names: usize, all: &mut Vec<Crossing>) {
+/// Changes crossings in one place. There are so many start rows.
+pub fn damage_crossings(dice: &mut Dice, names: usize, rows: usize, all: &mut Vec<Crossing>) {
     if all.is_empty() {
         return all.push(Crossing { line: 0, position: 5, shape: 0 });
     }
     let at = dice.below(all.len());
-    match dice.below(6) {
+    match dice.below(7) {
         0 => all[at].shape = dice.of_these(&[names as u16, 255, 256, 65535]),
-        1 => all[at].position = dice.of_these(&[i32::MIN, i32::MAX, 0]),
-        2 => all[at].line = dice.of_these(&[0, u32::MAX, all[0].line]),
+        1 => all[at].position = dice.of_these(&[i32::MIN, i32::MAX]),
+        2 => all[at].line = dice.of_these(&[0, rows as u32, (rows as u32).saturating_sub(1), u32::MAX, all[0].line]),
         3 => drop(all.remove(at)),
         4 => {
             let other = dice.below(all.len());
             all.swap(at, other);
         }
+        5 => all[at].position = dice.of_these(&[i32::MIN + 1, i32::MAX - 1, 0]),
         _ => all[at].shape = dice.below(names) as u16,
     }
 }

@@ -56,11 +56,16 @@ fn ran(roots: &[u8], counts: &[u32], labels: &[u8]) -> Result<Ran, Refused> {
     Ok(Ran { roots: roots.to_vec(), counts: counts.to_vec(), labels: labels.to_vec() })
 }
 
-/// The walls of one line, from positions and shapes.
-fn walls(sheet: &[u8], crossings: &[(i32, u16)]) -> Result<Vec<(i32, i32)>, Refused> {
+/// The walls of one line, from its start row, positions and shapes.
+fn line(sheet: &[u8], row: &[u8], crossings: &[(i32, u16)]) -> Result<Vec<Wall>, Refused> {
     let (positions, shapes): (Vec<i32>, Vec<u16>) = crossings.iter().copied().unzip();
-    let found = classify(sheet, Crossings { lines: &vec![7; crossings.len()], positions: &positions, shapes: &shapes }, WALL_ROOM)?;
-    assert!(found.iter().all(|wall| wall.line == 7));
+    classify(sheet, Crossings { rows: row, lines: &vec![0; crossings.len()], positions: &positions, shapes: &shapes }, WALL_ROOM)
+}
+
+/// Where the walls of one line that starts in air begin and end.
+fn walls(sheet: &[u8], crossings: &[(i32, u16)]) -> Result<Vec<(i32, i32)>, Refused> {
+    let found = line(sheet, &vec![0; read(sheet)?.names.len()], crossings)?;
+    assert!(found.iter().all(|wall| wall.line == 0));
     Ok(found.into_iter().map(|wall| (wall.start, wall.end)).collect())
 }
 
@@ -127,15 +132,14 @@ fn walls_of_lines() {
     let one = sheet(&["A"], &[0]);
     assert_eq!(walls(&one, &[(10, 0), (10, 0)]), Ok(vec![]));
     assert_eq!(walls(&one, &[]), Ok(vec![]));
-    assert_eq!(walls(&one, &[(i32::MIN, 0), (i32::MAX, 0)]), Ok(vec![(i32::MIN, i32::MAX)]));
-    assert_eq!(walls(&one, &[(5, 0)]), refused(12, 0));
+    assert_eq!(walls(&one, &[(i32::MIN + 1, 0), (i32::MAX - 1, 0)]), Ok(vec![(i32::MIN + 1, i32::MAX - 1)]));
     assert_eq!(walls(&worked(), &[(5, 3)]), refused(10, 0));
     assert_eq!(run(&worked(), &[0, 3], ROOM), refused(10, 1));
 }
 
 #[test]
 fn walls_do_not_join_across_lines() {
-    let lists = Crossings { lines: &[1, 1, 2, 2], positions: &[0, 5, 5, 9], shapes: &[0; 4] };
+    let lists = Crossings { rows: &[0; 3], lines: &[1, 1, 2, 2], positions: &[0, 5, 5, 9], shapes: &[0; 4] };
     let due = [
         Wall { line: 1, start: 0, end: 5, start_shape: 0, end_shape: 0 },
         Wall { line: 2, start: 5, end: 9, start_shape: 0, end_shape: 0 },
@@ -147,9 +151,7 @@ fn walls_do_not_join_across_lines() {
 #[test]
 fn the_shapes_that_bound_a_wall() {
     let shapes = |sheet: &[u8], crossings: &[(i32, u16)]| -> Vec<(u16, u16)> {
-        let (positions, shapes): (Vec<i32>, Vec<u16>) = crossings.iter().copied().unzip();
-        let lists = Crossings { lines: &vec![7; crossings.len()], positions: &positions, shapes: &shapes };
-        classify(sheet, lists, WALL_ROOM).unwrap().into_iter().map(|wall| (wall.start_shape, wall.end_shape)).collect()
+        line(sheet, &[0; 3], crossings).unwrap().into_iter().map(|wall| (wall.start_shape, wall.end_shape)).collect()
     };
     let of = |codes: &[u16]| sheet(&["A", "B", "C"], codes);
     assert_eq!(shapes(&of(&[0, 1, DIFFERENCE]), &[(0, 0), (40, 1), (60, 1), (100, 0)]), [(0, 1), (1, 0)]);
@@ -219,21 +221,77 @@ fn refusals_of_reading() {
 #[test]
 fn refusals_in_their_order() {
     let one = sheet(&["A"], &[0]);
-    let lists = |lines, positions, shapes| classify(&one, Crossings { lines, positions, shapes }, [0; 5]);
+    let lists = |lines, positions, shapes| classify(&one, Crossings { rows: &[0; 7], lines, positions, shapes }, [0; 5]);
     assert_eq!(lists(&[0], &[0], &[]), refused(13, 0));
     assert_eq!(lists(&[5, 4], &[0, 0], &[0, 1]), refused(10, 1));
     assert_eq!(lists(&[5, 4, 4], &[0, 0, 0], &[0, 0, 1]), refused(11, 1));
     assert_eq!(lists(&[5, 5], &[1, 0], &[0, 0]), refused(11, 1));
-    assert_eq!(lists(&[5, 6], &[1, 0], &[0, 0]), refused(12, 0));
-    assert_eq!(lists(&[5, 5], &[1, 2], &[0, 0]), refused(9, 1));
-    assert_eq!(lists(&[], &[], &[]), Ok(vec![]));
+    assert_eq!(lists(&[5, 5, 5], &[1, 2, 3], &[0, 0, 0]), refused(9, 8));
+    assert_eq!(lists(&[], &[], &[]), refused(9, 7));
     assert_eq!(build(&worked(), [6, 5, 5]), refused(9, 6));
     assert_eq!(run(&worked(), &[0; 4], [4, 3, 0]), refused(9, 4));
     assert_eq!(run(&worked(), &[0; 4], [4, 4, 5]), refused(9, 6));
-    // 12 names the last entry, of any shape, on the first such line
+}
+
+/// K3: an open wall starts at -2147483648 or ends at 2147483647, and an open end's shape is 65535.
+#[test]
+fn lines_that_start_in_metal() {
+    let wall = |start, end, start_shape, end_shape| Wall { line: 0, start, end, start_shape, end_shape };
+    let (low, high, open) = (-2147483648, 2147483647, 65535);
+    let one = sheet(&["A"], &[0]);
+    // document 02's case, and its mirror
+    assert_eq!(line(&one, &[0], &[(5, 0)]), Ok(vec![wall(5, high, 0, open)]));
+    assert_eq!(line(&one, &[1], &[(5, 0)]), Ok(vec![wall(low, 5, open, 0)]));
+    // no crossing, with metal and without
+    assert_eq!(line(&one, &[1], &[]), Ok(vec![wall(low, high, open, open)]));
+    assert_eq!(line(&one, &[0], &[]), Ok(vec![]));
+    // a stretch of no length is nothing, and what touches is joined
+    assert_eq!(line(&one, &[1], &[(5, 0), (5, 0)]), Ok(vec![wall(low, high, open, open)]));
+    assert_eq!(line(&one, &[1], &[(5, 0), (7, 0)]), Ok(vec![wall(low, 5, open, 0), wall(7, high, 0, open)]));
+    // an odd count is a changed start state: A less B, both inside at the start
+    let less = sheet(&["A", "B"], &[0, 1, DIFFERENCE]);
+    assert_eq!(line(&less, &[1, 1], &[(-3, 1), (8, 0)]), Ok(vec![wall(-3, 8, 1, 0)]));
+    assert_eq!(line(&less, &[1, 0], &[(-3, 1), (4, 1)]), Ok(vec![wall(low, -3, open, 1), wall(4, high, 1, open)]));
+}
+
+/// K3: lines are numbered by their rows, and what is left inside at a line's end is so on no other.
+#[test]
+fn lines_are_numbered_by_their_rows() {
+    let lists = Crossings { rows: &[0, 1, 0, 0, 1], lines: &[0, 1, 3], positions: &[5, 7, 5], shapes: &[0; 3] };
+    let (low, high, open) = (i32::MIN, i32::MAX, 65535);
+    let due = [
+        Wall { line: 0, start: 5, end: high, start_shape: 0, end_shape: open },
+        Wall { line: 1, start: low, end: 7, start_shape: open, end_shape: 0 },
+        Wall { line: 3, start: 5, end: high, start_shape: 0, end_shape: open },
+        Wall { line: 4, start: low, end: high, start_shape: open, end_shape: open },
+    ];
+    assert_eq!(classify(&sheet(&["A"], &[0]), lists, [6; 5]).unwrap(), due);
+    assert_eq!(classify(&sheet(&["A"], &[0]), lists, [6, 6, 6, 6, 5]), refused(9, 6));
+}
+
+/// K3: 14 after 13, at place 0; 15 between 10 and 11, at its index.
+#[test]
+fn start_rows_and_end_marks() {
     let two = sheet(&["A", "B"], &[0, 1, UNION]);
-    let lists = Crossings { lines: &[1, 1, 1, 2, 2, 2, 2], positions: &[0; 7], shapes: &[0, 1, 1, 0, 1, 1, 1] };
-    assert_eq!(classify(&two, lists, WALL_ROOM), refused(12, 2));
+    let of = |rows: &[u8], lines: &[u32], positions: &[i32], shapes: &[u16]| {
+        classify(&two, Crossings { rows, lines, positions, shapes }, WALL_ROOM)
+    };
+    assert_eq!(of(&[0; 3], &[0], &[], &[]), refused(13, 0));
+    assert_eq!(of(&[0; 3], &[0], &[0], &[2]), refused(14, 0));
+    assert_eq!(of(&[0, 1, 2, 0], &[0], &[0], &[2]), refused(14, 0));
+    assert_eq!(of(&[0, 1, 1, 255], &[], &[], &[]), refused(14, 0));
+    assert_eq!(of(&[], &[], &[], &[]), Ok(vec![]));
+    assert_eq!(of(&[], &[0], &[0], &[0]), refused(15, 0));
+    assert_eq!(of(&[0; 4], &[1, 2], &[0, 0], &[0, 0]), refused(15, 1));
+    assert_eq!(of(&[0; 4], &[1, 2], &[0, 0], &[0, 2]), refused(10, 1));
+    for mark in [i32::MIN, i32::MAX] {
+        assert_eq!(of(&[0; 4], &[1, 1], &[0, mark], &[0, 0]), refused(15, 1));
+        assert_eq!(of(&[0; 4], &[1, 0], &[0, mark], &[0, 0]), refused(15, 1));
+        assert_eq!(of(&[0; 4], &[1, 0], &[0, mark], &[0, 2]), refused(10, 1));
+    }
+    assert_eq!(of(&[0; 4], &[1, 0], &[0, 0], &[0, 0]), refused(11, 1));
+    // the last line and the last position that are taken; more than 4294967296 rows are more than a test can lend
+    assert_eq!(of(&[0; 4], &[1], &[i32::MAX - 1], &[0]).map(|walls| walls.len()), Ok(1));
 }
 
 /// The rake table is the operation itself, with 1 and with 0 on the open side; and the labels give the formula's value.

@@ -3,8 +3,7 @@ use borrow.Author.Needs.{needs}
 use Rattle.line_shapes.proofs.TallyLaws.{least-start, least-more, least-end, few-at}
 use Prim.Native.Nat.{_-_}
 use lib.ListN.{length}
-use Rattle.line_checking.specs.Steps.{stateOf}
-use Rattle.line_shapes.specs.Groups.{Least}
+use Rattle.line_shapes.specs.Groups.{stateOf, Least}
 use Rattle.line_shapes.proofs.least.Statement.{statement}
 use Rattle.line_shapes.proofs.least.Tie as tie
 

@@ -4,8 +4,8 @@ use borrow.Author.Needs.{needs}
 use Rattle.line_shapes.proofs.lesser.Statement.{statement}
 use Rattle.line_shapes.proofs.lesser.Tie as tie
 
-index-requires : tie.Need-index-requires
-index-requires c κs = search needs
+wide-requires : tie.Need-wide-requires
+wide-requires c κs = search needs
 
 element-copy-out-if1 : tie.Need-element-copy-out-if1
 element-copy-out-if1 c = search needs
@@ -20,4 +20,4 @@ returns-3 : tie.Need-returns-3
 returns-3 c = search lesser-that
 
 pub lesser-spec : {M : Type 1} → statement M
-lesser-spec = tie.close (tie.spec index-requires element-copy-out-if1 returns returns-2 returns-3)
+lesser-spec = tie.close (tie.spec wide-requires element-copy-out-if1 returns returns-2 returns-3)

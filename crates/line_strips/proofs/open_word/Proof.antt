@@ -1,44 +1,57 @@
--- A word opens at the states of the crossings before it.
-use Prim.Native.Nat.{_-_, _*_}
-use native.Mathlib.Omega.{arith}
-use mathlib.Core.Path.{sym, _∙_}
-use denote.Ref.{now}
-use Rattle.line_strips.proofs.Blocks.{below-part, level-replayed, level-carried}
+-- `line_strips::open_word` meets its contract.
+use Rattle.line_strips.proofs.Spans.{from-ones}
+use Rattle.line_strips.proofs.Opens.{ones-last, opens-last, opens-replayed, opens-carried}
 use borrow.Author.Needs.{needs}
 use Rattle.line_strips.proofs.open_word.Statement.{statement}
 use Rattle.line_strips.proofs.open_word.Tie as tie
 use Rattle.line_strips.proofs.open_word.Reads as reads
 use Rattle.line_strips.proofs.open_word.Lts as lts
 use Rattle.line_strips.proofs.carry.Reads as carry-reads
-use Rattle.line_strips.proofs.line_begins.Reads as line-begins-reads
-use Rattle.line_strips.proofs.near.Reads as near-reads
+use Rattle.line_strips.proofs.line_start.Reads as line-start-reads
 use Rattle.line_strips.proofs.replay.Reads as replay-reads
+use Rattle.line_strips.proofs.span.Reads as span-reads
 
-near-requires : tie.Need-near-requires
-near-requires c κs = search needs
+sub-past : tie.Need-sub-past
+sub-past c = search needs
 
-line-begins-requires : tie.Need-line-begins-requires
-line-begins-requires c κs = search needs
+mul-past : tie.Need-mul-past
+mul-past c = search needs
 
-mul-part : tie.Need-mul-part
-mul-part c = search needs
-
-sub-part : tie.Need-sub-part
-sub-part c = search needs
-
-part-part-start : tie.Need-part-part-start
-part-part-start c = search needs
-
-part-part-end : tie.Need-part-part-end
-part-part-end c = search needs
-
-replay-requires : tie.Need-replay-requires
-replay-requires c κs = (search needs, search needs, below-part _ _ _ (c .before .before .before .before .near .result) (c .before .before .before .before .before .before .before .before .args .b - c .before .before .before .before .near .result) (c .before .before .before .before .before .before .before .before .pre .0 .4) (c .before .before .before .before .before .before .before .before .pre .0 .1))
+element-copy-out-past : tie.Need-element-copy-out-past
+element-copy-out-past c = search needs
 
 returns : tie.Need-returns
-returns c = let h = c .before .before .before .before .before .before .before .before .before in
-    let r = c .replay .ensures in
-    (r .is .apart, level-replayed _ (now (h .args .shapes)) _ _ (h .args .k) (c .before .before .before .before .before .near .result) (h .args .b) (64 * h .args .k) r (h .pre .1 .3 (c .before .before .before .before .before .before .if1 .taken)) (omega arith) (h .pre .1 .1) (λ s. h .pre .0 .5 .out (c .before .before .before .before .before .near .result) s (omega (arith, c .before .before .before .before .before .near .ensures, h .pre .0 .2)) (sym (c .before .before .before .before .line-begins .ensures) ∙ c .before .before .before .if2 .taken)) (c .before .before .before .before .before .near .ensures))
+returns c = search (opens-last, needs)
+
+mul-span : tie.Need-mul-span
+mul-span c = search needs
+
+element-copy-out-span : tie.Need-element-copy-out-span
+element-copy-out-span c = search needs
+
+span-requires : tie.Need-span-requires
+span-requires c κs = ones-last
+
+line-start-requires : tie.Need-line-start-requires
+line-start-requires c κs = search needs
+
+sub-c : tie.Need-sub-c
+sub-c c = search needs
+
+mul-c : tie.Need-mul-c
+mul-c c = search needs
+
+add-c : tie.Need-add-c
+add-c c = search needs
+
+replay-requires : tie.Need-replay-requires
+replay-requires c κs = search needs
+
+same-length : tie.Need-same-length
+same-length c = search needs
+
+returns-2 : tie.Need-returns-2
+returns-2 c = search (opens-replayed, from-ones, needs)
 
 sub-carry : tie.Need-sub-carry
 sub-carry c = search needs
@@ -46,23 +59,31 @@ sub-carry c = search needs
 carry-requires : tie.Need-carry-requires
 carry-requires c κs = search needs
 
-returns-2 : tie.Need-returns-2
-returns-2 c = let h = c .before .before .before .before .before in
-    let d = c .carry .ensures in
-    (d .apart, level-carried _ _ _ _ (h .args .k - 1) (h .args .k) d (h .pre .1 .2))
+same-length-2 : tie.Need-same-length-2
+same-length-2 c = search needs
+
+returns-3 : tie.Need-returns-3
+returns-3 c = search (opens-carried, from-ones, needs)
 
 pub open-word-spec : {M : Type 1} → statement M
 open-word-spec =
     tie.close
     (tie.spec
-    near-requires
-    line-begins-requires
-    mul-part
-    sub-part
-    part-part-start
-    part-part-end
-    replay-requires
+    sub-past
+    mul-past
+    element-copy-out-past
     returns
+    mul-span
+    element-copy-out-span
+    span-requires
+    line-start-requires
+    sub-c
+    mul-c
+    add-c
+    replay-requires
+    same-length
+    returns-2
     sub-carry
     carry-requires
-    returns-2)
+    same-length-2
+    returns-3)

@@ -1,37 +1,29 @@
--- `rows::replay` meets its contract.
-use mathlib.Core.List.{[]}
-use Prim.Native.Nat.{_-_, _≤_}
-use lib.ListN.{length, take}
-use Rattle.line_strips.specs.Steps.{Replayed}
+-- `line_strips::replay` meets its contract.
 use borrow.Author.Needs.{needs}
-use Rattle.line_strips.proofs.Fills.{replayed-none, replayed-more, replayed-end, below-at}
+use Prim.Native.Nat.{_-_, _*_}
+use Rattle.line_strips.specs.Steps.{turnsOf}
+use Rattle.line_strips.proofs.Turns.{legible-next}
+use Rattle.line_strips.proofs.Opens.{Replaying, replaying-none, replaying-more, replaying-room, replaying-end}
 use Rattle.line_strips.proofs.replay.Statement.{statement}
 use Rattle.line_strips.proofs.replay.Tie as tie
 use Rattle.line_strips.proofs.replay.Reads as reads
 use Rattle.line_strips.proofs.replay.Lts as lts
-use Rattle.line_strips.proofs.index.Reads as index-reads
 use Rattle.line_strips.proofs.turn.Reads as turn-reads
 
 abbrev Inv-loop : tie.InvT-loop
-Inv-loop words₀ k part i₀ words i = (i ≤ length part) × Replayed words₀ words k (take i part)
+Inv-loop words₀ names rows shape cols starts a c k m i₀ words i = Replaying names (turnsOf names rows shape cols starts a) k m c i words₀ words
 
 abbrev μ-loop : tie.MeasureT-loop
-μ-loop words₀ k part i₀ words i = length part - i
+μ-loop words₀ names rows shape cols starts a c k m i₀ words i = 64 * k - i
 
 loop-holds : tie.Need-loop-holds Inv-loop μ-loop
-loop-holds c = (search needs, replayed-none _ _ [])
+loop-holds c = search (replaying-none, needs)
 
-mul-index : tie.Need-mul-index Inv-loop μ-loop
-mul-index c = search needs
-
-shared-slice-read-index : tie.Need-shared-slice-read-index Inv-loop μ-loop
-shared-slice-read-index c = search needs
-
-index-requires : tie.Need-index-requires Inv-loop μ-loop
-index-requires c κs = search needs
+mul-loop : tie.Need-mul-loop Inv-loop μ-loop
+mul-loop c = search needs
 
 turn-requires : tie.Need-turn-requires Inv-loop μ-loop
-turn-requires c κs = (search needs, search (below-at, needs), search needs, search needs)
+turn-requires c κs = (search (replaying-room, needs), search needs, search (legible-next, needs))
 
 add-i : tie.Need-add-i Inv-loop μ-loop
 add-i c = search needs
@@ -40,10 +32,13 @@ loop-less : tie.Need-loop-less Inv-loop μ-loop
 loop-less c = search needs
 
 loop-again : tie.Need-loop-again Inv-loop μ-loop
-loop-again c = (search needs, search (replayed-more, needs))
+loop-again c = search (replaying-more, needs)
+
+same-length : tie.Need-same-length Inv-loop μ-loop
+same-length c = search needs
 
 returns : tie.Need-returns Inv-loop μ-loop
-returns c = search (replayed-end, needs)
+returns c = search (replaying-end, needs)
 
 pub replay-spec : {M : Type 1} → statement M
 replay-spec =
@@ -52,11 +47,10 @@ replay-spec =
     Inv-loop
     μ-loop
     loop-holds
-    mul-index
-    shared-slice-read-index
-    index-requires
+    mul-loop
     turn-requires
     add-i
     loop-less
     loop-again
+    same-length
     returns)

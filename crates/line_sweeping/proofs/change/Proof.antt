@@ -1,27 +1,41 @@
--- The lowest bit that differs: below it all bits are what there is before them, and it is something else.
-use Prim.Native.Nat.{_/_, _^_}
-use native.Mathlib.Omega.{arith}
+use Rattle.line_sweeping.proofs.EventLaws.{changed-same, changed-here, changed-later}
 use borrow.Author.Needs.{needs}
-use lib.Count.{trailing-le}
-use Rattle.line_sweeping.proofs.BitLaws.{next-unlike}
 use Rattle.line_sweeping.proofs.change.Statement.{statement}
 use Rattle.line_sweeping.proofs.change.Tie as tie
 
-differing-requires : tie.Need-differing-requires
-differing-requires c κs = search needs
-
-shr-wide-count : tie.Need-shr-wide-count
-shr-wide-count c = search needs
-
-wide-count-requires : tie.Need-wide-count-requires
-wide-count-requires c κs = search needs
-
-add-result : tie.Need-add-result
-add-result c = omega (arith, c .wide-count .ensures, trailing-le 64 (c .before .differing .result / 2 ^ (c .before .before .args .j)), c .before .before .pre)
-
 returns : tie.Need-returns
-returns c = next-unlike _ _ _ _ _ (c .before .differing .ensures) (c .wide-count .ensures)
+returns c = search (changed-same, needs)
+
+column-ends-requires : tie.Need-column-ends-requires
+column-ends-requires c κs = search needs
+
+narrow-requires : tie.Need-narrow-requires
+narrow-requires c κs = search needs
+
+mul-events : tie.Need-mul-events
+mul-events c = search needs
+
+element-write-events : tie.Need-element-write-events
+element-write-events c = search needs
+
+add-t13 : tie.Need-add-t13
+add-t13 c = search needs
+
+returns-2 : tie.Need-returns-2
+returns-2 c = search (changed-here, needs)
+
+returns-3 : tie.Need-returns-3
+returns-3 c = search (changed-later, needs)
 
 pub change-spec : {M : Type 1} → statement M
 change-spec =
-    tie.close (tie.spec differing-requires shr-wide-count wide-count-requires add-result returns)
+    tie.close
+    (tie.spec
+    returns
+    column-ends-requires
+    narrow-requires
+    mul-events
+    element-write-events
+    add-t13
+    returns-2
+    returns-3)

@@ -1,5 +1,5 @@
--- Where a bit of the result is on, the word's bit is something else than what there is before it.
 use Rattle.line_sweeping.proofs.BitLaws.{differs-on, differs-off}
+use borrow.Author.Needs.{needs}
 use Rattle.line_sweeping.proofs.differing.Statement.{statement}
 use Rattle.line_sweeping.proofs.differing.Tie as tie
 

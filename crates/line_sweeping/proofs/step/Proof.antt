@@ -1,42 +1,30 @@
--- All crossings at the column have acted, and metal changes; or some have not, and nothing is decided.
-use Rattle.line_sweeping.proofs.ChangeLaws.{turned-yes, turned-no}
+use Rattle.line_sweeping.proofs.EventLaws.{reached-room, reached-there, changed-room, stepped-both}
 use borrow.Author.Needs.{needs}
 use Rattle.line_sweeping.proofs.step.Statement.{statement}
 use Rattle.line_sweeping.proofs.step.Tie as tie
 
-add-group-ends : tie.Need-add-group-ends
-add-group-ends c = search needs
+mul-c : tie.Need-mul-c
+mul-c c = search needs
 
-group-ends-requires : tie.Need-group-ends-requires
-group-ends-requires c κs = search needs
+add-c : tie.Need-add-c
+add-c c = search needs
 
-cast-cols : tie.Need-cast-cols
-cast-cols c = search needs
+is-on-requires : tie.Need-is-on-requires
+is-on-requires c κs = search needs
 
-mul-cols : tie.Need-mul-cols
-mul-cols c = search needs
+change-requires : tie.Need-change-requires
+change-requires c κs = search (reached-there, reached-room, needs)
 
-element-write-cols : tie.Need-element-write-cols
-element-write-cols c = search needs
+is-on-requires-2 : tie.Need-is-on-requires-2
+is-on-requires-2 c κs = search needs
 
-add-t11 : tie.Need-add-t11
-add-t11 c = search needs
+leave-requires : tie.Need-leave-requires
+leave-requires c κs = search (changed-room, needs)
 
 returns : tie.Need-returns
-returns c = search turned-yes
-
-returns-2 : tie.Need-returns-2
-returns-2 c = search turned-no
+returns c = search (stepped-both, needs)
 
 pub step-spec : {M : Type 1} → statement M
 step-spec =
     tie.close
-    (tie.spec
-    add-group-ends
-    group-ends-requires
-    cast-cols
-    mul-cols
-    element-write-cols
-    add-t11
-    returns
-    returns-2)
+    (tie.spec mul-c add-c is-on-requires change-requires is-on-requires-2 leave-requires returns)

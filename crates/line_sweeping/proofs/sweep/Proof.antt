@@ -1,66 +1,38 @@
--- From one column that differs to the next: those found and those still to find are all.
 use Prim.Native.Nat.{_-_}
+use Rattle.line_sweeping.proofs.EventLaws.{Worded, worded-start, worded-some, word-part, worded-sweepable, worded-swept, worded-more, worded-end}
 use borrow.Author.Needs.{needs}
-use Rattle.line_sweeping.proofs.ChangeLaws.{Going, going-start, going-end, going-word, going-rest, going-reached, going-on}
 use Rattle.line_sweeping.proofs.sweep.Statement.{statement}
 use Rattle.line_sweeping.proofs.sweep.Tie as tie
 
 abbrev Inv-loop : tie.InvT-loop
-Inv-loop line at a e metal cols₀ row m f₀ j₀ cols f j = Going line at row a e metal cols f j
+Inv-loop row lasts line at a cols n metal events₀ f₀ k₀ e₀ events f k e = Worded line at a cols row lasts metal n k e events f
 
 abbrev μ-loop : tie.MeasureT-loop
-μ-loop line at a e metal cols₀ row m f₀ j₀ cols f j = e - a - j
-
-sub-m : tie.Need-sub-m Inv-loop μ-loop
-sub-m c = search needs
+μ-loop row lasts line at a cols n metal events₀ f₀ k₀ e₀ events f k e = n - e
 
 loop-holds : tie.Need-loop-holds Inv-loop μ-loop
-loop-holds c = search going-start
+loop-holds c = search (worded-start, needs)
 
-mul-change : tie.Need-mul-change Inv-loop μ-loop
-mul-change c = search needs
+mul-part-end : tie.Need-mul-part-end Inv-loop μ-loop
+mul-part-end c = search needs
 
-array-read-change : tie.Need-array-read-change Inv-loop μ-loop
-array-read-change c = search needs
+part-end-requires : tie.Need-part-end-requires Inv-loop μ-loop
+part-end-requires c κs = search (worded-some, needs)
 
-change-requires : tie.Need-change-requires Inv-loop μ-loop
-change-requires c κs = search needs
+sweep-word-requires : tie.Need-sweep-word-requires Inv-loop μ-loop
+sweep-word-requires c κs = (search (word-part, needs), search (worded-sweepable, needs), search (worded-swept, needs))
 
-mul-j : tie.Need-mul-j Inv-loop μ-loop
-mul-j c = search needs
-
-add-j : tie.Need-add-j Inv-loop μ-loop
-add-j c = search needs
+add-k : tie.Need-add-k Inv-loop μ-loop
+add-k c = search needs
 
 loop-less : tie.Need-loop-less Inv-loop μ-loop
 loop-less c = search needs
 
 loop-again : tie.Need-loop-again Inv-loop μ-loop
-loop-again c = search (going-word, going-on)
-
-mul-c : tie.Need-mul-c Inv-loop μ-loop
-mul-c c = search needs
-
-add-c : tie.Need-add-c Inv-loop μ-loop
-add-c c = search needs
+loop-again c = search (worded-more, needs)
 
 returns : tie.Need-returns Inv-loop μ-loop
-returns c = search going-rest
-
-step-requires : tie.Need-step-requires Inv-loop μ-loop
-step-requires c κs = search (going-reached, needs)
-
-add-j-2 : tie.Need-add-j-2 Inv-loop μ-loop
-add-j-2 c = search needs
-
-loop-less-2 : tie.Need-loop-less-2 Inv-loop μ-loop
-loop-less-2 c = search needs
-
-loop-again-2 : tie.Need-loop-again-2 Inv-loop μ-loop
-loop-again-2 c = search (going-word, going-on)
-
-returns-2 : tie.Need-returns-2 Inv-loop μ-loop
-returns-2 c = search going-end
+returns c = search (worded-end, needs)
 
 pub sweep-spec : {M : Type 1} → statement M
 sweep-spec =
@@ -68,20 +40,11 @@ sweep-spec =
     (tie.spec
     Inv-loop
     μ-loop
-    sub-m
     loop-holds
-    mul-change
-    array-read-change
-    change-requires
-    mul-j
-    add-j
+    mul-part-end
+    part-end-requires
+    sweep-word-requires
+    add-k
     loop-less
     loop-again
-    mul-c
-    add-c
-    returns
-    step-requires
-    add-j-2
-    loop-less-2
-    loop-again-2
-    returns-2)
+    returns)

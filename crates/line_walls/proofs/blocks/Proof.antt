@@ -1,38 +1,41 @@
--- Block by block: the rows stand for the crossings done, and what is written and left to write make up the walls.
-use borrow.Author.Needs.{needs}
-use Rattle.line_walls.proofs.BlockLaws.{Going, going-start, going-ready, going-delivering, going-on, going-end}
-use Prim.Native.Nat.{_-_}
+-- Block by block, as long as a crossing or a line's start is left.
+use mathlib.Core.Path.{refl}
 use lib.ListN.{length}
-use Rattle.lines.specs.Lines.{crossingLists, answerLists}
+use Rattle.lines.specs.Lines.{lineLists, answerLists}
+use Rattle.line_columns.specs.Planned.{leftAt}
+use Rattle.line_walls.proofs.JobLaws.{Looping, pass-whole, pass-said, looping-start, looping-ask, looping-sized, looping-counted, looping-more, looping-end}
+use borrow.Author.Needs.{needs}
 use Rattle.line_walls.proofs.blocks.Statement.{statement}
 use Rattle.line_walls.proofs.blocks.Tie as tie
 
 abbrev Inv-loop : tie.InvT-loop
-Inv-loop stretches links arranged names waiting₀ line at shape wl₀ ws₀ we₀ wf₀ wt₀ shapes₀ cols₀ r₀ a₀ waiting wl ws we wf wt shapes cols r a = Going stretches links arranged names waiting₀ (crossingLists line at shape) (answerLists wl₀ ws₀ we₀ wf₀ wt₀) waiting shapes cols a r (answerLists wl ws we wf wt)
+Inv-loop stretches links arranged names air words₀ rows line at shape wl₀ ws₀ we₀ wf₀ wt₀ count cols₀ starts₀ lasts₀ events₀ p₀ words wl ws we wf wt cols starts lasts events p =
+    Looping stretches links arranged names (lineLists rows line at shape) (answerLists wl₀ ws₀ we₀ wf₀ wt₀) count words₀ words cols starts lasts events p (answerLists wl ws we wf wt)
 
 abbrev μ-loop : tie.MeasureT-loop
-μ-loop stretches links arranged names waiting₀ line at shape wl₀ ws₀ we₀ wf₀ wt₀ shapes₀ cols₀ r₀ a₀ waiting wl ws we wf wt shapes cols r a = length line - a
+μ-loop stretches links arranged names air words₀ rows line at shape wl₀ ws₀ we₀ wf₀ wt₀ count cols₀ starts₀ lasts₀ events₀ p₀ words wl ws we wf wt cols starts lasts events p =
+    length (leftAt names (lineLists rows line at shape) (p .cursor .i) (p .cursor .q))
 
-in-air-requires : tie.Need-in-air-requires Inv-loop μ-loop
-in-air-requires c κs = search needs
+div-count : tie.Need-div-count Inv-loop μ-loop
+div-count c = search needs
+
+begin-requires : tie.Need-begin-requires Inv-loop μ-loop
+begin-requires c κs = let s = c .before .before .before .before .before .before .before .before in (pass-whole (s .pre) _ refl, pass-said (s .pre))
 
 loop-holds : tie.Need-loop-holds Inv-loop μ-loop
-loop-holds c = search going-start
+loop-holds c = let s = c .before .before .before .before .before .before .before .before .before in looping-start (s .pre) _ _ refl (c .begin .ensures)
 
-block-end-requires : tie.Need-block-end-requires Inv-loop μ-loop
-block-end-requires c κs = search needs
+is-left-requires : tie.Need-is-left-requires Inv-loop μ-loop
+is-left-requires c κs = search needs
 
-changes-requires : tie.Need-changes-requires Inv-loop μ-loop
-changes-requires c κs = search going-ready
-
-deliver-requires : tie.Need-deliver-requires Inv-loop μ-loop
-deliver-requires c κs = going-delivering (c .before .before .before .before .before .before .before .before .before .before .before .before .before .before .loop .inv) (c .before .before .before .before .before .before .before .before .changes .ensures)
+block-requires : tie.Need-block-requires Inv-loop μ-loop
+block-requires c κs = let s = c .before .before .before .before .before .before .before .before .before .before in (looping-ask (s .before .before .loop .inv) _ (s .before .is-left .ensures) (s .if1 .taken), looping-sized (s .before .before .loop .inv), looping-counted (s .before .before .loop .inv))
 
 loop-less : tie.Need-loop-less Inv-loop μ-loop
-loop-less c = search needs
+loop-less c = c .before .before .before .before .before .before .before .before .before .before .block .ensures .fewer
 
 loop-again : tie.Need-loop-again Inv-loop μ-loop
-loop-again c = going-on (c .before .before .before .before .before .before .before .before .before .before .before .before .before .before .before .before .before .before .before .before .before .before .before .loop .inv) (c .before .before .before .before .before .before .before .before .before .before .before .before .before .before .before .before .before .changes .ensures) (c .before .before .before .before .before .before .before .before .deliver .ensures)
+loop-again c = looping-more (c .before .before .before .before .before .before .before .before .before .before .before .before .before .before .before .before .before .before .before .before .before .before .before .loop .inv) (c .before .before .before .before .before .before .before .before .before .before .block .ensures)
 
 same-length : tie.Need-same-length Inv-loop μ-loop
 same-length c = search needs
@@ -53,7 +56,7 @@ same-length-6 : tie.Need-same-length-6 Inv-loop μ-loop
 same-length-6 c = search needs
 
 returns : tie.Need-returns Inv-loop μ-loop
-returns c = search going-end
+returns c = looping-end (c .before .before .before .loop .inv) _ (c .before .before .is-left .ensures) (c .before .if1 .left)
 
 pub blocks-spec : {M : Type 1} → statement M
 blocks-spec =
@@ -61,11 +64,11 @@ blocks-spec =
     (tie.spec
     Inv-loop
     μ-loop
-    in-air-requires
+    div-count
+    begin-requires
     loop-holds
-    block-end-requires
-    changes-requires
-    deliver-requires
+    is-left-requires
+    block-requires
     loop-less
     loop-again
     same-length

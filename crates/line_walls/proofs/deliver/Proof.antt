@@ -1,25 +1,22 @@
--- One change after another.
-use borrow.Author.Needs.{needs}
-use Rattle.line_walls.proofs.TurnLaws.{Along, along-start, along-column, along-turning, along-more, along-end}
 use Prim.Native.Nat.{_-_}
-use Rattle.lines.specs.Lines.{crossingLists, answerLists}
+use Rattle.lines.specs.Lines.{answerLists}
+use Rattle.line_walls.specs.Turns.{held}
+use Rattle.line_walls.proofs.TurnLaws.{Along, along-start, along-sized, along-index, along-turning, along-more, along-end}
+use borrow.Author.Needs.{needs}
 use Rattle.line_walls.proofs.deliver.Statement.{statement}
 use Rattle.line_walls.proofs.deliver.Tie as tie
 
 abbrev Inv-loop : tie.InvT-loop
-Inv-loop cols m a line at shape wl₀ ws₀ we₀ wf₀ wt₀ r₀ k₀ wl ws we wf wt r k = Along (crossingLists line at shape) a cols m r₀ (answerLists wl₀ ws₀ we₀ wf₀ wt₀) k r (answerLists wl ws we wf wt)
+Inv-loop events m line at shape a cols starts wl₀ ws₀ we₀ wf₀ wt₀ r₀ k₀ wl ws we wf wt r k = Along (held line at shape a cols) starts events m r₀ (answerLists wl₀ ws₀ we₀ wf₀ wt₀) k r (answerLists wl ws we wf wt)
 
 abbrev μ-loop : tie.MeasureT-loop
-μ-loop cols m a line at shape wl₀ ws₀ we₀ wf₀ wt₀ r₀ k₀ wl ws we wf wt r k = m - k
+μ-loop events m line at shape a cols starts wl₀ ws₀ we₀ wf₀ wt₀ r₀ k₀ wl ws we wf wt r k = m - k
 
 loop-holds : tie.Need-loop-holds Inv-loop μ-loop
 loop-holds c = search along-start
 
-crossing-of-requires : tie.Need-crossing-of-requires Inv-loop μ-loop
-crossing-of-requires c κs = search along-column
-
-turn-requires : tie.Need-turn-requires Inv-loop μ-loop
-turn-requires c κs = search along-turning
+turn-at-requires : tie.Need-turn-at-requires Inv-loop μ-loop
+turn-at-requires c κs = (search along-index, search along-sized, search along-turning)
 
 add-k : tie.Need-add-k Inv-loop μ-loop
 add-k c = search needs
@@ -55,8 +52,7 @@ deliver-spec =
     Inv-loop
     μ-loop
     loop-holds
-    crossing-of-requires
-    turn-requires
+    turn-at-requires
     add-k
     loop-less
     loop-again

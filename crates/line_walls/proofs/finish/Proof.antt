@@ -1,4 +1,3 @@
--- One entry of each answer list.
 use mathlib.Core.Path.{refl}
 use borrow.Author.Needs.{needs}
 use Rattle.line_walls.proofs.finish.Statement.{statement}
@@ -34,6 +33,9 @@ mul-wt c = search needs
 slice-write-wt : tie.Need-slice-write-wt
 slice-write-wt c = search needs
 
+add-result : tie.Need-add-result
+add-result c = search needs
+
 same-length : tie.Need-same-length
 same-length c = search needs
 
@@ -50,7 +52,7 @@ same-length-5 : tie.Need-same-length-5
 same-length-5 c = search needs
 
 returns : tie.Need-returns
-returns c = record { lines = refl; starts = search needs; ends = search needs; startShapes = refl; endShapes = refl }
+returns c = record { put = record { lines = refl; starts = search needs; ends = search needs; startShapes = refl; endShapes = refl }; counted = refl }
 
 pub finish-spec : {M : Type 1} → statement M
 finish-spec =
@@ -66,6 +68,7 @@ finish-spec =
     slice-write-wf
     mul-wt
     slice-write-wt
+    add-result
     same-length
     same-length-2
     same-length-3

@@ -1,23 +1,19 @@
--- A wall begins, or the open one ends and is put.
-use Rattle.line_walls.proofs.TurnLaws.{turning-room, turn-begins, turn-ends}
+use Rattle.line_walls.proofs.TurnLaws.{turning-room, turning-column, turn-begins, turn-ends}
 use borrow.Author.Needs.{needs}
 use Rattle.line_walls.proofs.turn.Statement.{statement}
 use Rattle.line_walls.proofs.turn.Tie as tie
 
-spot-at-requires : tie.Need-spot-at-requires
-spot-at-requires c κs = search needs
+event-spot-requires : tie.Need-event-spot-requires
+event-spot-requires c κs = search needs
 
-mul-l : tie.Need-mul-l
-mul-l c = search needs
+column-of-requires : tie.Need-column-of-requires
+column-of-requires c κs = search needs
 
-shared-slice-read-l : tie.Need-shared-slice-read-l
-shared-slice-read-l c = search needs
+column-line-requires : tie.Need-column-line-requires
+column-line-requires c κs = (search turning-column, search needs)
 
 finish-requires : tie.Need-finish-requires
 finish-requires c κs = search turning-room
-
-add-t16 : tie.Need-add-t16
-add-t16 c = search needs
 
 same-length : tie.Need-same-length
 same-length c = search needs
@@ -44,11 +40,10 @@ pub turn-spec : {M : Type 1} → statement M
 turn-spec =
     tie.close
     (tie.spec
-    spot-at-requires
-    mul-l
-    shared-slice-read-l
+    event-spot-requires
+    column-of-requires
+    column-line-requires
     finish-requires
-    add-t16
     same-length
     same-length-2
     same-length-3

@@ -1,5 +1,4 @@
--- The rows reserved are enough, for few results and for as many as can wait.
-use Rattle.line_walls.proofs.BlockLaws.{few-rows, all-rows, written-codes}
+use Rattle.line_walls.proofs.JobLaws.{few-rows, all-rows, walls-given}
 use borrow.Author.Needs.{needs}
 use Rattle.line_walls.proofs.write.Statement.{statement}
 use Rattle.line_walls.proofs.write.Tie as tie
@@ -14,7 +13,7 @@ slice-aggregate-blocks-2 : tie.Need-slice-aggregate-blocks-2
 slice-aggregate-blocks-2 c = search needs
 
 blocks-requires : tie.Need-blocks-requires
-blocks-requires c κs = (search few-rows, search needs)
+blocks-requires c κs = search few-rows
 
 same-length : tie.Need-same-length
 same-length c = search needs
@@ -32,7 +31,7 @@ same-length-5 : tie.Need-same-length-5
 same-length-5 c = search needs
 
 returns : tie.Need-returns
-returns c = search written-codes
+returns c = search walls-given
 
 slice-aggregate-blocks-3 : tie.Need-slice-aggregate-blocks-3
 slice-aggregate-blocks-3 c = search needs
@@ -41,7 +40,7 @@ slice-aggregate-blocks-4 : tie.Need-slice-aggregate-blocks-4
 slice-aggregate-blocks-4 c = search needs
 
 blocks-requires-2 : tie.Need-blocks-requires-2
-blocks-requires-2 c κs = (search all-rows, search needs)
+blocks-requires-2 c κs = search all-rows
 
 same-length-6 : tie.Need-same-length-6
 same-length-6 c = search needs
@@ -59,7 +58,7 @@ same-length-10 : tie.Need-same-length-10
 same-length-10 c = search needs
 
 returns-2 : tie.Need-returns-2
-returns-2 c = search written-codes
+returns-2 c = search walls-given
 
 pub write-spec : {M : Type 1} → statement M
 write-spec =

@@ -2,6 +2,7 @@
 //!
 //! These are written to be as quick as plain code of that method is, in working memory of fixed size. A refusal is its number and place.
 
+mod columns;
 mod cross;
 mod dwarf;
 mod read;
@@ -9,12 +10,13 @@ mod run;
 mod walk;
 mod walls;
 
+pub use columns::over;
 pub use cross::{cross, cross_balls};
 pub use dwarf::build;
 use dwarf::{contracted, Dwarf};
 pub use read::{read, read_pair};
 pub use run::run;
-pub use walls::{by_walk, by_words};
+pub use walls::{by_walk, by_words, Lines};
 
 pub type Refused = (u8, usize);
 

@@ -1,7 +1,7 @@
-//! Toggle and crossing lists, and the order of two toggle lists, from CSV.
+//! Toggle, crossing and start lists, and the order of two toggle lists, from CSV.
 
 use crate::csv::{rows, Row};
-use kressedach::Crossing;
+use kressedach::{Crossing, Start};
 use std::collections::HashMap;
 use std::str::FromStr;
 
@@ -24,6 +24,12 @@ pub struct List<T> {
     pub rows: Vec<usize>,
     /// The first name that the sheet does not have.
     pub stranger: Option<String>,
+}
+
+impl<T> List<T> {
+    pub fn none() -> List<T> {
+        List { entries: vec![], rows: vec![], stranger: None }
+    }
 }
 
 pub fn toggles(text: &str, shapes: &Shapes) -> Result<List<u16>, String> {
@@ -53,12 +59,17 @@ pub fn order(text: &str) -> Result<Vec<u8>, String> {
     .collect()
 }
 
+/// The shapes in which lines start.
+pub fn starts(text: &str, shapes: &Shapes) -> Result<List<Start>, String> {
+    list(text, &["line"], shapes, |fields, shape| Ok(Start { line: number(fields[0], "line")?, shape }))
+}
+
 /// A list whose heading has these columns and one for the shape, in any order. The fields of an entry come in the order of `columns`.
 fn list<T>(text: &str, columns: &[&str], shapes: &Shapes, entry: impl Fn(&[&str], u16) -> Result<T, String>) -> Result<List<T>, String> {
     let mut rows = rows(text);
     let heading = rows.next().transpose()?.ok_or_else(|| format!("is empty; its heading is {}", due(columns)))?;
     let (places, shape_at, by_name) = judged(&heading, columns)?;
-    let mut list = List { entries: vec![], rows: vec![], stranger: None };
+    let mut list = List::none();
     for row in rows {
         let Row { number: row, fields } = row?;
         let at_row = |wrong| format!("row {row}: {wrong}");

@@ -6,8 +6,8 @@ mod lists;
 mod words;
 
 use drawing::{Drawing, Fault};
-use kressedach::{Crossing, Refusal, Sheets};
-use lists::Shapes;
+use kressedach::{Refusal, Sheets};
+use lists::{List, Shapes};
 use std::fmt::Write as _;
 use std::io::{self, Read, Write};
 use std::process::ExitCode;
@@ -67,7 +67,8 @@ fn answer(args: &[&str]) -> Result<String, Stop> {
         ["run", "--labels", sheet, toggles] => run(fittings, sheet, toggles, true),
         ["run", sheet, toggles] => run(fittings, sheet, toggles, false),
         ["both", sheet, first, second, order] => both(fittings, sheet, [first, second], order),
-        ["walls", sheet, crossings] => walls(fittings, sheet, crossings),
+        ["walls", "--starts", starts, sheet, crossings] => walls(fittings, Some(starts), sheet, crossings),
+        ["walls", sheet, crossings] => walls(fittings, None, sheet, crossings),
         ["cross", ..] if fittings.is_some() => Err(Stop::Usage("'cross' takes no sheet".into())),
         ["cross", "--starts", shapes, lines] => cross(shapes, lines, true),
         ["cross", shapes, lines] => cross(shapes, lines, false),
@@ -202,14 +203,23 @@ fn both(fittings: Option<&str>, sheet_path: &str, toggles_paths: [&str; 2], orde
     }
 }
 
-fn walls(fittings: Option<&str>, sheet_path: &str, crossings_path: &str) -> Result<String, Stop> {
+fn walls(fittings: Option<&str>, starts_path: Option<&str>, sheet_path: &str, crossings_path: &str) -> Result<String, Stop> {
+    if starts_path == Some("-") && [Some(sheet_path), Some(crossings_path), fittings].contains(&starts_path) {
+        return Err(Stop::Usage("only one of the files can be standard input".into()));
+    }
     let (files, crossings) = with_list(fittings, sheet_path, crossings_path)?;
     let sheets = files.sheets();
     let names = shapes(sheets)?;
-    let list: lists::List<Crossing> =
-        lists::crossings(&crossings, &Shapes::of(&names)).map_err(|wrong| Stop::File(shown(crossings_path), wrong))?;
-    let walls = kressedach::classify(sheets, &list.entries)
-        .map_err(|refusal| Stop::Refused(refusal, words::of_crossings(sheets, &names, &list, refusal, &shown(crossings_path))))?;
+    let (numbers, starts_text) = (Shapes::of(&names), starts_path.map(text_file).transpose()?);
+    let starts_file = starts_path.map(shown).unwrap_or_default();
+    let starts = starts_text.map_or(Ok(List::none()), |text| lists::starts(&text, &numbers));
+    let starts = starts.map_err(|wrong| Stop::File(starts_file.clone(), wrong))?;
+    let list = lists::crossings(&crossings, &numbers).map_err(|wrong| Stop::File(shown(crossings_path), wrong))?;
+    let walls = kressedach::classify_from(sheets, &starts.entries, &list.entries).map_err(|refusal| {
+        let about = words::of_starts(&names, &starts, refusal, &starts_file);
+        Stop::Refused(refusal, about.or_else(|| words::of_crossings(sheets, &names, &list, refusal, &shown(crossings_path))))
+    })?;
+    // an open end has no shape, and no name is empty
     let name = |shape: u16| csv::quoted(names.get(usize::from(shape)).copied().unwrap_or_default());
     let mut text = String::from("line,start,end,start_shape,end_shape\n");
     for wall in walls {

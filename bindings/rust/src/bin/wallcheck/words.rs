@@ -1,7 +1,7 @@
 //! What stands at the place of a refusal, for the person who has to mend it; and what a node is.
 
 use crate::lists::List;
-use kressedach::{Crossing, Node, Refusal, Sheets, Which};
+use kressedach::{Crossing, Node, Refusal, Sheets, Start, Which, OPEN_START};
 
 const OPERATIONS: [&str; 4] = ["union", "intersection", "difference", "exclusive union"];
 
@@ -68,7 +68,13 @@ pub fn of_order(order: &[u8], lengths: [usize; 2]) -> String {
     format!("{} turns for {} toggles of foundry 0, {} turns for {} of foundry 1", turns(0), lengths[0], turns(1), lengths[1])
 }
 
-/// About a refusal of lines.
+/// About a refusal of start rows: they are made of this list, so what is wrong is a shape in it.
+pub fn of_starts(names: &[&str], list: &List<Start>, refusal: Refusal, file: &str) -> Option<String> {
+    let at = list.entries.iter().position(|start| usize::from(start.shape) >= names.len())?;
+    (refusal.number == 14).then(|| unknown_shape(names, list, at, list.entries[at].shape, file))
+}
+
+/// About a refusal of crossings. Every line has a start row, so 15 is for a position.
 pub fn of_crossings(sheets: Sheets, names: &[&str], list: &List<Crossing>, refusal: Refusal, file: &str) -> Option<String> {
     let at = refusal.place;
     match refusal.number {
@@ -83,15 +89,10 @@ pub fn of_crossings(sheets: Sheets, names: &[&str], list: &List<Crossing>, refus
                 }
             })
         }
-        12 => {
-            let line = list.entries[at].line;
-            let times = |shape: usize| list.entries.iter().filter(|c| c.line == line && usize::from(c.shape) == shape).count();
-            let (shape, times) = (0..names.len()).map(|shape| (shape, times(shape))).find(|(_, times)| times % 2 == 1)?;
-            let how_often = if times == 1 { "once".into() } else { format!("{times} times") };
-            Some(format!(
-                "line {line}, which ends at row {} of {file}: \"{}\" (shape {shape}) is crossed {how_often}",
-                list.rows[at], names[shape]
-            ))
+        15 => {
+            let (row, here) = (list.rows[at], list.entries[at]);
+            let open = if here.position == OPEN_START { "start" } else { "end" };
+            Some(format!("row {row} of {file}: position {} is the mark of a wall's open {open}; no crossing stands there", here.position))
         }
         _ => of_sheet(sheets, refusal),
     }

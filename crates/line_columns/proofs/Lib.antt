@@ -1,0 +1,8 @@
+mod Heads
+mod Lefts
+mod RowLaws
+mod LastLaws
+mod PutLaws
+mod PlanLaws
+mod RunLaws
+pub mod CursorLaws

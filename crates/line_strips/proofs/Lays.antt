@@ -1,0 +1,206 @@
+-- A word's columns laid one after another.
+use Prim.Native.Nat.{ℕ, suc, _+_, _-_, _*_, _/_, _%_, _≤_, _<_}
+use mathlib.Core.Path.{_≡_, refl, sym, ap, _∙_}
+use mathlib.Core.Bool.{Bool, true, false, not, _&&_, cond}
+use mathlib.Core.List.{List}
+use native.Mathlib.Omega.{arith}
+use lib.ListN.{length, getD, take, drop}
+use borrow.Author.Tests.{le-leb, lt-leb}
+use Rattle.formula.specs.States.{State}
+use Rattle.lines.specs.Lines.{startState}
+use Rattle.lines.specs.Columns.{only}
+use Rattle.line_strips.specs.Words.{bit}
+use Rattle.line_strips.specs.Strips.{wide, columns, cell, on, entering, leaving}
+use Rattle.line_strips.specs.Steps.{Legible, turnsOf, none, From, Moved, Span, Spans, Flips, SpanTurned, SpanFlips, Laid, Lays, LaysSome, Bytes}
+use Rattle.line_strips.proofs.Spans.{none-from, from-last}
+use Rattle.line_strips.proofs.Stores.{same?, apart-none, apart-more}
+use Rattle.line_strips.proofs.Turns.{legible-less, row-there, row-bytes, start-turns, crossing-there, crossing-named, crossing-turns}
+
+-- ---- the states from one column to the next
+pub entering-last : (turns : ℕ → State) (last : ℕ → Bool) (first : State) (j s : ℕ) → last j ≡ true → entering turns last first (suc j) s ≡ false
+unfolding entering
+entering-last turns last first j s e = rw (e, entering)
+
+pub entering-more : (turns : ℕ → State) (last : ℕ → Bool) (first : State) (j s : ℕ) → last j ≡ false → entering turns last first (suc j) s ≡ leaving turns last first j s
+unfolding entering
+entering-more turns last first j s e = rw (e, entering)
+
+-- ---- the columns of a word
+pub cell-word : (lasts : List ℕ) (k b : ℕ) → b < 64 → cell lasts (64 * k + b) ≡ bit (getD lasts k 0) b
+unfolding cell
+cell-word lasts k b h =
+    let e : (64 * k + b) / 64 ≡ k = omega arith in
+    let d : (64 * k + b) % 64 ≡ b = omega arith in
+    rw (e, d)
+
+-- none in a word is none among the columns
+pub none-word : (lasts : List ℕ) (k j d : ℕ) → j + d ≤ 64 → none (bit (getD lasts k 0)) j d ≡ none (cell lasts) (64 * k + j) d
+none-word lasts k j d h = none-from (bit (getD lasts k 0)) (cell lasts) (64 * k) j d (λ x l m. sym (cell-word lasts k x (omega arith)))
+
+pub span-column : (lasts : List ℕ) (k j m b : ℕ) → Span (getD lasts k 0) j m → j ≤ b → b < 64 → bit m b ≡ none (cell lasts) (64 * k + j) (b - j)
+span-column lasts k j m b p l h = p .is b h ∙ rw (le-leb j b l) (none-word lasts k j (b - j) (omega arith))
+
+-- shapes turned at a span
+pub span-flips : (names : ℕ) (turns : State) (k w from m : ℕ) (ws ws′ : List ℕ) → Spans w from m → Flips names turns k m ws ws′ → SpanFlips names turns k w from ws ws′
+span-flips names turns k w from m ws ws′ p f =
+    record {
+      is = λ j g.
+          record {
+            apart = f .apart;
+            here = λ s b n h. f .here s b n h ∙ ap (λ (t : Bool). cond (turns s && t) (not (on ws s (64 * k + b))) (on ws s (64 * k + b))) (p .is j g .is b h);
+          };
+    }
+
+turned-same : (names : ℕ) (turns turns′ : State) (k j w : ℕ) (ws ws′ : List ℕ) → SpanTurned names turns k j w ws ws′ → ((s : ℕ) → s < names → turns′ s ≡ turns s) → SpanTurned names turns′ k j w ws ws′
+turned-same names turns turns′ k j w ws ws′ f h = record { apart = f .apart; here = λ s b n l. rw (h s n) (f .here s b n l) }
+
+fewer : (names : ℕ) (turns : State) (k j w : ℕ) (ws ws′ : List ℕ) → SpanTurned 256 turns k j w ws ws′ → names ≤ 256 → SpanTurned names turns k j w ws ws′
+fewer names turns k j w ws ws′ f few =
+    record {
+      apart = record { long = f .apart .long; other = λ s j n h g. f .apart .other s j (omega arith) h g };
+      here = λ s b n h. f .here s b (omega arith) h;
+    }
+
+flipped-none : (t x : Bool) → cond (t && false) (not x) x ≡ x
+flipped-none true x = refl
+flipped-none false x = refl
+
+flipped-part : (t r e : Bool) → cond (t && r) (not (r && e)) (r && e) ≡ (r && cond t (not e) e)
+flipped-part true true e = refl
+flipped-part true false e = refl
+flipped-part false true e = refl
+flipped-part false false e = refl
+
+flipped-here : (t e : Bool) → cond (t && true) (not e) e ≡ cond t (not e) e
+flipped-here true e = refl
+flipped-here false e = refl
+
+module _ (names : ℕ) (turns : ℕ → State) (lasts : List ℕ) (first : State) (k j : ℕ) (ws ws′ : List ℕ) (old : Laid names turns (cell lasts) first k j ws) (f : SpanTurned names (turns (64 * k + j)) k j (getD lasts k 0) ws ws′) (fits : j < 64) where
+  laid-past : (s b : ℕ) → s < names → b < j → on ws′ s (64 * k + b) ≡ leaving turns (cell lasts) first (64 * k + b) s
+  laid-past s b n l =
+      f .here s b n (omega arith) ∙ rw (lt-leb j b l) (flipped-none (turns (64 * k + j) s) (on ws s (64 * k + b)) ∙ old .done s b n l)
+
+  -- at the bits from j on, still of the line of column j
+  laid-on : (s b : ℕ) → s < names → j ≤ b → b < 64 → on ws′ s (64 * k + b) ≡ (none (cell lasts) (64 * k + j) (b - j) && leaving turns (cell lasts) first (64 * k + j) s)
+  laid-on s b n l h =
+      f .here s b n h ∙ rw (le-leb j b l, none-word lasts k j (b - j) (omega arith), old .ahead s b n l h)
+      (flipped-part (turns (64 * k + j) s) (none (cell lasts) (64 * k + j) (b - j)) (entering turns (cell lasts) first (64 * k + j) s))
+
+  laid-here : (s : ℕ) → s < names → on ws′ s (64 * k + j) ≡ leaving turns (cell lasts) first (64 * k + j) s
+  unfolding none
+  laid-here s n = let z : j - j ≡ 0 = omega arith in laid-on s j n (omega arith) fits ∙ rw z
+
+  laid-ahead : (s b : ℕ) → s < names → j + 1 ≤ b → b < 64 → on ws′ s (64 * k + b) ≡ (none (cell lasts) (64 * k + (j + 1)) (b - (j + 1)) && entering turns (cell lasts) first (64 * k + (j + 1)) s)
+  unfolding none
+  laid-ahead s b n l h =
+      let d : b - j ≡ suc (b - (j + 1)) = omega arith in
+      let e : 64 * k + (j + 1) ≡ suc (64 * k + j) = omega arith in
+      laid-on s b n (omega arith) h ∙ rw (d, e) (go (cell lasts (64 * k + j)) refl)
+    where
+      go : (t : Bool) → cell lasts (64 * k + j) ≡ t → ((not (cell lasts (64 * k + j)) && none (cell lasts) (suc (64 * k + j)) (b - (j + 1))) && leaving turns (cell lasts) first (64 * k + j) s)
+          ≡ (none (cell lasts) (suc (64 * k + j)) (b - (j + 1)) && entering turns (cell lasts) first (suc (64 * k + j)) s)
+      go true t = rw (t, entering-last turns (cell lasts) first (64 * k + j) s t) (sym (gone (none (cell lasts) (suc (64 * k + j)) (b - (j + 1)))))
+        where
+          gone : (x : Bool) → (x && false) ≡ false
+          gone true = refl
+          gone false = refl
+      go false t = rw (t, entering-more turns (cell lasts) first (64 * k + j) s t)
+
+  laid-more : Laid names turns (cell lasts) first k (j + 1) ws′
+  laid-more =
+      record {
+        done = λ s b n l. same? b j (λ q. rw q (laid-here s n)) (λ q. laid-past s b n (omega arith));
+        ahead = laid-ahead;
+      }
+
+-- ---- the loop over them: those from j on, as far as i
+pub record Laying (names : ℕ) (rows shapes cols starts lasts : List ℕ) (a k j m from i : ℕ) (ws ws′ : List ℕ) : Type 0 where
+  pub least : j ≤ i
+  pub far : i ≤ m
+  pub bits : From from i
+  pub room : 256 * wide ≤ length ws′
+  pub lays : Lays names (turnsOf names rows shapes cols starts a) (cell lasts) k j i ws ws′
+
+module _ (names : ℕ) (rows shapes cols starts lasts : List ℕ) (a k j m : ℕ) (legible : Legible names rows shapes cols starts a (64 * k + m)) (short : m ≤ 64) where
+  pub laying-none : (from : ℕ) (ws : List ℕ) → From from j → j < m → 256 * wide ≤ length ws → Laying names rows shapes cols starts lasts a k j m from j ws ws
+  laying-none from ws f h room = record { least = omega arith; far = omega arith; bits = f; room = room; lays = record { apart = apart-none names k ws; laid = λ first l. l } }
+
+  column-legible : (i : ℕ) → i < m → Legible names rows shapes cols starts a (64 * k + i + 1)
+  column-legible i h = legible-less names rows shapes cols starts a (64 * k + m) (64 * k + i + 1) legible (omega arith)
+
+  module _ (from i : ℕ) (ws ws₁ : List ℕ) (y : Laying names rows shapes cols starts lasts a k j m from i ws ws₁) (more : i < m) where
+    pub laying-bit : bit from 63 ≡ true
+    laying-bit = from-last from i (y .bits) (omega arith)
+
+    pub laying-column : 64 * k + i < length cols
+    laying-column = omega (arith, legible .colsLong, legible .most)
+
+    pub laying-start : 64 * k + i < length starts
+    laying-start = omega (arith, legible .startsLong, legible .most)
+
+    pub laying-row : (q : ℕ) → getD cols (64 * k + i) 0 ≡ 65535 → q ≡ getD starts (64 * k + i) 0 → q * names + names ≤ length rows
+    laying-row = row-there names rows shapes cols starts a (64 * k + i) (column-legible i more)
+
+    pub laying-bytes : (q : ℕ) → getD cols (64 * k + i) 0 ≡ 65535 → q ≡ getD starts (64 * k + i) 0 → Bytes (take names (drop (q * names) rows))
+    laying-bytes = row-bytes names rows shapes cols starts a (64 * k + i) (column-legible i more)
+
+    pub laying-crossing : (o : ℕ) → (getD cols (64 * k + i) 0 ≡ 65535 → ⊥) → o ≡ getD cols (64 * k + i) 0 → a + o < length shapes
+    laying-crossing = crossing-there names rows shapes cols starts a (64 * k + i) (column-legible i more)
+
+    pub laying-named : (o : ℕ) → (getD cols (64 * k + i) 0 ≡ 65535 → ⊥) → o ≡ getD cols (64 * k + i) 0 → getD shapes (a + o) 0 < 256
+    laying-named = crossing-named names rows shapes cols starts a (64 * k + i) (column-legible i more)
+
+    laid-one : (ws₂ : List ℕ) → SpanTurned names (turnsOf names rows shapes cols starts a (64 * k + i)) k i (getD lasts k 0) ws₁ ws₂ → Lays names (turnsOf names rows shapes cols starts a) (cell lasts) k j (i + 1) ws ws₂
+    laid-one ws₂ f =
+        record {
+          apart = apart-more names k ws ws₁ ws₂ (y .lays .apart) (f .apart);
+          laid = λ first t. laid-more names (turnsOf names rows shapes cols starts a) lasts first k i ws₁ ws₂ (y .lays .laid first t) f (omega arith);
+        }
+
+    pub laying-ends : (q : ℕ) (ws₂ : List ℕ) → SpanFlips names (startState names rows q) k (getD lasts k 0) from ws₁ ws₂ → getD cols (64 * k + i) 0 ≡ 65535 → q ≡ getD starts (64 * k + i) 0 → LaysSome names (turnsOf names rows shapes cols starts a) (cell lasts) k j m (i + 1) ws ws₂
+    laying-ends q ws₂ f e same =
+        record {
+          more = omega (arith, y .least);
+          most = omega arith;
+          lays =
+              laid-one ws₂
+              (turned-same names (startState names rows q) (turnsOf names rows shapes cols starts a (64 * k + i)) k i (getD lasts k 0) ws₁ ws₂ (f .is i (y .bits))
+              (λ s n. start-turns names rows shapes cols starts a (64 * k + i) q e same s));
+        }
+
+    pub laying-more : (o from′ : ℕ) (ws₂ : List ℕ) → SpanFlips 256 (only (getD shapes (a + o) 0)) k (getD lasts k 0) from ws₁ ws₂ → (getD cols (64 * k + i) 0 ≡ 65535 → ⊥) → o ≡ getD cols (64 * k + i) 0 → Moved from from′ → Laying names rows shapes cols starts lasts a k j m from′ (i + 1) ws ws₂
+    laying-more o from′ ws₂ f e same g =
+        let one : SpanTurned 256 (only (getD shapes (a + o) 0)) k i (getD lasts k 0) ws₁ ws₂ = f .is i (y .bits) in
+        record {
+          least = omega (arith, y .least);
+          far = omega arith;
+          bits = g .is i (y .bits);
+          room = omega (arith, y .room, one .apart .long);
+          lays =
+              laid-one ws₂
+              (turned-same names (only (getD shapes (a + o) 0)) (turnsOf names rows shapes cols starts a (64 * k + i)) k i (getD lasts k 0) ws₁ ws₂ (fewer names (only (getD shapes (a + o) 0)) k i (getD lasts k 0) ws₁ ws₂ one (legible .few))
+              (λ s n. crossing-turns names rows shapes cols starts a (64 * k + i) o e same s));
+        }
+
+pub laying-end : (names : ℕ) (rows shapes cols starts lasts : List ℕ) (a k j m from i : ℕ) (ws ws′ : List ℕ) → Laying names rows shapes cols starts lasts a k j m from i ws ws′ → m ≤ i → j < m → LaysSome names (turnsOf names rows shapes cols starts a) (cell lasts) k j m i ws ws′
+laying-end names rows shapes cols starts lasts a k j m from i ws ws′ y h l = record { more = omega arith; most = y .far; lays = y .lays }
+
+-- ---- all columns of a word
+pub record Word (names : ℕ) (turns : ℕ → State) (last : ℕ → Bool) (k m j : ℕ) (ws ws′ : List ℕ) : Type 0 where
+  pub far : j ≤ m
+  pub room : 256 * wide ≤ length ws′
+  pub lays : Lays names turns last k 0 j ws ws′
+
+pub word-none : (names : ℕ) (turns : ℕ → State) (last : ℕ → Bool) (k m : ℕ) (ws : List ℕ) → 256 * wide ≤ length ws → Word names turns last k m 0 ws ws
+word-none names turns last k m ws h = record { far = omega arith; room = h; lays = record { apart = apart-none names k ws; laid = λ first l. l } }
+
+pub word-more : (names : ℕ) (turns : ℕ → State) (last : ℕ → Bool) (k m j e : ℕ) (ws ws₁ ws₂ : List ℕ) → Word names turns last k m j ws ws₁ → LaysSome names turns last k j m e ws₁ ws₂ → Word names turns last k m e ws ws₂
+word-more names turns last k m j e ws ws₁ ws₂ w s =
+    record {
+      far = s .most;
+      room = omega (arith, w .room, s .lays .apart .long);
+      lays = record { apart = apart-more names k ws ws₁ ws₂ (w .lays .apart) (s .lays .apart); laid = λ first l. s .lays .laid first (w .lays .laid first l) };
+    }
+
+pub word-end : (names : ℕ) (turns : ℕ → State) (last : ℕ → Bool) (k m j : ℕ) (ws ws′ : List ℕ) → Word names turns last k m j ws ws′ → m ≤ j → Lays names turns last k 0 m ws ws′
+word-end names turns last k m j ws ws′ w h = let e : j ≡ m = omega (arith, w .far) in rw e at (w .lays)

@@ -1,0 +1,233 @@
+-- A column's shapes turned: a start row's byte by byte, or one crossing's.
+use Prim.Native.Nat.{ℕ, _+_, _-_, _*_, _≤_, _<_}
+use mathlib.Core.Path.{_≡_, refl, sym, ap, _∙_}
+use mathlib.Core.Bool.{Bool, true, false, _&&_}
+use mathlib.Core.List.{List}
+use native.Mathlib.Omega.{arith}
+use lib.Dec.{eqb, ltb}
+use lib.Bits.{bitOr, bitXor, or-add-and, and-le-l, and-le-r}
+use lib.ListN.{length, getD, set, take, drop, length-take, length-drop, length-set}
+use lib.Seq.{getD-take, getD-drop}
+use borrow.Author.Tests.{eqb-true, eq-eqb, ne-eqb, lt-ltb, le-ltb, ltb-true, ltb-false}
+use Rattle.lines.specs.Lines.{startState}
+use Rattle.lines.specs.Columns.{only}
+use Rattle.line_strips.specs.Words.{bit}
+use Rattle.line_strips.specs.Strips.{wide, turnsAt}
+use Rattle.line_strips.specs.Steps.{Turnable, Legible, Fillable, turnsOf, insideTo, Bytes, Quiet, Flips, GoesOn, InWord}
+use Rattle.line_strips.proofs.Digits.{bit-times}
+use Rattle.line_strips.proofs.Stores.{same?, flips-none, flips-same, flips-more}
+
+-- ---- bytes of zeros
+pub record ZerosTo (bytes : List ℕ) (all i : ℕ) : Type 0 where
+  pub far : i ≤ length bytes
+  pub is : all ≡ 0 → (j : ℕ) → j < i → getD bytes j 0 ≡ 0
+
+pub zeros-none : (bytes : List ℕ) → ZerosTo bytes 0 0
+zeros-none bytes = record { far = omega arith; is = λ e j h. absurd (omega arith) }
+
+pub zeros-more : (bytes : List ℕ) (all i : ℕ) → ZerosTo bytes all i → i < length bytes → ZerosTo bytes (bitOr all (getD bytes i 0)) (i + 1)
+zeros-more bytes all i z l =
+    record {
+      far = omega arith;
+      is = λ e j h.
+          same? j i
+          (λ q. rw q (omega (arith, or-add-and all (getD bytes i 0), and-le-l all (getD bytes i 0))))
+          (λ q. z .is (omega (arith, or-add-and all (getD bytes i 0), and-le-r all (getD bytes i 0))) j (omega arith));
+    }
+
+pub zeros-all : (bytes : List ℕ) (all i : ℕ) → ZerosTo bytes all i → length bytes ≤ i → Quiet bytes (eqb all 0)
+zeros-all bytes all i z l = record { zeros = λ e j h. z .is (eqb-true all 0 e) j (omega arith) }
+
+-- ---- a start row
+inside-next : (row : List ℕ) (s : ℕ) → insideTo row (s + 1) s ≡ eqb (getD row s 0) 1
+unfolding insideTo
+inside-next row s = rw (lt-ltb s (s + 1) (omega arith))
+
+inside-not : (row : List ℕ) (e s : ℕ) → e ≤ s → insideTo row e s ≡ false
+unfolding insideTo
+inside-not row e s h = rw (le-ltb s e h)
+
+inside-zero : (row : List ℕ) (e s : ℕ) → getD row s 0 ≡ 0 → insideTo row e s ≡ false
+unfolding insideTo
+inside-zero row e s h = rw h (go (ltb s e))
+  where
+    go : (t : Bool) → (t && false) ≡ false
+    go true = refl
+    go false = refl
+
+inside-below : (row : List ℕ) (e s : ℕ) → s < e → insideTo row e s ≡ eqb (getD row s 0) 1
+unfolding insideTo
+inside-below row e s h = rw (lt-ltb s e h)
+
+inside-other : (row : List ℕ) (s u : ℕ) → (u ≡ s → ⊥) → insideTo row (s + 1) u ≡ insideTo row s u
+inside-other row s u n = go (ltb u s) refl
+  where
+    go : (t : Bool) → ltb u s ≡ t → insideTo row (s + 1) u ≡ insideTo row s u
+    go true e = inside-below row (s + 1) u (omega (arith, ltb-true u s e)) ∙ sym (inside-below row s u (ltb-true u s e))
+    go false e = inside-not row (s + 1) u (omega (arith, ltb-false u s e)) ∙ sym (inside-not row s u (ltb-false u s e))
+
+-- turned from a to s
+pub record TurnedTo (row : List ℕ) (k m a s e : ℕ) (ws ws′ : List ℕ) : Type 0 where
+  pub far : s ≤ e
+  pub long : length ws′ ≡ length ws
+  pub goes : GoesOn row k m a s ws ws′
+
+pub turned-none : (row : List ℕ) (k m a e : ℕ) (ws : List ℕ) → a ≤ e → TurnedTo row k m a a e ws ws
+turned-none row k m a e ws h = record { far = h; long = refl; goes = record { is = λ before f. f } }
+
+pub turned-more : (row : List ℕ) (k m a s e r : ℕ) (ws ws₁ ws₂ : List ℕ) → TurnedTo row k m a s e ws ws₁ → r ≡ m * getD row s 0 → ws₂ ≡ set ws₁ (s * wide + k) (bitXor (getD ws₁ (s * wide + k) 0) r) → Bytes row → s < e → e ≤ length row → 256 * wide ≤ length ws → k < wide
+    → TurnedTo row k m a (s + 1) e ws ws₂
+turned-more row k m a s e r ws ws₁ ws₂ t is stored bytes l far room word = rw (stored, is)
+    (record {
+      far = omega arith;
+      long = length-set ws₁ (s * wide + k) (bitXor (getD ws₁ (s * wide + k) 0) (m * getD row s 0)) ∙ t .long;
+      goes =
+          record {
+            is = λ before f.
+                flips-more (length row) (insideTo row s) (insideTo row (s + 1)) k m (m * getD row s 0) s before ws₁ (t .goes .is before f)
+                (omega (arith, t .long, bytes .few)) word (λ h. inside-not row s s (omega arith))
+                (λ b h. bit-times m (getD row s 0) b (bytes .bits s (omega arith)) ∙ ap (λ (x : Bool). x && bit m b) (sym (inside-next row s)))
+                (λ u n. inside-other row s u n);
+          };
+    })
+
+pub turned-end : (row : List ℕ) (k m a s e : ℕ) (ws ws′ : List ℕ) → TurnedTo row k m a s e ws ws′ → e ≤ s → GoesOn row k m a e ws ws′
+turned-end row k m a s e ws ws′ t h = let z : s ≡ e = omega (arith, t .far) in rw z at (t .goes)
+
+pub byte-fits : (row : List ℕ) (s e : ℕ) → Bytes row → s < e → e ≤ length row → getD row s 0 ≤ 1
+byte-fits row s e b h l = b .bits s (omega arith)
+
+pub row-fits : (row ws ws′ : List ℕ) (k m a s e : ℕ) → Bytes row → TurnedTo row k m a s e ws ws′ → s < e → e ≤ length row → 256 * wide ≤ length ws → k < wide → s * wide + k < length ws′
+row-fits row ws ws′ k m a s e b t h l r w = omega (arith, b .few, t .long)
+
+-- a chunk that has no shape inside
+quiet-part : (row : List ℕ) (k m s e : ℕ) (ws : List ℕ) (told : Bool) → Quiet (take (e - s) (drop s row)) told → told ≡ true → s ≤ e → e ≤ length row → GoesOn row k m s e ws ws
+quiet-part row k m s e ws told z y h l =
+    record { is = λ before f. flips-same (length row) (insideTo row s) (insideTo row e) k m before ws f same }
+  where
+    same : (u : ℕ) → u < length row → insideTo row e u ≡ insideTo row s u
+    same u n = go (ltb u s) refl
+      where
+        go : (t : Bool) → ltb u s ≡ t → insideTo row e u ≡ insideTo row s u
+        go true q = inside-below row e u (omega (arith, ltb-true u s q)) ∙ sym (inside-below row s u (ltb-true u s q))
+        go false q = more (ltb u e) refl
+          where
+            after : s ≤ u
+            after = ltb-false u s q
+
+            more : (t : Bool) → ltb u e ≡ t → insideTo row e u ≡ insideTo row s u
+            more false p = inside-not row e u (ltb-false u e p) ∙ sym (inside-not row s u after)
+            more true p =
+                let lo : s ≤ u = after in
+                let far : u < e = ltb-true u e p in
+                let i : u - s < e - s = omega arith in
+                let at : s + (u - s) ≡ u = omega arith in
+                let fits : u - s < length (take (e - s) (drop s row)) = omega (arith, length-take (e - s) (drop s row), length-drop s row) in
+                let none : getD row u 0 ≡ 0 = ap (λ (x : ℕ). getD row x 0) (sym at) ∙ sym (getD-drop s row (u - s) 0) ∙ sym (getD-take (e - s) (drop s row) (u - s) 0 i) ∙ z .zeros y (u - s) fits in
+                inside-zero row e u none ∙ sym (inside-not row s u after)
+
+pub quiet-chunk : (row : List ℕ) (k m s n : ℕ) (ws : List ℕ) (told : Bool) → Quiet (take (s + n - s) (drop s row)) told → told ≡ true → s + n ≤ length row → GoesOn row k m s (s + n) ws ws
+quiet-chunk row k m s n ws told z y l = quiet-part row k m s (s + n) ws told z y (omega arith) l
+
+-- a whole row
+pub record Rowed (row : List ℕ) (k m s : ℕ) (ws ws′ : List ℕ) : Type 0 where
+  pub far : s ≤ length row
+  pub long : length ws′ ≡ length ws
+  pub flips : Flips (length row) (insideTo row s) k m ws ws′
+
+pub rowed-none : (row : List ℕ) (k m : ℕ) (ws : List ℕ) → Rowed row k m 0 ws ws
+rowed-none row k m ws = record { far = omega arith; long = refl; flips = flips-none (length row) (insideTo row 0) k m ws (λ s n. inside-not row 0 s (omega arith)) }
+
+pub rowed-more : (row : List ℕ) (k m s e : ℕ) (ws ws₁ ws₂ : List ℕ) → Rowed row k m s ws ws₁ → GoesOn row k m s e ws₁ ws₂ → length ws₂ ≡ length ws₁ → e ≤ length row → Rowed row k m e ws ws₂
+rowed-more row k m s e ws ws₁ ws₂ r g l h = record { far = h; long = l ∙ r .long; flips = g .is ws (r .flips) }
+
+pub rowed-end : (row : List ℕ) (k m s : ℕ) (ws ws₁ ws₂ : List ℕ) → Rowed row k m s ws ws₁ → GoesOn row k m s (length row) ws₁ ws₂ → Flips (length row) (insideTo row (length row)) k m ws ws₂
+rowed-end row k m s ws ws₁ ws₂ r g = g .is ws (r .flips)
+
+-- ---- a line's start
+pub row-bytes-long : (names b : ℕ) (rows : List ℕ) → b + names ≤ length rows → length (take names (drop b rows)) ≡ names
+row-bytes-long names b rows h = omega (arith, length-take names (drop b rows), length-drop b rows)
+
+start-inside : (names l : ℕ) (rows : List ℕ) (s : ℕ) → s < names → startState names rows l s ≡ insideTo (take names (drop (l * names) rows)) names s
+start-inside names l rows s n =
+    rw (lt-ltb s names n) (sym (inside-below (take names (drop (l * names) rows)) names s n ∙ rw (getD-take names (drop (l * names) rows) s 0 n, getD-drop (l * names) rows s 0)))
+
+pub start-turned : (names l k m : ℕ) (rows ws ws′ : List ℕ) → l * names + names ≤ length rows → Flips (length (take (l * names + names - l * names) (drop (l * names) rows))) (insideTo (take (l * names + names - l * names) (drop (l * names) rows)) (length (take (l * names + names - l * names) (drop (l * names) rows)))) k m ws ws′
+    → Flips names (startState names rows l) k m ws ws′
+start-turned names l k m rows ws ws′ h f =
+    let same : l * names + names - l * names ≡ names = omega arith in
+    flips-same names (insideTo (take names (drop (l * names) rows)) names) (startState names rows l) k m ws ws′ (rw (same, row-bytes-long names (l * names) rows h) at f) (start-inside names l rows)
+
+pub part-bytes : (names b : ℕ) (rows : List ℕ) → Bytes (take names (drop b rows)) → Bytes (take (b + names - b) (drop b rows))
+part-bytes names b rows h = let same : b + names - b ≡ names = omega arith in rw same h
+
+-- ---- a crossing
+pub crossing-turned : (s x k m : ℕ) (ws ws′ : List ℕ) → s ≡ x → x < 256 → k < wide → 256 * wide ≤ length ws → ws′ ≡ set ws (s * wide + k) (bitXor (getD ws (s * wide + k) 0) m) → Flips 256 (only x) k m ws ws′
+crossing-turned s x k m ws ws′ e h w r f =
+    rw (f, e)
+    (flips-more 256 (λ u. false) (only x) k m m x ws ws (flips-none 256 (λ u. false) k m ws (λ u n. refl)) (omega arith) w (λ n. refl)
+    (λ b l. sym (rw (eq-eqb x x refl))) (λ u n. ne-eqb u x n))
+
+pub shape-fits : (s x k : ℕ) (ws : List ℕ) → s ≡ x → x < 256 → k < wide → 256 * wide ≤ length ws → s * wide + k < length ws
+shape-fits s x k ws e h w r = omega arith
+
+-- ---- a column
+pub legible-less : (names : ℕ) (rows shapes cols starts : List ℕ) (a n c : ℕ) → Legible names rows shapes cols starts a n → c ≤ n → Legible names rows shapes cols starts a c
+legible-less names rows shapes cols starts a n c l h =
+    record { few = l .few; colsLong = l .colsLong; startsLong = l .startsLong; most = omega (arith, l .most); column = λ j g. l .column j (omega arith) }
+
+pub legible-next : (names : ℕ) (rows shapes cols starts : List ℕ) (a n c : ℕ) → Legible names rows shapes cols starts a n → c < n → Legible names rows shapes cols starts a (c + 1)
+legible-next names rows shapes cols starts a n c l h = legible-less names rows shapes cols starts a n (c + 1) l (omega arith)
+
+-- as far as word k, and as its last column
+pub legible-word : (names : ℕ) (rows shapes cols starts lasts : List ℕ) (a n k : ℕ) (ws : List ℕ) → Fillable names rows shapes cols starts lasts a n ws → 64 * k < n → Legible names rows shapes cols starts a (64 * k)
+legible-word names rows shapes cols starts lasts a n k ws f h = legible-less names rows shapes cols starts a n (64 * k) (f .legible) (omega arith)
+
+pub legible-first : (names : ℕ) (rows shapes cols starts lasts : List ℕ) (a n m : ℕ) (ws : List ℕ) → Fillable names rows shapes cols starts lasts a n ws → InWord n 0 m → Legible names rows shapes cols starts a (64 * 0 + m)
+legible-first names rows shapes cols starts lasts a n m ws f w = legible-less names rows shapes cols starts a n (64 * 0 + m) (f .legible) (w .within)
+
+pub legible-part : (names : ℕ) (rows shapes cols starts lasts : List ℕ) (a n k m : ℕ) (ws : List ℕ) → Fillable names rows shapes cols starts lasts a n ws → InWord n k m → Legible names rows shapes cols starts a (64 * k + m)
+legible-part names rows shapes cols starts lasts a n k m ws f w = legible-less names rows shapes cols starts a n (64 * k + m) (f .legible) (w .within)
+
+-- what turns there
+pub start-turns : (names : ℕ) (rows shapes cols starts : List ℕ) (a c q : ℕ) → getD cols c 0 ≡ 65535 → q ≡ getD starts c 0 → (s : ℕ) → turnsOf names rows shapes cols starts a c s ≡ startState names rows q s
+unfolding turnsOf turnsAt
+start-turns names rows shapes cols starts a c q e same s = rw (eq-eqb (getD cols c 0) 65535 e, same)
+
+pub crossing-turns : (names : ℕ) (rows shapes cols starts : List ℕ) (a c o : ℕ) → (getD cols c 0 ≡ 65535 → ⊥) → o ≡ getD cols c 0 → (s : ℕ) → turnsOf names rows shapes cols starts a c s ≡ only (getD shapes (a + o) 0) s
+unfolding turnsOf turnsAt
+crossing-turns names rows shapes cols starts a c o e same s = rw (ne-eqb (getD cols c 0) 65535 e, same)
+
+module _ (names : ℕ) (rows shapes cols starts : List ℕ) (a c : ℕ) (l : Legible names rows shapes cols starts a (c + 1)) where
+  turnable : Turnable names rows shapes cols starts a c
+  turnable = l .column c (omega arith)
+
+  pub row-there : (q : ℕ) → getD cols c 0 ≡ 65535 → q ≡ getD starts c 0 → q * names + names ≤ length rows
+  row-there q e same = rw same (turnable .row e)
+
+  pub row-bytes : (q : ℕ) → getD cols c 0 ≡ 65535 → q ≡ getD starts c 0 → Bytes (take names (drop (q * names) rows))
+  row-bytes q e same =
+      rw same
+      (record {
+        few = omega (arith, l .few, length-take names (drop (getD starts c 0 * names) rows));
+        bits = λ s h.
+            let n : s < names = omega (arith, length-take names (drop (getD starts c 0 * names) rows)) in
+            rw (getD-take names (drop (getD starts c 0 * names) rows) s 0 n, getD-drop (getD starts c 0 * names) rows s 0) (turnable .bytes e s n);
+      })
+
+  pub column-start : (q k m : ℕ) (ws ws′ : List ℕ) → getD cols c 0 ≡ 65535 → q ≡ getD starts c 0 → Flips names (startState names rows q) k m ws ws′ → Flips names (turnsOf names rows shapes cols starts a c) k m ws ws′
+  column-start q k m ws ws′ e same f =
+      flips-same names (startState names rows q) (turnsOf names rows shapes cols starts a c) k m ws ws′ f (λ s n. start-turns names rows shapes cols starts a c q e same s)
+
+  pub crossing-there : (o : ℕ) → (getD cols c 0 ≡ 65535 → ⊥) → o ≡ getD cols c 0 → a + o < length shapes
+  crossing-there o e same = rw same (turnable .there e)
+
+  pub crossing-named : (o : ℕ) → (getD cols c 0 ≡ 65535 → ⊥) → o ≡ getD cols c 0 → getD shapes (a + o) 0 < 256
+  crossing-named o e same = rw same (omega (arith, turnable .named e, l .few))
+
+  pub column-crossing : (o k m : ℕ) (ws ws′ : List ℕ) → (getD cols c 0 ≡ 65535 → ⊥) → o ≡ getD cols c 0 → Flips 256 (only (getD shapes (a + o) 0)) k m ws ws′ → Flips names (turnsOf names rows shapes cols starts a c) k m ws ws′
+  column-crossing o k m ws ws′ e same f =
+      record {
+        apart = record { long = f .apart .long; other = λ s j n h g. f .apart .other s j (omega (arith, l .few)) h g };
+        here = λ s b n h. rw (crossing-turns names rows shapes cols starts a c o e same s) (f .here s b (omega (arith, l .few)) h);
+      }

@@ -1,0 +1,48 @@
+-- `line_strips::lay` meets its contract.
+use borrow.Author.Needs.{needs}
+use Prim.Native.Nat.{_-_}
+use Rattle.line_strips.specs.Strips.{cell}
+use Rattle.line_strips.specs.Steps.{turnsOf}
+use Rattle.line_strips.proofs.Lays.{Word, word-none, word-more, word-end}
+use Rattle.line_strips.proofs.lay.Statement.{statement}
+use Rattle.line_strips.proofs.lay.Tie as tie
+use Rattle.line_strips.proofs.lay.Reads as reads
+use Rattle.line_strips.proofs.lay.Lts as lts
+use Rattle.line_strips.proofs.lay_some.Reads as lay-some-reads
+
+abbrev Inv-loop : tie.InvT-loop
+Inv-loop words₀ names rows shape cols starts lasts a k m j₀ words j = Word names (turnsOf names rows shape cols starts a) (cell lasts) k m j words₀ words
+
+abbrev μ-loop : tie.MeasureT-loop
+μ-loop words₀ names rows shape cols starts lasts a k m j₀ words j = m - j
+
+loop-holds : tie.Need-loop-holds Inv-loop μ-loop
+loop-holds c = search (word-none, needs)
+
+lay-some-requires : tie.Need-lay-some-requires Inv-loop μ-loop
+lay-some-requires c κs = search needs
+
+loop-less : tie.Need-loop-less Inv-loop μ-loop
+loop-less c = search needs
+
+loop-again : tie.Need-loop-again Inv-loop μ-loop
+loop-again c = search (word-more, needs)
+
+same-length : tie.Need-same-length Inv-loop μ-loop
+same-length c = search needs
+
+returns : tie.Need-returns Inv-loop μ-loop
+returns c = search (word-end, needs)
+
+pub lay-spec : {M : Type 1} → statement M
+lay-spec =
+    tie.close
+    (tie.spec
+    Inv-loop
+    μ-loop
+    loop-holds
+    lay-some-requires
+    loop-less
+    loop-again
+    same-length
+    returns)

@@ -1,0 +1,119 @@
+-- `line_strips::lay_some` meets its contract.
+use borrow.Author.Needs.{needs}
+use Prim.Native.Nat.{_-_}
+use Rattle.line_strips.proofs.Spans.{from-shifted}
+use Rattle.line_strips.proofs.Lays.{Laying, laying-none, laying-bit, laying-column, laying-start, laying-row, laying-bytes, laying-crossing, laying-named, laying-ends, laying-more, laying-end}
+use Rattle.line_strips.proofs.lay_some.Statement.{statement}
+use Rattle.line_strips.proofs.lay_some.Tie as tie
+use Rattle.line_strips.proofs.lay_some.Reads as reads
+use Rattle.line_strips.proofs.lay_some.Lts as lts
+use Rattle.basics.proofs.wide.Reads as wide-reads
+use Rattle.basics.proofs.wide_long.Reads as wide-long-reads
+use Rattle.line_strips.proofs.moved.Reads as moved-reads
+use Rattle.line_strips.proofs.span_crossing.Reads as span-crossing-reads
+use Rattle.line_strips.proofs.span_start.Reads as span-start-reads
+
+abbrev Inv-loop : tie.InvT-loop
+Inv-loop words₀ names rows shape cols starts lasts a k j m w from₀ i₀ words from i = Laying names rows shape cols starts lasts a k j m from i words₀ words
+
+abbrev μ-loop : tie.MeasureT-loop
+μ-loop words₀ names rows shape cols starts lasts a k j m w from₀ i₀ words from i = m - i
+
+mul-w : tie.Need-mul-w Inv-loop μ-loop
+mul-w c = search needs
+
+element-copy-out-w : tie.Need-element-copy-out-w Inv-loop μ-loop
+element-copy-out-w c = search needs
+
+shl-from : tie.Need-shl-from Inv-loop μ-loop
+shl-from c = search needs
+
+loop-holds : tie.Need-loop-holds Inv-loop μ-loop
+loop-holds c = search (laying-none, from-shifted, needs)
+
+mul-c : tie.Need-mul-c Inv-loop μ-loop
+mul-c c = search needs
+
+add-c : tie.Need-add-c Inv-loop μ-loop
+add-c c = search needs
+
+mul-o : tie.Need-mul-o Inv-loop μ-loop
+mul-o c = search needs
+
+element-copy-out-o : tie.Need-element-copy-out-o Inv-loop μ-loop
+element-copy-out-o c = search (laying-column, needs)
+
+mul-wide-long : tie.Need-mul-wide-long Inv-loop μ-loop
+mul-wide-long c = search needs
+
+element-copy-out-wide-long : tie.Need-element-copy-out-wide-long Inv-loop μ-loop
+element-copy-out-wide-long c = search (laying-start, needs)
+
+wide-long-requires : tie.Need-wide-long-requires Inv-loop μ-loop
+wide-long-requires c κs = search needs
+
+span-start-requires : tie.Need-span-start-requires Inv-loop μ-loop
+span-start-requires c κs = (search needs, search needs, search (laying-bit, needs), search (laying-row, needs), search (laying-bytes, needs))
+
+add-result : tie.Need-add-result Inv-loop μ-loop
+add-result c = search needs
+
+same-length : tie.Need-same-length Inv-loop μ-loop
+same-length c = search needs
+
+returns : tie.Need-returns Inv-loop μ-loop
+returns c = search (laying-ends, needs)
+
+wide-requires : tie.Need-wide-requires Inv-loop μ-loop
+wide-requires c κs = search needs
+
+span-crossing-requires : tie.Need-span-crossing-requires Inv-loop μ-loop
+span-crossing-requires c κs = (search needs, search needs, search (laying-bit, needs), search (laying-crossing, needs), search (laying-named, needs))
+
+moved-requires : tie.Need-moved-requires Inv-loop μ-loop
+moved-requires c κs = search needs
+
+add-i : tie.Need-add-i Inv-loop μ-loop
+add-i c = search needs
+
+loop-less : tie.Need-loop-less Inv-loop μ-loop
+loop-less c = search needs
+
+loop-again : tie.Need-loop-again Inv-loop μ-loop
+loop-again c = search (laying-more, needs)
+
+same-length-2 : tie.Need-same-length-2 Inv-loop μ-loop
+same-length-2 c = search needs
+
+returns-2 : tie.Need-returns-2 Inv-loop μ-loop
+returns-2 c = search (laying-end, needs)
+
+pub lay-some-spec : {M : Type 1} → statement M
+lay-some-spec =
+    tie.close
+    (tie.spec
+    Inv-loop
+    μ-loop
+    mul-w
+    element-copy-out-w
+    shl-from
+    loop-holds
+    mul-c
+    add-c
+    mul-o
+    element-copy-out-o
+    mul-wide-long
+    element-copy-out-wide-long
+    wide-long-requires
+    span-start-requires
+    add-result
+    same-length
+    returns
+    wide-requires
+    span-crossing-requires
+    moved-requires
+    add-i
+    loop-less
+    loop-again
+    same-length-2
+    returns-2)

@@ -1,0 +1,24 @@
+-- `line_strips::span_start` meets its contract.
+use Rattle.line_strips.proofs.Lays.{span-flips}
+use borrow.Author.Needs.{needs}
+use Rattle.line_strips.proofs.span_start.Statement.{statement}
+use Rattle.line_strips.proofs.span_start.Tie as tie
+use Rattle.line_strips.proofs.span_start.Reads as reads
+use Rattle.line_strips.proofs.span_start.Lts as lts
+use Rattle.line_strips.proofs.span.Reads as span-reads
+use Rattle.line_strips.proofs.turn_start.Reads as turn-start-reads
+
+span-requires : tie.Need-span-requires
+span-requires c κs = search needs
+
+turn-start-requires : tie.Need-turn-start-requires
+turn-start-requires c κs = search needs
+
+same-length : tie.Need-same-length
+same-length c = search needs
+
+returns : tie.Need-returns
+returns c = search (span-flips, needs)
+
+pub span-start-spec : {M : Type 1} → statement M
+span-start-spec = tie.close (tie.spec span-requires turn-start-requires same-length returns)

@@ -1,0 +1,88 @@
+-- What the sweep keeps: the events so far stand first in their list.
+use Prim.Native.Nat.{ℕ, _+_, _*_, _≤_, _<_}
+use mathlib.Core.Path.{_≡_}
+use mathlib.Core.Bool.{Bool, true, false, not, _&&_}
+use mathlib.Core.List.{List, _++_}
+use lib.IntN.{ℤ}
+use lib.ListN.{length, take, getD}
+use Rattle.line_strips.specs.Words.{bit}
+use Rattle.line_strips.specs.Strips.{wide, columns, cell}
+use Rattle.line_sweeping.specs.Events.{endsIn, settled, changesAt, opensAt, eventsAt, metalNext, metalAfter, eventsAfter}
+use Rattle.line_sweeping.specs.declared.Found.{Found}
+
+-- a column that says what was there before it, and past which no metal goes on if it is the last of its line
+pub record Quiet (metal bit last : Bool) : Type 0 where
+  pub alike : bit ≡ metal
+  pub inner : (metal && last) ≡ false
+
+-- from bit j on, the bits before r of a word and its line ends are quiet
+pub record NextNoisy (w y j : ℕ) (metal : Bool) (r : ℕ) : Type 0 where
+  pub rises : j ≤ r
+  pub near : r ≤ 128
+  pub quiet : (b : ℕ) → j ≤ b → b < r → b < 64 → Quiet metal (bit w b) (bit y b)
+
+-- column c of the block is there, or a line's start
+pub record ColumnThere (ls : List ℕ) (ps : List ℤ) (a : ℕ) (cols : List ℕ) (c : ℕ) : Type 0 where
+  pub narrow : c < columns
+  pub long : length ps ≡ length ls
+  pub crossing : (getD cols c 0 ≡ 65535 → ⊥) → a + getD cols c 0 < length ls
+  pub sized : length cols ≡ columns
+
+-- a list of events has room for the next, of column c
+pub record EventRoom (c : ℕ) (events : List ℕ) (f : Found) : Type 0 where
+  pub narrow : c < columns
+  pub few : f .count ≤ 2 * c + 1
+  pub sized : length events ≡ 2 * columns
+
+-- the sweep has come to column c
+pub record Reached (ls : List ℕ) (ps : List ℤ) (a : ℕ) (cols : List ℕ) (c : ℕ) (events : List ℕ) (f : Found) : Type 0 where
+  pub there : ColumnThere ls ps a cols c
+  pub few : f .count ≤ 2 * c
+  pub sized : length events ≡ 2 * columns
+
+-- some events more than the first k
+pub record Noted (new : List ℕ) (k : ℕ) (events : List ℕ) (k′ : ℕ) (events′ : List ℕ) : Type 0 where
+  pub sized : length events′ ≡ length events
+  pub count : k′ ≡ k + length new
+  pub are : take k′ events′ ≡ take k events ++ new
+
+pub record Changed (ends bit : Bool) (c : ℕ) (events : List ℕ) (f : Found) (events′ : List ℕ) (f′ : Found) : Type 0 where
+  pub noted : Noted (changesAt ends bit (f .metal) c) (f .count) events (f′ .count) events′
+  pub metal : f′ .metal ≡ settled ends bit (f .metal)
+
+pub record Left (last : Bool) (c : ℕ) (events : List ℕ) (f : Found) (events′ : List ℕ) (f′ : Found) : Type 0 where
+  pub noted : Noted (opensAt last (f .metal) c) (f .count) events (f′ .count) events′
+  pub metal : f′ .metal ≡ (not last && f .metal)
+
+pub record Stepped (ends bit last : Bool) (c : ℕ) (events : List ℕ) (f : Found) (events′ : List ℕ) (f′ : Found) : Type 0 where
+  pub noted : Noted (eventsAt ends bit last (f .metal) c) (f .count) events (f′ .count) events′
+  pub metal : f′ .metal ≡ metalNext ends bit last (f .metal)
+
+-- the n columns of a block are there, and the arrays have their size
+pub record Sweepable (ls : List ℕ) (ps : List ℤ) (a n : ℕ) (cols row lasts : List ℕ) : Type 0 where
+  pub narrow : n ≤ columns
+  pub there : (c : ℕ) → c < n → ColumnThere ls ps a cols c
+  pub row-sized : length row ≡ wide
+  pub lasts-sized : length lasts ≡ wide
+
+-- the columns of word k before e
+pub record WordPart (k e : ℕ) : Type 0 where
+  pub some : 64 * k < e
+  pub inside : e ≤ 64 * k + 64
+
+-- the first j columns have been gone through
+pub record Events (ends bits last : ℕ → Bool) (metal : Bool) (j : ℕ) (events : List ℕ) (f : Found) : Type 0 where
+  pub few : f .count ≤ 2 * j
+  pub sized : length events ≡ 2 * columns
+  pub are : take (f .count) events ≡ eventsAfter ends bits last metal j
+  pub left : f .metal ≡ metalAfter ends bits last metal j
+
+-- the same by the block's lists
+abbrev pub Swept : List ℕ → List ℤ → ℕ → List ℕ → List ℕ → List ℕ → Bool → ℕ → List ℕ → Found → Type 0
+Swept ls ps a cols row lasts metal j events f = Events (endsIn ls ps a cols) (cell row) (cell lasts) metal j events f
+
+-- the first r events listed are those of a block of n columns
+pub record Listed (ends bits last : ℕ → Bool) (metal : Bool) (n : ℕ) (events : List ℕ) (r : ℕ) : Type 0 where
+  pub few : r ≤ 2 * n
+  pub sized : length events ≡ 2 * columns
+  pub are : take r events ≡ eventsAfter ends bits last metal n
