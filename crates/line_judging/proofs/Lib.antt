@@ -1,0 +1,2 @@
+pub mod Opinions
+mod EatLaws

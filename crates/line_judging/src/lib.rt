@@ -1,0 +1,98 @@
+// Their wall list against one wall of ours after another.
+ghost use mathlib.Core.Path.{_≡_};
+ghost use Prim.Native.Nat.{_<_};
+ghost use lib.IntN.{pos};
+ghost use lib.ListN.{getD, length};
+ghost use lib.Signed.{leZ};
+ghost use Rattle.line_judging.specs.Judging.{theirLists, samePlace, fits};
+ghost use Rattle.line_judging.specs.Eating.{SameLength, entryAt, needed, EntryThere, Ate};
+
+// Where a wall begins or ends: a signed number of a slice is compared in no other way.
+pub struct Place {
+    pub at: i32,
+}
+
+// A wall of ours, or the part of it that their list has still to give.
+pub struct Need {
+    pub line: u32,
+    pub from: Place,
+    pub to: Place,
+}
+
+// Their entries gave the wall whole, and this is the next; or this is the first after which no right list could begin that way.
+pub enum Eaten {
+    Whole(usize),
+    Wrong(usize),
+}
+
+fn spot(at: &[i32], j: usize) -> Place
+    requires { ⌜ j < length (now at) ⌝ }
+    ensures { λ p. ⌜ p .at ≡ getD (now (at .entry)) j (pos 0) ⌝ }
+{
+    let p = at[j];
+    Place { at: p }
+}
+
+fn up_to(a: Place, b: Place) -> bool
+    ensures { λ r. ⌜ r ≡ leZ (a .at) (b .at) ⌝ }
+{
+    a.at <= b.at
+}
+
+fn same_place(a: Place, b: Place) -> bool
+    ensures { λ r. ⌜ r ≡ samePlace (a .at) (b .at) ⌝ }
+{
+    if up_to(a, b) {
+        return up_to(b, a);
+    }
+    false
+}
+
+// Their entry j begins the wall, or the part of it, that is needed next, and ends within it.
+fn fits_at(lines: &[u32], starts: &[i32], ends: &[i32], j: usize, v: Need) -> bool
+    requires { ⌜ EntryThere (theirLists (now lines) (now starts) (now ends)) j ⌝ }
+    ensures { λ r. ⌜ r ≡ fits (needed v) (entryAt (theirLists (now (lines .entry)) (now (starts .entry)) (now (ends .entry))) j) ⌝ }
+{
+    let a = spot(starts, j);
+    let b = spot(ends, j);
+    let f = v.from;
+    let t = v.to;
+    if lines[j] != v.line {
+        return false;
+    }
+    if same_place(a, f) {
+        if up_to(b, a) {
+            return false;
+        }
+        return up_to(b, t);
+    }
+    false
+}
+
+// One wall of ours against their entries from `first` on.
+pub fn eat(lines: &[u32], starts: &[i32], ends: &[i32], first: usize, wall: Need) -> Eaten
+    requires { ⌜ SameLength (theirLists (now lines) (now starts) (now ends)) ⌝ }
+    ensures { λ r. ⌜ Ate (theirLists (now (lines .entry)) (now (starts .entry)) (now (ends .entry))) first (needed wall) r ⌝ }
+{
+    let mut j = first;
+    let mut v = wall;
+    while j < lines.len() {
+        if fits_at(lines, starts, ends, j, v) {
+            let b = spot(ends, j);
+            let l = v.line;
+            let t = v.to;
+            if up_to(t, b) {
+                return Eaten::Whole(j + 1);
+            }
+            v = Need {
+                line: l,
+                from: b,
+                to: t,
+            };
+            j += 1;
+            continue;
+        }
+        return Eaten::Wrong(j);
+    }
+    Eaten::Wrong(j)
+}
