@@ -1,6 +1,7 @@
 /* All jobs on a bored block: Block less Bore. Prints what each answers, and ends with status 0 if all is as it should be. */
 #include "kressedach.h"
 #include <stdio.h>
+#include <string.h>
 
 /* An array as the two arguments that a list is: a pointer and the number of entries. */
 #define LENGTH(array) (sizeof(array) / sizeof *(array))
@@ -193,6 +194,18 @@ static void cross_vent(void) {
     expect(r.number == KRESSEDACH_BALL_WRONG && r.place == 0, "a ball begun");
 }
 
+static void move(void) {
+    uint8_t there[sizeof sheet], back[sizeof sheet + 1];
+    back[sizeof sheet] = 9;
+    struct kressedach_move_report r = kressedach_move(ALONE(sheet), LIST(there));
+    printf("moved: edition %u, %zu bytes\n", there[4], r.length);
+    expect(r.number == KRESSEDACH_GIVEN && r.length == sizeof sheet && there[4] == 2, "the sheet in edition 2");
+    r = kressedach_move(ALONE(there), LIST(back));
+    expect(r.number == KRESSEDACH_GIVEN && memcmp(back, sheet, sizeof sheet) == 0 && back[sizeof sheet] == 9, "there and back");
+    r = kressedach_move(ALONE(sheet), there, sizeof sheet - 1);
+    expect(r.number == KRESSEDACH_LIST_TOO_SHORT && r.place == sizeof sheet && r.length == 0, "room for the whole sheet");
+}
+
 static void read_pair(void) {
     struct kressedach_read_report r = kressedach_read(BESIDE(fittings, plate));
     printf("beside a fittings sheet: %zu names\n", r.names);
@@ -225,6 +238,7 @@ static void read_pair(void) {
 
 int main(void) {
     read_sheet();
+    move();
     read_pair();
     build_tree();
     run_toggles();

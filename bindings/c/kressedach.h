@@ -147,6 +147,23 @@ struct kressedach_names_report kressedach_names(bool fitted,
                                                 size_t *firsts, size_t firsts_length,
                                                 size_t *pasts, size_t pasts_length);
 
+struct kressedach_move_report {
+    uint8_t number;
+    uint8_t sheet;
+    size_t place;
+    size_t length; /* how many bytes were given: as many as the sheet has */
+};
+
+/* Gives the customer's sheet in the edition that it has not: the header's edition, the formula's tag and the order of its codes change,
+ * and no other byte. Refusals: 1 to 7 and 17, then 9, place the sheet's length.
+ *
+ * The caller keeps: fittings_length bytes at fittings, sheet_length bytes at sheet, moved_length bytes at moved.
+ */
+struct kressedach_move_report kressedach_move(bool fitted,
+                                              const uint8_t *fittings, size_t fittings_length,
+                                              const uint8_t *sheet, size_t sheet_length,
+                                              uint8_t *moved, size_t moved_length);
+
 struct kressedach_build_report {
     uint8_t number;
     uint8_t sheet;

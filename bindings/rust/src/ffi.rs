@@ -38,6 +38,15 @@ pub struct NamesReport {
     pub names: usize,
 }
 
+/// What the move answers.
+#[repr(C)]
+pub struct MoveReport {
+    pub number: u8,
+    pub sheet: u8,
+    pub place: usize,
+    pub length: usize,
+}
+
 /// What building answers.
 #[repr(C)]
 pub struct BuildReport {
@@ -109,6 +118,16 @@ extern "C" {
         pasts: *mut usize,
         pasts_length: usize,
     ) -> NamesReport;
+
+    pub fn kressedach_move(
+        fitted: bool,
+        fittings: *const u8,
+        fittings_length: usize,
+        sheet: *const u8,
+        sheet_length: usize,
+        moved: *mut u8,
+        moved_length: usize,
+    ) -> MoveReport;
 
     pub fn kressedach_build(
         fitted: bool,

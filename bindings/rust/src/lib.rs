@@ -258,6 +258,42 @@ pub fn name<'a>(sheets: impl Into<Sheets<'a>>, shape: usize) -> Result<&'a [u8],
     unless_refused(r.number, r.sheet, r.place, sheets.part(r.sheet, r.first..r.past))
 }
 
+/// The customer's sheet in the edition that it has not, beside a fittings sheet where there is one. The header's edition, the formula's
+/// tag and the order of its codes change, and no other byte; moved again it is the same bytes as before.
+///
+/// ```
+/// let sheet = b"\x01\0\x02\0\x01\x02\0\x01A\x02\0\x01B\x03\0\x06\0\0\0\x01\xFF\xF2";
+/// let moved = kressedach::move_sheet(sheet)?;
+/// assert_eq!(moved, b"\x01\0\x02\0\x02\x02\0\x01A\x02\0\x01B\x04\0\x06\xFF\xF2\0\0\0\x01");
+/// assert_eq!(kressedach::move_sheet(&moved)?, sheet);
+/// # Ok::<(), kressedach::Refusal>(())
+/// ```
+///
+/// # Errors
+///
+/// As [`read`].
+pub fn move_sheet<'a>(sheets: impl Into<Sheets<'a>>) -> Result<Vec<u8>, Refusal> {
+    let sheets = sheets.into();
+    let mut moved = vec![0; sheets.parts().2.len()];
+    move_into(sheets, &mut moved)?;
+    Ok(moved)
+}
+
+/// The same into a list of bytes, which stays as it was past the sheet's length; gives that length.
+///
+/// # Errors
+///
+/// 1 to 7 and 17 as [`read`], then 9, place the sheet's length.
+#[inline]
+pub fn move_into<'a>(sheets: impl Into<Sheets<'a>>, moved: &mut [u8]) -> Result<usize, Refusal> {
+    let (fitted, fittings, sheet) = sheets.into().parts();
+    // SAFETY: slices are pointers to that many entries; the one that is written is borrowed by nobody else.
+    let r = unsafe {
+        ffi::kressedach_move(fitted, fittings.as_ptr(), fittings.len(), sheet.as_ptr(), sheet.len(), moved.as_mut_ptr(), moved.len())
+    };
+    unless_refused(r.number, r.sheet, r.place, r.length)
+}
+
 /// Builds the dwarf tree of a sheet.
 ///
 /// ```

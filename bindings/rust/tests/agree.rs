@@ -138,6 +138,10 @@ fn compare_one(case: &Case) -> Result<u8, String> {
             for short in 0..4 {
                 compare_names(sheet, [0, 1, 2].map(|list| if list == short { names.saturating_sub(1) } else { names + list % 2 }))?;
             }
+            // the move, into a list too short, just long enough, and longer; and back
+            for room in [sheet.own.len().saturating_sub(1), sheet.own.len(), sheet.own.len() + 3] {
+                compare_move(sheet, room)?;
+            }
             same(got, due.as_ref().map(|s| (s.names.len(), s.leaves, s.first, s.past)))
         }
         Case::Build { sheet, rooms } => {
@@ -182,6 +186,22 @@ fn compare_one(case: &Case) -> Result<u8, String> {
             Ok(number)
         }
     }
+}
+
+/// The sheet in the other edition; moved back it is the sheet.
+fn compare_move(sheet: &Given, room: usize) -> Result<u8, String> {
+    let mut moved = Lent::new(room, |k| k as u8);
+    let got = kressedach::move_into(sheet.ours(), moved.list());
+    let due = peer::move_sheet(sheet.theirs(), room);
+    let number = same(got, due.as_ref().map(Vec::len))?;
+    moved.check("moved", due.iter().flatten().copied())?;
+    if let Ok(moved) = due {
+        let moved = Given { own: moved, ..sheet.clone() };
+        if kressedach::move_sheet(moved.ours()).as_ref() != Ok(&sheet.own) {
+            return Err("the move there and back is another sheet".into());
+        }
+    }
+    Ok(number)
 }
 
 /// Where all names stand, and what they are.
@@ -427,6 +447,13 @@ fn largest_sheets() -> Vec<Case> {
     cases
 }
 
+/// 1024 leaves in a chain to the left, and to the right, in both editions.
+fn deepest_sheets() -> Vec<Vec<u8>> {
+    let dice = &mut Dice::of(4, 0);
+    let last = [Form::LeftChain, Form::RightChain].map(|form| make::sheet(&["A"], &make::codes(dice, 1, 1024, form)));
+    last.into_iter().flat_map(|sheet| [kressedach::move_sheet(&sheet).unwrap(), sheet]).collect()
+}
+
 #[test]
 fn the_largest_sheets() {
     for case in largest_sheets() {
@@ -438,6 +465,11 @@ fn the_largest_sheets() {
 #[test]
 fn a_small_stack_is_enough() {
     let calls = || {
+        for sheet in deepest_sheets() {
+            assert_eq!(kressedach::move_sheet(&sheet).map(|moved| kressedach::move_sheet(&moved)), Ok(Ok(sheet)));
+        }
+        let operations = make::sheet_first(&["A"], &[0xFFF3; 2047]);
+        assert_eq!(kressedach::move_sheet(&operations).map_err(|refusal| (refusal.number, refusal.place)), Err((7, 9)));
         for case in largest_sheets() {
             match case {
                 Case::Read { sheet } => drop(kressedach::read(sheet.ours()).unwrap()),

@@ -217,6 +217,23 @@ fn lines_that_start_in_metal() {
 }
 
 #[test]
+fn a_sheet_moved_there_and_back() {
+    let moved = |sheet: &[u8]| {
+        let path = file("moved.sheet", sheet);
+        let output = Command::new(env!("CARGO_BIN_EXE_wallcheck")).args(["move", &path]).output().unwrap();
+        assert!(output.status.success());
+        output.stdout
+    };
+    let there = moved(&worked());
+    assert_eq!((there[4], there[17]), (2, 4));
+    assert_eq!(moved(&there), worked());
+    let path = file("there.sheet", &there);
+    assert_eq!(wallcheck(&["list", &path], b""), wallcheck(&["list", "-"], &worked()));
+    let ends = "refused 1 at byte 29 of the customer's sheet: the sheet ends too soon";
+    assert_eq!(wallcheck(&["move", "-"], &there[..29]), refused(ends));
+}
+
+#[test]
 fn unreadable_files() {
     let path = file("files.sheet", &worked());
     assert_eq!(wallcheck(&["read", "/no/such/file"], b"").0, Some(2));
@@ -296,6 +313,7 @@ fn usage() {
     assert_eq!(said(&[]), usage("a command is missing"));
     assert_eq!(said(&["raed", "-"]), usage("there is no command 'raed'"));
     assert_eq!(said(&["read"]), usage("'read' takes one file: SHEET"));
+    assert_eq!(said(&["move", "a", "b"]), usage("'move' takes one file: SHEET"));
     assert_eq!(said(&["run", "a"]), usage("'run' takes two files: SHEET TOGGLES"));
     assert_eq!(said(&["both", "a", "b"]), usage("'both' takes four files: SHEET TOGGLES TOGGLES ORDER"));
     assert_eq!(said(&["both", "a", "-", "-", "b"]), usage("only one of the files can be standard input"));

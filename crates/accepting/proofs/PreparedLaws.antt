@@ -1,20 +1,21 @@
 -- What is accepted and prepared, exit by exit: the reader's refusal, and the accepted sheets.
-use Prim.Native.Nat.{ℕ, _≤_}
+use Prim.Native.Nat.{ℕ, _≤_, _<_}
 use native.Mathlib.Omega.{arith}
-use mathlib.Core.Path.{_≡_, refl, ap, _∙_}
+use mathlib.Core.Path.{_≡_, refl}
 use mathlib.Core.Bool.{Bool, true, false}
 use mathlib.Core.List.{List}
-use lib.ListN.{length}
+use lib.ListN.{length, getD}
 use Rattle.outcome.specs.Outcome.{refused, unfit}
-use Rattle.formula.specs.Formula.{Formula}
+use Rattle.formula.specs.Formula.{Formula, postfix}
 use Rattle.formula.proofs.Laws.{over-more}
-use Rattle.sheet.specs.Sheet.{Sheets, sheetsOf, ownSheet, Sheet, between, codesOf}
-use Rattle.sheet_codes.specs.Codes.{CodesFit, CodesStand}
+use Rattle.sheet.specs.Sheet.{Sheets, sheetsOf, ownSheet, Sheet, between, codesOf, formulaIn}
+use Rattle.sheet_codes.specs.Codes.{CodesStand}
+use Rattle.sheet_descent.specs.Descent.{inPostfix, GoodIn}
 use Rattle.sheet_reading.specs.Reading.{told, answerOf}
 use Rattle.sheet_reading.specs.declared.ReadAnswer.{ReadAnswer}
 use Rattle.sheet_reading.specs.declared.ReadAnswer.the-variants as read
 use Rattle.sheet_reading.proofs.Settled.{read-refusal, read-unfit}
-use Rattle.sheet_reading.proofs.Told.{Known, read-known, known-facts, formula-ordered, formula-inside, formula-fits, formula-codes}
+use Rattle.sheet_reading.proofs.Told.{Known, read-known, known-facts, formula-ordered, formula-inside, formula-fits, header-there, few-names, formula-said}
 use Rattle.tree_dwarf.specs.Dwarfed.{Plans, Planned, Dwarfed}
 use Rattle.tree_dwarf.specs.declared.Figures.{Figures}
 use Rattle.accepting.specs.Accepting.{accepted}
@@ -39,18 +40,19 @@ module _ (c : Sheets) (a : ReadAnswer) (said : answerOf a ≡ told c) where
     pub ordered : first ≤ past
     ordered = formula-ordered c n l first past known
 
-    -- the codes put into the array are those of the formula
-    ready : (array : List ℕ) (count : ℕ) → CodesStand (codesOf (between (ownSheet c) first past)) array count → SaysCoded c array (acceptance.Given n count)
-    ready array count stand = (
-      known .sheet,
-      record {
-        is = accepted-given c (known .sheet) (known .read);
-        names-are = known .names-are;
-        few-codes = omega (arith, stand .all, ap length (formula-codes c n l first past known), known-facts c n l first past known .own .few-codes);
-        codes-are = stand .are ∙ formula-codes c n l first past known;
-        facts = known-facts c n l first past known;
-      },
-    )
+    -- the codes put into the array are those of the formula, in postfix order
+    ready : (array : List ℕ) (count : ℕ) → CodesStand (inPostfix (formulaIn (getD (ownSheet c) 4 0) n 0 0 (codesOf (between (ownSheet c) first past)))) array count → SaysCoded c array (acceptance.Given n count)
+    ready array count said-stand =
+        let stand : CodesStand (postfix (known .sheet .formula)) array count = rw (formula-said c n l first past known) at said-stand in (
+          known .sheet,
+          record {
+            is = accepted-given c (known .sheet) (known .read);
+            names-are = known .names-are;
+            few-codes = omega (arith, stand .all, known-facts c n l first past known .own .few-codes);
+            codes-are = stand .are;
+            facts = known-facts c n l first past known;
+          },
+        )
 
 -- The customer's sheet is that of the flag's pair.
 own-of : (b : Bool) (f s : List ℕ) → ownSheet (sheetsOf b f s) ≡ s
@@ -61,10 +63,23 @@ module _ (b : Bool) (f s : List ℕ) (a : ReadAnswer) (said : answerOf a ≡ tol
   pub inside : past ≤ length s
   inside = rw (own-of b f s) at (formula-inside (sheetsOf b f s) n l first past (known (sheetsOf b f s) a said n l first past is))
 
-  pub fit : (array : List ℕ) → length array ≡ 2048 → CodesFit (between s first past) array
-  fit array sized = rw (own-of b f s) at (formula-fits (sheetsOf b f s) n l first past (known (sheetsOf b f s) a said n l first past is) array sized)
+  pub headed : 4 < length s
+  headed = rw (own-of b f s) at (header-there (sheetsOf b f s) n l first past (known (sheetsOf b f s) a said n l first past is))
 
-  pub coded-given : (array : List ℕ) (count : ℕ) → CodesStand (codesOf (between s first past)) array count → SaysCoded (sheetsOf b f s) array (acceptance.Given n count)
+  good-own : (array : List ℕ) → length array ≡ 2048 → GoodIn (getD (ownSheet (sheetsOf b f s)) 4 0) n (between (ownSheet (sheetsOf b f s)) first past) array
+  good-own array sized =
+      let k = known (sheetsOf b f s) a said n l first past is in
+      record {
+        few-names = omega (arith, few-names (sheetsOf b f s) n l first past k);
+        fits = formula-fits (sheetsOf b f s) n l first past k array sized;
+        formula = k .sheet .formula;
+        is = formula-said (sheetsOf b f s) n l first past k;
+      }
+
+  pub fit : (array : List ℕ) → length array ≡ 2048 → GoodIn (getD s 4 0) n (between s first past) array
+  fit array sized = rw (own-of b f s) at (good-own array sized)
+
+  pub coded-given : (array : List ℕ) (count : ℕ) → CodesStand (inPostfix (formulaIn (getD s 4 0) n 0 0 (codesOf (between s first past)))) array count → SaysCoded (sheetsOf b f s) array (acceptance.Given n count)
   coded-given array count stand = ready (sheetsOf b f s) a said n l first past is array count (rw (own-of b f s) stand)
 
 -- ---- and prepared

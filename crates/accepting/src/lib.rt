@@ -14,7 +14,7 @@ pub enum Acceptance {
     Unfit { number: u8, place: usize },
 }
 
-// The formula's codes in an array. 8 needs no test: no formula of a sheet has a dwarf tree taller than 57.
+// The formula's codes in an array, in postfix order. 8 needs no test: no formula of a sheet has a dwarf tree taller than 57.
 pub fn accept(fitted: bool, fittings: &[u8], sheet: &[u8], codes: &mut [u16; 2048]) -> Acceptance
     requires { ⌜ length (now codes) ≡ 2048 ⌝ }
     ensures { λ _. ⌜ length (now (codes .exit)) ≡ 2048 ⌝ }
@@ -29,7 +29,7 @@ pub fn accept(fitted: bool, fittings: &[u8], sheet: &[u8], codes: &mut [u16; 204
             first,
             past,
         } => {
-            let n = sheet_codes::fill_codes(&sheet[first..past], codes);
+            let n = sheet_descent::fill_codes(sheet[4], &sheet[first..past], names, codes);
             Acceptance::Given { names, codes: n }
         }
     }

@@ -4,7 +4,7 @@ use mathlib.Core.Path.{_≡_, refl}
 use mathlib.Core.List.{List, [], _∷_}
 use Rattle.outcome.specs.Outcome.{Outcome, given, refused}
 use Rattle.formula.specs.States.{times}
-use Rattle.sheet.specs.Sheet.{alone, lengthAt, pastAt, bytesAt, allGood, same, taken, codesOf, allCodes, formulaOf, header, nameAt, formulaAt, fieldAt, fields, own, reading}
+use Rattle.sheet.specs.Sheet.{alone, lengthAt, pastAt, bytesAt, allGood, same, taken, codesOf, allCodes, formulaOf, formulaIn, header, nameAt, formulaAt, fieldAt, fields, own, reading}
 use Rattle.accepting.specs.Accepting.{accepted}
 use Rattle.toggles.specs.Toggles.{Answers, answers}
 use Rattle.job_run.specs.Running.{toggling}
@@ -43,5 +43,5 @@ calls =
     ∷ []
 
 pub calls-hold : All calls
-unfolding sharing serving toggling accepted reading own fields fieldAt header nameAt formulaAt formulaOf allCodes codesOf taken same allGood bytesAt pastAt lengthAt times
+unfolding sharing serving toggling accepted reading own fields fieldAt header nameAt formulaAt formulaOf formulaIn allCodes codesOf taken same allGood bytesAt pastAt lengthAt times
 calls-hold = ((refl, refl), ((refl, refl), ((refl, refl), ((refl, refl), ((refl, refl), tt)))))

@@ -1,3 +1,4 @@
 pub mod Demands
 pub mod Table
 pub mod Foundries
+pub mod Editions

@@ -9,7 +9,7 @@ use Rattle.formula.specs.Formula.{union, intersection, difference, exclusive, F
 use Rattle.formula.specs.States.{times}
 use Rattle.contraction.specs.Records.{number}
 use Rattle.contraction.specs.Rounds.{dwarf}
-use Rattle.sheet.specs.Sheet.{alone, lengthAt, pastAt, bytesAt, allGood, same, taken, codesOf, allCodes, formulaOf, header, nameAt, formulaAt, fieldAt, fields, own, reading}
+use Rattle.sheet.specs.Sheet.{alone, lengthAt, pastAt, bytesAt, allGood, same, taken, codesOf, allCodes, formulaOf, formulaIn, header, nameAt, formulaAt, fieldAt, fields, own, reading}
 use Rattle.accepting.specs.Accepting.{accepted}
 use Rattle.toggles.specs.Toggles.{Answers, answers}
 use Rattle.lines.specs.Lines as lines
@@ -126,5 +126,5 @@ table =
     ∷ []
 
 pub table-holds : All table
-unfolding building giving running toggling classifying accepted reading own fields fieldAt header nameAt formulaAt formulaOf allCodes codesOf taken same allGood bytesAt pastAt lengthAt times classified lines.judged bits ordered crossed lowestFrom shapeAt wallsOn crossingsOn wallsFrom
+unfolding building giving running toggling classifying accepted reading own fields fieldAt header nameAt formulaAt formulaOf formulaIn allCodes codesOf taken same allGood bytesAt pastAt lengthAt times classified lines.judged bits ordered crossed lowestFrom shapeAt wallsOn crossingsOn wallsFrom
 table-holds = (refl, (refl, (refl, (refl, (refl, (refl, (refl, (refl, (refl, (refl, (refl, (refl, (refl, (refl, (refl, (refl, (refl, tt)))))))))))))))))

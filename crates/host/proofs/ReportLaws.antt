@@ -17,6 +17,9 @@ use Rattle.job_name.specs.declared.NameAnswer.the-variants as name
 use Rattle.job_names.specs.NamedAll.{countOf, NamedAll}
 use Rattle.job_names.specs.declared.NamesAnswer.{NamesAnswer}
 use Rattle.job_names.specs.declared.NamesAnswer.the-variants as names
+use Rattle.job_move.specs.Moved.{lengthOf, Moved}
+use Rattle.job_move.specs.declared.MoveAnswer.{MoveAnswer}
+use Rattle.job_move.specs.declared.MoveAnswer.the-variants as move
 use Rattle.job_build.specs.Building.{Summary, summary}
 use Rattle.job_build.specs.Built.{builtOf, Built}
 use Rattle.toggles.specs.Toggles.{Answers}
@@ -33,7 +36,7 @@ use Rattle.job_classify.specs.declared.ClassifyAnswer.the-variants as classify
 use Rattle.cross_cuts.specs.Cuts.{Cut}
 use Rattle.cross_answer.specs.Answer.{crossedOf, MadeLists, Crossed}
 use Rattle.cross_answer.specs.declared.CrossAnswer.{CrossAnswer}
-use Rattle.host.specs.Report.{sheetOf, readReport, nameReport, namesReport, buildReport, runReport, classifyReport, crossReport, NamesReported, BuildReported, RunReported, BothReported, ClassifyReported, CrossReported}
+use Rattle.host.specs.Report.{sheetOf, readReport, nameReport, namesReport, moveReport, buildReport, runReport, classifyReport, crossReport, NamesReported, MoveReported, BuildReported, RunReported, BothReported, ClassifyReported, CrossReported}
 use Rattle.host.specs.declared.CrossReport.{CrossReport}
 use Rattle.host.specs.declared.RunReport.{RunReport}
 
@@ -91,6 +94,19 @@ module _ {o : Outcome (List Stand)} {ss fs ps : List ℕ} {a : NamesAnswer} {ss�
 
   pub names-unfit : {k p : ℕ} → a ≡ names.Unfit k p → NamesReported o ss fs ps (namesReport (unfit k p)) ss′ fs′ ps′
   names-unfit {k} {p} is = names-as (unfit k p) (ap countOf is)
+
+module _ {o : Outcome (List ℕ)} {bs : List ℕ} {a : MoveAnswer} {bs′ : List ℕ} (done : Moved o bs a bs′) where
+  move-as : (v : Outcome ℕ) → lengthOf a ≡ v → MoveReported o bs (moveReport v) bs′
+  move-as v is = record { report = ap moveReport (sym is ∙ done .answer); list = done .list }
+
+  pub move-reported : {n : ℕ} → a ≡ move.Moved n → MoveReported o bs (moveReport (given n)) bs′
+  move-reported {n} is = move-as (given n) (ap lengthOf is)
+
+  pub move-refused : {k p v : ℕ} → v ≡ sheetOf k → a ≡ move.Refused k p → MoveReported o bs (record { number = k; sheet = v; place = p; length = 0 }) bs′
+  move-refused {k} {p} in-sheet is = rw in-sheet (move-as (refused k p) (ap lengthOf is))
+
+  pub move-unfit : {k p : ℕ} → a ≡ move.Unfit k p → MoveReported o bs (moveReport (unfit k p)) bs′
+  move-unfit {k} {p} is = move-as (unfit k p) (ap lengthOf is)
 
 module _ {o : Outcome Formula} {ks fs ss : List ℕ} {a : BuildAnswer} {ks′ fs′ ss′ : List ℕ} (built : Built o ks fs ss a ks′ fs′ ss′) where
   build-as : (v : Outcome Summary) → builtOf a ≡ v → BuildReported o ks fs ss (buildReport v) ks′ fs′ ss′

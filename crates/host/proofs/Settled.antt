@@ -19,6 +19,8 @@ use Rattle.job_name.specs.Naming.{Stand, placing}
 use Rattle.job_name.proofs.Settled.{name-numbered}
 use Rattle.job_names.specs.Names.{namingAll}
 use Rattle.job_names.proofs.Settled.{names-numbered}
+use Rattle.job_move.specs.Moving.{moving}
+use Rattle.job_move.proofs.Settled.{move-numbered}
 use Rattle.job_build.specs.Building.{Summary, summaryOf, building}
 use Rattle.job_build.proofs.Settled.{build-numbered}
 use Rattle.toggles.specs.Toggles.{Answers}
@@ -37,10 +39,11 @@ use Rattle.cross_line.specs.Crossing.{crossingShapes}
 use Rattle.cross_line.proofs.Settled.{shapes-numbered}
 use Rattle.cross_balls.specs.Balls.{crossingBalls}
 use Rattle.cross_balls.proofs.Settled.{balls-numbered}
-use Rattle.host.specs.Report.{readReport, nameReport, namesReport, buildReport, runReport, classifyReport, crossReport, NamesReported, BuildReported, RunReported, BothReported, ClassifyReported, CrossReported}
+use Rattle.host.specs.Report.{readReport, nameReport, namesReport, moveReport, buildReport, runReport, classifyReport, crossReport, NamesReported, MoveReported, BuildReported, RunReported, BothReported, ClassifyReported, CrossReported}
 use Rattle.host.specs.declared.ReadReport.{ReadReport}
 use Rattle.host.specs.declared.NameReport.{NameReport}
 use Rattle.host.specs.declared.NamesReport.{NamesReport}
+use Rattle.host.specs.declared.MoveReport.{MoveReport}
 use Rattle.host.specs.declared.BuildReport.{BuildReport}
 use Rattle.host.specs.declared.RunReport.{RunReport}
 use Rattle.host.specs.declared.BothReport.{BothReport}
@@ -63,6 +66,9 @@ names-report-unique o ss fs ps r q ss₁ fs₁ ps₁ ss₂ fs₂ ps₂ a b = (
   a .lists .firsts-list ∙ sym (b .lists .firsts-list),
   a .lists .pasts-list ∙ sym (b .lists .pasts-list),
 )
+
+pub move-report-unique : (o : Outcome (List ℕ)) (bs : List ℕ) (r q : MoveReport) (bs₁ bs₂ : List ℕ) → MoveReported o bs r bs₁ → MoveReported o bs q bs₂ → (r ≡ q) × (bs₁ ≡ bs₂)
+move-report-unique o bs r q bs₁ bs₂ a b = (a .report ∙ sym (b .report), a .list ∙ sym (b .list))
 
 pub build-report-unique : (o : Outcome Formula) (ks fs ss : List ℕ) (r q : BuildReport) (ks₁ fs₁ ss₁ ks₂ fs₂ ss₂ : List ℕ)
     → BuildReported o ks fs ss r ks₁ fs₁ ss₁ → BuildReported o ks fs ss q ks₂ fs₂ ss₂ → (r ≡ q) × (ks₁ ≡ ks₂) × (fs₁ ≡ fs₂) × (ss₁ ≡ ss₂)
@@ -117,6 +123,9 @@ name-given s k = told-given (λ o. nameReport o .number) (λ k p. refl) (λ k p.
 
 pub names-given : (s : Sheets) (a b c : ℕ) → namesReport (part length (namingAll s a b c)) .number ≡ 0 → (v : ℕ) × (part length (namingAll s a b c) ≡ given v)
 names-given s a b c = told-given (λ o. namesReport o .number) (λ k p. refl) (λ k p. refl) (part length (namingAll s a b c)) (part-numbered length (namingAll s a b c) (names-numbered s a b c))
+
+pub move-given : (s : Sheets) (a : ℕ) → moveReport (part length (moving s a)) .number ≡ 0 → (v : ℕ) × (part length (moving s a) ≡ given v)
+move-given s a = told-given (λ o. moveReport o .number) (λ k p. refl) (λ k p. refl) (part length (moving s a)) (part-numbered length (moving s a) (move-numbered s a))
 
 pub build-given : (s : Sheets) (a b c : ℕ) → buildReport (part summaryOf (building s a b c)) .number ≡ 0 → (v : Summary) × (part summaryOf (building s a b c) ≡ given v)
 build-given s a b c =

@@ -9,6 +9,7 @@ use lib.Ieee.{Float}
 use lib.IntN.{ℤ}
 use lib.ListN.{length}
 use Rattle.outcome.specs.Outcome.{Outcome, given, refused, unfit, part}
+use Rattle.outcome.specs.Lent.{afterCall}
 use Rattle.formula.specs.Formula.{Formula}
 use Rattle.sheet.specs.Sheet.{Sheets}
 use Rattle.sheet_reading.specs.Reading.{Numbers, numbers}
@@ -28,6 +29,7 @@ use Rattle.cross_shapes.specs.declared.Probe.{Probe}
 use Rattle.host.specs.declared.ReadReport.{ReadReport}
 use Rattle.host.specs.declared.NameReport.{NameReport}
 use Rattle.host.specs.declared.NamesReport.{NamesReport}
+use Rattle.host.specs.declared.MoveReport.{MoveReport}
 use Rattle.host.specs.declared.BuildReport.{BuildReport}
 use Rattle.host.specs.declared.RunReport.{RunReport}
 use Rattle.host.specs.declared.BothReport.{BothReport}
@@ -57,6 +59,12 @@ abbrev pub namesReport : Outcome ℕ → NamesReport
 namesReport (given names) = record { number = 0; sheet = 0; place = 0; names = names }
 namesReport (refused number place) = record { number = number; sheet = sheetOf number; place = place; names = 0 }
 namesReport (unfit number place) = record { number = number; sheet = 1; place = place; names = 0 }
+
+-- How many bytes the moved sheet has.
+abbrev pub moveReport : Outcome ℕ → MoveReport
+moveReport (given length) = record { number = 0; sheet = 0; place = 0; length = length }
+moveReport (refused number place) = record { number = number; sheet = sheetOf number; place = place; length = 0 }
+moveReport (unfit number place) = record { number = number; sheet = 1; place = place; length = 0 }
 
 abbrev pub buildReport : Outcome Summary → BuildReport
 buildReport (given (summary leaves nodes rounds height)) =
@@ -92,6 +100,10 @@ probeOf ox oy oz dx dy dz = record { ox = ox; oy = oy; oz = oz; dx = dx; dy = dy
 pub record NamesReported (o : Outcome (List Stand)) (sheets firsts pasts : List ℕ) (r : NamesReport) (sheets′ firsts′ pasts′ : List ℕ) : Type 0 where
   pub report : r ≡ namesReport (part length o)
   pub lists : NameLists o sheets firsts pasts sheets′ firsts′ pasts′
+
+pub record MoveReported (o : Outcome (List ℕ)) (moved : List ℕ) (r : MoveReport) (moved′ : List ℕ) : Type 0 where
+  pub report : r ≡ moveReport (part length o)
+  pub list : moved′ ≡ afterCall o moved
 
 pub record BuildReported (o : Outcome Formula) (kinds firsts seconds : List ℕ) (r : BuildReport) (kinds′ firsts′ seconds′ : List ℕ) : Type 0 where
   pub report : r ≡ buildReport (part summaryOf o)

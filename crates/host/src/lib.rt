@@ -6,6 +6,7 @@ ghost use Rattle.sheet.specs.Sheet.{sheetsOf};
 ghost use Rattle.sheet_reading.specs.Reading.{told};
 ghost use Rattle.job_name.specs.Naming.{placing};
 ghost use Rattle.job_names.specs.Names.{namingAll};
+ghost use Rattle.job_move.specs.Moving.{moving};
 ghost use Rattle.job_build.specs.Building.{building};
 ghost use Rattle.job_run.specs.Running.{running};
 ghost use Rattle.job_run.specs.Ran.{ranOf};
@@ -15,11 +16,12 @@ ghost use Rattle.job_classify.specs.Classifying.{classifying};
 ghost use Rattle.cross_answer.specs.Answer.{crossedOf, madeLists};
 ghost use Rattle.cross_line.specs.Crossing.{crossingShapes};
 ghost use Rattle.cross_balls.specs.Balls.{crossingBalls};
-ghost use Rattle.host.specs.Report.{sheetOf, readReport, nameReport, runReport, probeOf, crossReport, NamesReported, BuildReported, RunReported, BothReported, ClassifyReported, CrossReported};
+ghost use Rattle.host.specs.Report.{sheetOf, readReport, nameReport, runReport, probeOf, crossReport, NamesReported, MoveReported, BuildReported, RunReported, BothReported, ClassifyReported, CrossReported};
 use cross_answer::CrossAnswer;
 use cross_shapes::Probe;
 use job_build::BuildAnswer;
 use job_classify::ClassifyAnswer;
+use job_move::MoveAnswer;
 use job_name::NameAnswer;
 use job_names::NamesAnswer;
 use job_run::RunAnswer;
@@ -92,6 +94,14 @@ pub struct NamesReport {
     pub sheet: u8,
     pub place: usize,
     pub names: usize,
+}
+
+#[repr(C)]
+pub struct MoveReport {
+    pub number: u8,
+    pub sheet: u8,
+    pub place: usize,
+    pub length: usize,
 }
 
 // Which sheet the place of a refusal is in: 2, the customer's; or 0, none.
@@ -221,6 +231,38 @@ pub extern "C" fn kressedach_names(
             sheet: 1,
             place,
             names: 0,
+        },
+    }
+}
+
+// Gives the customer's sheet in the edition that it has not.
+#[no_mangle]
+pub extern "C" fn kressedach_move(
+    fitted: bool,
+    fittings: &[u8],
+    sheet: &[u8],
+    moved: &mut [u8],
+) -> MoveReport
+    ensures { λ r. ⌜ MoveReported (moving (sheetsOf fitted (now (fittings .entry)) (now (sheet .entry))) (length (now (moved .entry)))) (now (moved .entry)) r (now (moved .exit)) ⌝ }
+{
+    match job_move::move_sheet(fitted, fittings, sheet, moved) {
+        MoveAnswer::Moved { length } => MoveReport {
+            number: 0,
+            sheet: 0,
+            place: 0,
+            length,
+        },
+        MoveAnswer::Refused { number, place } => MoveReport {
+            number,
+            sheet: sheet_of(number),
+            place,
+            length: 0,
+        },
+        MoveAnswer::Unfit { number, place } => MoveReport {
+            number,
+            sheet: 1,
+            place,
+            length: 0,
         },
     }
 }

@@ -8,7 +8,7 @@ use lib.Dec.{ltb}
 use lib.ListN.{length, getD, length-append, List·getD-append}
 use borrow.Author.Tests.{ltb-true, ltb-false}
 use Rattle.outcome.specs.Outcome.{Outcome, given, refused, unfit, need, _>>=_, _>>_, part, ofFittings}
-use Rattle.sheet.specs.Sheet.{Sheets, alone, beside, Sheet, Setting, unaided, between, own, fittingNames, reading}
+use Rattle.sheet.specs.Sheet.{Sheets, alone, beside, Sheet, between, own, fittingNames, reading}
 use Rattle.sheet.specs.Walk.{walkEnd, walkNames}
 use Rattle.sheet.specs.Guaranteed.{Own, Fitted}
 use Rattle.sheet.proofs.Guaranteed.{own-guaranteed, fitted}
@@ -28,26 +28,26 @@ getD-second [] ys k h = let e : k - 0 ≡ k = omega arith in rw e
 getD-second (x ∷ xs) ys zero h = absurd (omega arith)
 getD-second (x ∷ xs) ys (suc k) h = let e : suc k - suc (length xs) ≡ k - length xs = omega arith in getD-second xs ys k (omega arith) ∙ rw e
 
-module _ (w : Setting) (s : List ℕ) (r : Sheet) (g : Own w s r) (k : ℕ) (below : k < length (r .names)) where
-  all : length (r .names) ≡ length (w .fittings) + g .owned
-  all = ap length (g .names-are) ∙ length-append (w .fittings) (walkNames s 5 (g .owned)) ∙ rw (walk-length s 5 (g .owned))
+module _ (fs : List (List ℕ)) (s : List ℕ) (r : Sheet) (g : Own fs s r) (k : ℕ) (below : k < length (r .names)) where
+  all : length (r .names) ≡ length fs + g .owned
+  all = ap length (g .names-are) ∙ length-append fs (walkNames s 5 (g .owned)) ∙ rw (walk-length s 5 (g .owned))
 
-  own-name : length (w .fittings) ≤ k → getD (r .names) k [] ≡ between s (walkEnd s 5 (k - length (w .fittings)) + 3) (walkEnd s 5 (suc (k - length (w .fittings))))
+  own-name : length fs ≤ k → getD (r .names) k [] ≡ between s (walkEnd s 5 (k - length fs) + 3) (walkEnd s 5 (suc (k - length fs)))
   own-name h =
       ap (λ (ns : List (List ℕ)). getD ns k []) (g .names-are)
-      ∙ getD-second (w .fittings) (walkNames s 5 (g .owned)) k h
-      ∙ walk-name s 5 (g .owned) (k - length (w .fittings)) (omega (arith, all, below))
+      ∙ getD-second fs (walkNames s 5 (g .owned)) k h
+      ∙ walk-name s 5 (g .owned) (k - length fs) (omega (arith, all, below))
 
-  fitting-name : (f : List ℕ) → Fitted f (w .fittings) → k < length (w .fittings) → getD (r .names) k [] ≡ between f (walkEnd f 5 k + 3) (walkEnd f 5 (suc k))
+  fitting-name : (f : List ℕ) → Fitted f fs → k < length fs → getD (r .names) k [] ≡ between f (walkEnd f 5 k + 3) (walkEnd f 5 (suc k))
   fitting-name f h low =
       ap (λ (ns : List (List ℕ)). getD ns k []) (g .names-are)
-      ∙ List·getD-append (w .fittings) (walkNames s 5 (g .owned)) [] k low
+      ∙ List·getD-append fs (walkNames s 5 (g .owned)) [] k low
       ∙ ap (λ (ns : List (List ℕ)). getD ns k []) (h .names-are)
-      ∙ walk-name f 5 (length (w .fittings)) k low
+      ∙ walk-name f 5 (length fs) k low
 
 -- ---- a customer's sheet alone
 
-alone-name : (s : List ℕ) (k : ℕ) (o : Outcome Sheet) → own unaided s ≡ o
+alone-name : (s : List ℕ) (k : ℕ) (o : Outcome Sheet) → own [] s ≡ o
     → (o >>= λ (r : Sheet). need (ltb k (length (r .names))) 10 0 >> given (getD (r .names) k []))
     ≡ part (bytesOf (alone s)) (o >>= λ (r : Sheet). need (ltb k (length (r .names))) 10 0 >> given (fieldIn 2 s k))
 alone-name s k (given r) e = by (ltb k (length (r .names))) refl
@@ -56,7 +56,7 @@ alone-name s k (given r) e = by (ltb k (length (r .names))) refl
         → (need b 10 0 >> given (getD (r .names) k [])) ≡ part (bytesOf (alone s)) (need b 10 0 >> given (fieldIn 2 s k))
     by true q =
         let z : k - 0 ≡ k = omega arith in
-        ap given (own-name unaided s r (own-guaranteed unaided s r GoodNames-none e) k (ltb-true _ _ q) (omega arith) ∙ rw z)
+        ap given (own-name [] s r (own-guaranteed [] s r GoodNames-none e) k (ltb-true _ _ q) (omega arith) ∙ rw z)
     by false q = refl
 alone-name s k (refused n p) e = refl
 alone-name s k (unfit n p) e = refl
@@ -64,17 +64,14 @@ alone-name s k (unfit n p) e = refl
 -- ---- beside a fittings sheet, whose names are fs
 
 module _ (f s : List ℕ) (k : ℕ) (fs : List (List ℕ)) (named : fittingNames f ≡ given fs) where
-  abbrev setting : Setting
-  setting = record { fittings = fs }
-
-  placed : (r : Sheet) → own setting s ≡ given r → k < length (r .names) → getD (r .names) k [] ≡ bytesOf (beside f s) (standOf (beside f s) (length fs) k)
+  placed : (r : Sheet) → own fs s ≡ given r → k < length (r .names) → getD (r .names) k [] ≡ bytesOf (beside f s) (standOf (beside f s) (length fs) k)
   placed r e below = by (ltb k (length fs)) refl
     where
       by : (b : Bool) → ltb k (length fs) ≡ b → getD (r .names) k [] ≡ bytesOf (beside f s) (cond b (fieldIn 1 f k) (fieldIn 2 s (k - length fs)))
-      by true q = fitting-name setting s r (own-guaranteed setting s r (fitted f fs named .good-names) e) k below f (fitted f fs named) (ltb-true _ _ q)
-      by false q = own-name setting s r (own-guaranteed setting s r (fitted f fs named .good-names) e) k below (ltb-false _ _ q)
+      by true q = fitting-name fs s r (own-guaranteed fs s r (fitted f fs named .good-names) e) k below f (fitted f fs named) (ltb-true _ _ q)
+      by false q = own-name fs s r (own-guaranteed fs s r (fitted f fs named .good-names) e) k below (ltb-false _ _ q)
 
-  beside-name : (o : Outcome Sheet) → own setting s ≡ o
+  beside-name : (o : Outcome Sheet) → own fs s ≡ o
       → (o >>= λ (r : Sheet). need (ltb k (length (r .names))) 10 0 >> given (getD (r .names) k []))
       ≡ part (bytesOf (beside f s)) (o >>= λ (r : Sheet). need (ltb k (length (r .names))) 10 0 >> given (standOf (beside f s) (length fs) k))
   beside-name (given r) e = by (ltb k (length (r .names))) refl
@@ -87,15 +84,15 @@ module _ (f s : List ℕ) (k : ℕ) (fs : List (List ℕ)) (named : fittingNames
   beside-name (unfit n p) e = refl
 
 pair-name : (f s : List ℕ) (k : ℕ) (o : Outcome (List (List ℕ))) → fittingNames f ≡ o
-    → ((ofFittings o >>= λ names. own (record { fittings = names }) s) >>= λ (r : Sheet). need (ltb k (length (r .names))) 10 0 >> given (getD (r .names) k []))
+    → ((ofFittings o >>= λ names. own names s) >>= λ (r : Sheet). need (ltb k (length (r .names))) 10 0 >> given (getD (r .names) k []))
     ≡ part (bytesOf (beside f s)) (part length (ofFittings o) >>= λ m.
-    (ofFittings o >>= λ names. own (record { fittings = names }) s) >>= λ (r : Sheet). need (ltb k (length (r .names))) 10 0 >> given (standOf (beside f s) m k))
-pair-name f s k (given fs) e = beside-name f s k fs e (own (record { fittings = fs }) s) refl
+    (ofFittings o >>= λ names. own names s) >>= λ (r : Sheet). need (ltb k (length (r .names))) 10 0 >> given (standOf (beside f s) m k))
+pair-name f s k (given fs) e = beside-name f s k fs e (own fs s) refl
 pair-name f s k (refused n p) e = refl
 pair-name f s k (unfit n p) e = refl
 
 -- Asking for a name gives back the name's bytes as they stand in whichever of the two sheets holds it.
 pub name-stands : (c : Sheets) (k : ℕ) → naming c k ≡ part (bytesOf c) (placing c k)
 unfolding naming placing reading
-name-stands (alone s) k = alone-name s k (own unaided s) refl
+name-stands (alone s) k = alone-name s k (own [] s) refl
 name-stands (beside f s) k = pair-name f s k (fittingNames f) refl

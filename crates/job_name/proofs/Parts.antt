@@ -10,7 +10,7 @@ use lib.ListN.{length}
 use borrow.Author.Tests.{ltb-true, ltb-false}
 use Rattle.outcome.specs.Outcome.{Outcome, given, refused, unfit, need, _>>=_, _>>_, part}
 use Rattle.outcome.proofs.Questions.{need-given, bind-given, given-same}
-use Rattle.sheet.specs.Sheet.{alone, beside, sheetsOf, Sheet, unaided, between, lengthAt, pastAt, own, fittingNames, reading}
+use Rattle.sheet.specs.Sheet.{alone, beside, sheetsOf, Sheet, between, lengthAt, pastAt, own, fittingNames, reading}
 use Rattle.sheet.specs.Walk.{walkEnd}
 use Rattle.sheet.specs.Guaranteed.{Own}
 use Rattle.sheet.proofs.Guaranteed.{own-guaranteed, fitted}
@@ -48,31 +48,31 @@ pub record FittingStand (f : List ℕ) (v : Stand) : Type 0 where
 alone-given : (s : List ℕ) (k : ℕ) (v : Stand) → placing (alone s) k ≡ given v → OwnStand s v
 unfolding placing reading
 alone-given s k v h =
-    let b = bind-given (own unaided s) (λ (r : Sheet). need (ltb k (length (r .names))) 10 0 >> given (fieldIn 2 s k)) v h in
+    let b = bind-given (own [] s) (λ (r : Sheet). need (ltb k (length (r .names))) 10 0 >> given (fieldIn 2 s k)) v h in
     let n = need-given (ltb k (length (b .0 .names))) 10 0 (given (fieldIn 2 s k)) v (b .2) in
-    let g = own-guaranteed unaided s (b .0) GoodNames-none (b .1) in
+    let g = own-guaranteed [] s (b .0) GoodNames-none (b .1) in
     record {
       number = k;
       is = sym (given-same _ _ (n .1));
-      there = within s k (g .owned) (omega (arith, ltb-true k (length (b .0 .names)) (n .0), own-all unaided s (b .0) g)) (own-end unaided s (b .0) g);
+      there = within s k (g .owned) (omega (arith, ltb-true k (length (b .0 .names)) (n .0), own-all [] s (b .0) g)) (own-end [] s (b .0) g);
     }
 
-module _ (f s : List ℕ) (k : ℕ) (fs : List (List ℕ)) (named : fittingNames f ≡ given fs) (r : Sheet) (is : own (record { fittings = fs }) s ≡ given r)
+module _ (f s : List ℕ) (k : ℕ) (fs : List (List ℕ)) (named : fittingNames f ≡ given fs) (r : Sheet) (is : own fs s ≡ given r)
     (below : k < length (r .names)) where
   by-number : (b : Bool) → ltb k (length fs) ≡ b → (v : Stand) → cond b (fieldIn 1 f k) (fieldIn 2 s (k - length fs)) ≡ v → FittingStand f v ⊎ OwnStand s v
   by-number true q v e =
       let g = fitted f fs named in
       inl (record { number = k; is = sym e; there = within f k (length fs) (ltb-true _ _ q) (omega (arith, g .ends)) })
   by-number false q v e =
-      let g = own-guaranteed (record { fittings = fs }) s r (fitted f fs named .good-names) is in
-      let l = own-all (record { fittings = fs }) s r g in
-      inr (record { number = k - length fs; is = sym e; there = within s (k - length fs) (g .owned) (omega (arith, ltb-false k (length fs) q, below, l)) (own-end (record { fittings = fs }) s r g) })
+      let g = own-guaranteed fs s r (fitted f fs named .good-names) is in
+      let l = own-all fs s r g in
+      inr (record { number = k - length fs; is = sym e; there = within s (k - length fs) (g .owned) (omega (arith, ltb-false k (length fs) q, below, l)) (own-end fs s r g) })
 
 pair-given : (f s : List ℕ) (k : ℕ) (v : Stand) (o : Outcome (List (List ℕ))) → fittingNames f ≡ o → placing (beside f s) k ≡ given v → FittingStand f v ⊎ OwnStand s v
 unfolding placing reading
 pair-given f s k v (given fs) e h =
-    let g : (own (record { fittings = fs }) s >>= λ (r : Sheet). need (ltb k (length (r .names))) 10 0 >> given (standOf (beside f s) (length fs) k)) ≡ given v = rw e at h in
-    let b = bind-given (own (record { fittings = fs }) s) (λ (r : Sheet). need (ltb k (length (r .names))) 10 0 >> given (standOf (beside f s) (length fs) k)) v g in
+    let g : (own fs s >>= λ (r : Sheet). need (ltb k (length (r .names))) 10 0 >> given (standOf (beside f s) (length fs) k)) ≡ given v = rw e at h in
+    let b = bind-given (own fs s) (λ (r : Sheet). need (ltb k (length (r .names))) 10 0 >> given (standOf (beside f s) (length fs) k)) v g in
     let n = need-given (ltb k (length (b .0 .names))) 10 0 (given (standOf (beside f s) (length fs) k)) v (b .2) in
     by-number f s k fs e (b .0) (b .1) (ltb-true _ _ (n .0)) (ltb k (length fs)) refl v (given-same _ _ (n .1))
 pair-given f s k v (refused i q) e h = let g : _≡_ {A = Outcome Stand} (unfit i q) (given v) = rw e at h in let z : _≡_ {A = ℕ} 0 1 = cc in absurd (omega arith)

@@ -9,11 +9,11 @@ use lib.Dec.{ltb}
 use borrow.Author.Tests.{le-ltb}
 use Rattle.outcome.specs.Outcome.{Outcome, given, refused, unfit, need, _>>=_, _>>_, ofFittings}
 use Rattle.outcome.proofs.Questions.{bind-given, fittings-given}
-use Rattle.sheet.specs.Sheet.{Sheets, alone, beside, sheetsOf, Sheet, Setting, unaided, own, fittingNames, reading}
+use Rattle.sheet.specs.Sheet.{Sheets, alone, beside, sheetsOf, Sheet, own, fittingNames, reading}
 use Rattle.sheet.specs.Walk.{walkEnd, walkNames}
 use Rattle.sheet.specs.Guaranteed.{Own, Fitted}
 use Rattle.sheet.proofs.Guaranteed.{own-guaranteed, fitted}
-use Rattle.sheet.proofs.Names.{GoodNames-none, walk-length}
+use Rattle.sheet.proofs.Names.{GoodNames-none, walk-length, walk-on}
 use Rattle.sheet_reading.specs.Reading.{told, answerOf}
 use Rattle.sheet_reading.specs.declared.ReadAnswer.{ReadAnswer}
 use Rattle.sheet_reading.specs.declared.ReadAnswer.the-variants as read
@@ -21,7 +21,6 @@ use Rattle.sheet_reading.proofs.Settled.{read-refusal, read-unfit}
 use Rattle.sheet_reading.proofs.Told.{read-known}
 use Rattle.job_name.specs.Naming.{Stand, fittedIn, standOf, placing}
 use Rattle.job_name.specs.Steps.{Held, placedIn, lengthGiven, fittedNumber, fittedAmong, Whole, ReadAs}
-use Rattle.job_name.proofs.Walking.{walk-on}
 
 -- ---- what is asked after the sheets are read, of the number of fittings and of what the sheets hold
 
@@ -55,24 +54,24 @@ module _ (c : Sheets) (k : ℕ) (a : ReadAnswer) (said : answerOf a ≡ told c) 
 
 -- ---- the sheets are read, the customer's alone
 
-pub own-end : (w : Setting) (s : List ℕ) (r : Sheet) (g : Own w s r) → walkEnd s 5 (g .owned) ≤ length s
-own-end w s r g = omega (arith, g .follows, g .some-bytes, g .ends)
+pub own-end : (fs : List (List ℕ)) (s : List ℕ) (r : Sheet) (g : Own fs s r) → walkEnd s 5 (g .owned) ≤ length s
+own-end fs s r g = omega (arith, g .follows, g .some-bytes, g .ends)
 
-pub own-all : (w : Setting) (s : List ℕ) (r : Sheet) (g : Own w s r) → length (r .names) ≡ length (w .fittings) + g .owned
-own-all w s r g = ap length (g .names-are) ∙ length-append (w .fittings) (walkNames s 5 (g .owned)) ∙ rw (walk-length s 5 (g .owned))
+pub own-all : (fs : List (List ℕ)) (s : List ℕ) (r : Sheet) (g : Own fs s r) → length (r .names) ≡ length fs + g .owned
+own-all fs s r g = ap length (g .names-are) ∙ length-append fs (walkNames s 5 (g .owned)) ∙ rw (walk-length s 5 (g .owned))
 
 module _ (s : List ℕ) (names : ℕ) (r : ReadAs (alone s) names) where
-  sheet-own : Own unaided s (r .held)
+  sheet-own : Own [] s (r .held)
   unfolding reading
-  sheet-own = own-guaranteed unaided s (r .held) GoodNames-none (r .read)
+  sheet-own = own-guaranteed [] s (r .held) GoodNames-none (r .read)
 
   all : names ≡ sheet-own .owned
-  all = omega (arith, r .names-are, own-all unaided s (r .held) sheet-own)
+  all = omega (arith, r .names-are, own-all [] s (r .held) sheet-own)
 
   alone-held : Held s 0 s names
   unfolding walkEnd
   alone-held =
-      let e = own-end unaided s (r .held) sheet-own in
+      let e = own-end [] s (r .held) sheet-own in
       record { fittings-inside = omega (arith, e, walk-on s 5 (sheet-own .owned)); inside = rw all e }
 
   alone-few : 0 + names ≤ 256
@@ -88,9 +87,9 @@ module _ (s : List ℕ) (names : ℕ) (r : ReadAs (alone s) names) where
 -- ---- and beside a fittings sheet of m names
 
 module _ (f s : List ℕ) (names : ℕ) (r : ReadAs (beside f s) names) where
-  parts : (fs : List (List ℕ)) × (ofFittings (fittingNames f) ≡ given fs) × (own (record { fittings = fs }) s ≡ given (r .held))
+  parts : (fs : List (List ℕ)) × (ofFittings (fittingNames f) ≡ given fs) × (own fs s ≡ given (r .held))
   unfolding reading
-  parts = bind-given (ofFittings (fittingNames f)) (λ ns. own (record { fittings = ns }) s) (r .held) (r .read)
+  parts = bind-given (ofFittings (fittingNames f)) (λ ns. own ns s) (r .held) (r .read)
 
   named : fittingNames f ≡ given (parts .0)
   named = fittings-given (fittingNames f) (parts .0) (parts .1)
@@ -98,15 +97,15 @@ module _ (f s : List ℕ) (names : ℕ) (r : ReadAs (beside f s) names) where
   facts : Fitted f (parts .0)
   facts = fitted f (parts .0) named
 
-  pair-own : Own (record { fittings = parts .0 }) s (r .held)
-  pair-own = own-guaranteed (record { fittings = parts .0 }) s (r .held) (facts .good-names) (parts .2)
+  pair-own : Own (parts .0) s (r .held)
+  pair-own = own-guaranteed (parts .0) s (r .held) (facts .good-names) (parts .2)
 
   module _ (m : ℕ) (is : m ≡ fittedNumber f) where
     number : m ≡ length (parts .0)
     number = is ∙ ap lengthGiven named
 
     pair-all : names ≡ m + pair-own .owned
-    pair-all = r .names-are ∙ own-all (record { fittings = parts .0 }) s (r .held) pair-own ∙ ap (λ (i : ℕ). i + pair-own .owned) (sym number)
+    pair-all = r .names-are ∙ own-all (parts .0) s (r .held) pair-own ∙ ap (λ (i : ℕ). i + pair-own .owned) (sym number)
 
     pair-whole : Whole f m
     pair-whole = record { ends = rw number (facts .ends); few = rw number (facts .good-names .few) }
@@ -117,7 +116,7 @@ module _ (f s : List ℕ) (names : ℕ) (r : ReadAs (beside f s) names) where
     pair-held : Held f m s (names - m)
     pair-held =
         let n : names - m ≡ pair-own .owned = omega (arith, pair-all) in
-        record { fittings-inside = omega (arith, pair-whole .ends); inside = rw n (own-end (record { fittings = parts .0 }) s (r .held) pair-own) }
+        record { fittings-inside = omega (arith, pair-whole .ends); inside = rw n (own-end (parts .0) s (r .held) pair-own) }
 
     pair-few : m + (names - m) ≤ 256
     pair-few = omega (arith, pair-less, r .names-are, pair-own .good-names .few)

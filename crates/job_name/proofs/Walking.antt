@@ -9,13 +9,9 @@ use borrow.Author.Tests.{lt-ltb, le-ltb}
 use Rattle.outcome.specs.Outcome.{given, refused}
 use Rattle.sheet.specs.Sheet.{pastAt}
 use Rattle.sheet.specs.Walk.{walkEnd}
+use Rattle.sheet.proofs.Names.{walk-on}
 use Rattle.job_name.specs.Naming.{stand}
 use Rattle.job_name.specs.Steps.{Held, placedIn}
-
-pub walk-on : (s : List ℕ) (at n : ℕ) → at ≤ walkEnd s at n
-unfolding walkEnd pastAt
-walk-on s at zero = omega arith
-walk-on s at (suc n) = omega (arith, walk-on s (pastAt s at) n)
 
 pub walk-inside : (s : List ℕ) (at n : ℕ) → 0 < n → walkEnd s at n ≤ length s → pastAt s at ≤ length s
 unfolding walkEnd

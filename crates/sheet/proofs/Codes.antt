@@ -37,7 +37,7 @@ module _ (c : ℕ) where
   pub operation-which : Which c (operation c)
   operation-which = which-by (eqb c (code union)) (eqb c (code intersection)) (eqb c (code difference)) (eqb c (code exclusive)) refl refl refl refl
 
-  operation-code : (o : Op) {p : Option Op} → Which c p → p ≡ some o → c ≡ code o
+  pub operation-code : (o : Op) {p : Option Op} → Which c p → p ≡ some o → c ≡ code o
   operation-code o (one q e) h = let f : q ≡ o = cc in e ∙ ap code f
   operation-code o (other n) h = let z : _≡_ {A = ℕ} 0 1 = cc in absurd (omega arith)
 
@@ -92,7 +92,7 @@ codes-grown (c ∷ cs) n at fs gs all h =
     let rest = codes-grown cs n (at + 2) hs gs (one .over) (b .2) in
     record { codes = rest .codes ∙ rw (one .codes) (simp append-assoc); over = rest .over }
 
-only-given : (tag : ℕ) (fs : List Formula) (f : Formula) → onlyOne tag fs ≡ given f → fs ≡ f ∷ []
+pub only-given : (tag : ℕ) (fs : List Formula) (f : Formula) → onlyOne tag fs ≡ given f → fs ≡ f ∷ []
 only-given tag [] f h = let z : _≡_ {A = ℕ} 0 1 = cc in absurd (omega arith)
 only-given tag (g ∷ []) f h = rw (given-same _ _ h)
 only-given tag (g ∷ k ∷ fs) f h = let z : _≡_ {A = ℕ} 0 1 = cc in absurd (omega arith)

@@ -8,7 +8,7 @@ use mathlib.Core.List.{List, [], _∷_, _++_}
 use mathlib.Core.Logic.{_⊎_, inl, inr}
 use lib.ListN.{length, length-append}
 use Rattle.outcome.specs.Outcome.{Outcome, given, refused, unfit, _>>=_, _>>_}
-use Rattle.sheet.specs.Sheet.{Sheet, Setting, unaided, Field, nameField, formulaField, endField, mostNames, header, fieldAt, onward, fields, own, fittingAt, onwardFitting, fittingFields, fittingNames}
+use Rattle.sheet.specs.Sheet.{Sheet, Setting, unaided, Field, nameField, formulaField, endField, fittingsEdition, lastEdition, mostNames, header, fieldAt, onward, fields, own, fittingAt, onwardFitting, fittingFields, fittingNames}
 use Rattle.sheet.proofs.Fields.{IsName, IsFormula, IsEnd, field-given, fitting-given}
 
 -- The fields of a customer's sheet read with other answers in those two places.
@@ -42,9 +42,21 @@ module _ (w : Setting) (s : List ℕ) (used-up : ℕ → Outcome Sheet) (no-form
   fields-same (suc k) at ns far few =
       after-same (fieldsBy k) (fields w k s) at ns (λ e ms l h. fields-same k e ms (omega arith) h) (fieldAt w s at ns false) refl
 
-  pub enough : (header s >> fieldsBy (mostNames + 1) 5 []) ≡ own w s
+  pub fields-enough : fieldsBy (mostNames + 1) 5 [] ≡ fields w (mostNames + 1) s 5 []
+  fields-enough = fields-same (mostNames + 1) 5 [] (omega arith) (omega arith)
+
+module _ (fittings : List (List ℕ)) (s : List ℕ) (used-up : ℕ → Outcome Sheet) (no-formula : Outcome Sheet) where
+  abbrev pub fieldsAfter : ℕ → Outcome Sheet
+  fieldsAfter said = fieldsBy (record { fittings = fittings; edition = said }) s used-up no-formula (mostNames + 1) 5 []
+
+  enough-by : (o : Outcome ℕ) → (o >>= fieldsAfter) ≡ (o >>= λ said. fields (record { fittings = fittings; edition = said }) (mostNames + 1) s 5 [])
+  enough-by (given said) = fields-enough (record { fittings = fittings; edition = said }) s used-up no-formula
+  enough-by (refused k p) = refl
+  enough-by (unfit k p) = refl
+
+  pub enough : (header lastEdition s >>= fieldsAfter) ≡ own fittings s
   unfolding own
-  enough = rw (fields-same (mostNames + 1) 5 [] (omega arith) (omega arith))
+  enough = enough-by (header lastEdition s)
 
 -- The fields of a fittings sheet read with other answers in those two places.
 module _ (s : List ℕ) (used-up a-formula : ℕ → Outcome (List (List ℕ))) where
@@ -77,6 +89,6 @@ module _ (s : List ℕ) (used-up a-formula : ℕ → Outcome (List (List ℕ))) 
   fittingFields-same (suc k) at ns far few =
       fitting-after-same (fittingFieldsBy k) (fittingFields k s) at ns (λ e ms l h. fittingFields-same k e ms (omega arith) h) (fittingAt s at ns) refl
 
-  pub fittings-enough : (header s >> fittingFieldsBy (mostNames + 1) 5 []) ≡ fittingNames s
+  pub fittings-enough : (header fittingsEdition s >> fittingFieldsBy (mostNames + 1) 5 []) ≡ fittingNames s
   unfolding fittingNames
   fittings-enough = rw (fittingFields-same (mostNames + 1) 5 [] (omega arith) (omega arith))

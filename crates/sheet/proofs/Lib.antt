@@ -1,4 +1,5 @@
 pub mod Codes
+pub mod CodesFirst
 pub mod Names
 pub mod Fields
 pub mod Enough

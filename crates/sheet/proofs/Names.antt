@@ -119,6 +119,11 @@ unfolding walkNames walkEnd
 walkNames-more s at zero = refl
 walkNames-more s at (suc n) = ap (λ (l : List (List ℕ)). bytesAt s at ∷ l) (walkNames-more s (pastAt s at) n)
 
+pub walk-on : (s : List ℕ) (at n : ℕ) → at ≤ walkEnd s at n
+unfolding walkEnd pastAt
+walk-on s at zero = omega arith
+walk-on s at (suc n) = omega (arith, walk-on s (pastAt s at) n)
+
 pub walkEnd-more : (s : List ℕ) (at n : ℕ) → walkEnd s at (suc n) ≡ pastAt s (walkEnd s at n)
 unfolding walkEnd
 walkEnd-more s at zero = refl

@@ -3,12 +3,12 @@ use Prim.Native.Nat.{ℕ, zero, suc, _+_}
 use mathlib.Core.Bool.{Bool, true, false}
 use mathlib.Core.List.{List, [], _∷_, _++_}
 use mathlib.Core.Option.{Option, none, some}
-use lib.Dec.{ltb, lit<}
-use Rattle.outcome.specs.Outcome.{Outcome, given, _>>_, ofFittings}
+use lib.Dec.{ltb, eqb, lit<}
+use Rattle.outcome.specs.Outcome.{Outcome, given, refused, _>>_, _>>=_, part, ofFittings}
 use Rattle.outcome.specs.Numbered.{Numbered}
-use Rattle.outcome.proofs.NumberedLaws.{given-numbered, refused-numbered, asks, then-numbered, bind-numbered, cond-numbered, fittings-numbered}
+use Rattle.outcome.proofs.NumberedLaws.{given-numbered, refused-numbered, asks, then-numbered, bind-numbered, part-numbered, cond-numbered, fittings-numbered}
 use Rattle.formula.specs.Formula.{Op, Formula, leaf}
-use Rattle.sheet.specs.Sheet.{Sheets, alone, beside, Sheet, Setting, unaided, Field, nameField, formulaField, endField, joined, operation, oneCode, allCodes, onlyOne, formulaOf, header, nameAt, formulaAt, fieldAt, onward, fields, own, fittingAt, onwardFitting, fittingFields, fittingNames, reading}
+use Rattle.sheet.specs.Sheet.{Sheets, alone, beside, Sheet, Setting, unaided, Field, nameField, formulaField, endField, joined, operation, oneCode, allCodes, onlyOne, formulaOf, joinedFirst, operated, allFirst, formulaFirst, formulaIn, header, nameAt, formulaAt, fieldAt, onward, fields, own, fittingAt, onwardFitting, fittingFields, fittingNames, reading}
 
 -- ---- codes
 
@@ -35,11 +35,42 @@ formula-numbered : (n tag first : ℕ) (cs : List ℕ) → Numbered (formulaOf n
 unfolding formulaOf
 formula-numbered n tag first cs = bind-numbered (allCodes n first cs []) (onlyOne tag) (allCodes-numbered n first cs []) (only-numbered tag)
 
+joined-first-numbered : (at : ℕ) (o : Op) (fs : List Formula) → Numbered (joinedFirst at o fs)
+joined-first-numbered at o [] = search (refused-numbered, lit<)
+joined-first-numbered at o (l ∷ []) = search (refused-numbered, lit<)
+joined-first-numbered at o (l ∷ r ∷ fs) = given-numbered _
+
+module _ (on : ℕ → Outcome (List Formula)) (h : (k : ℕ) → Numbered (on k)) (k : ℕ) where
+  operated-numbered : (at : ℕ) (p : Option Op) → Numbered (operated at p on k)
+  operated-numbered at none = search (refused-numbered, lit<)
+  operated-numbered at (some o) = bind-numbered (on (suc (suc k))) (joinedFirst at o) (h (suc (suc k))) (joined-first-numbered at o)
+
+  one-first-by : (at c : ℕ) (t : Bool) → Numbered {A = List Formula} (elim t [ true ↦ part (λ fs. leaf c ∷ fs) (on k) | false ↦ operated at (operation c) on k ])
+  one-first-by at c true = part-numbered (λ fs. leaf c ∷ fs) (on k) (h k)
+  one-first-by at c false = operated-numbered at (operation c)
+
+allFirst-numbered : (n tag at : ℕ) (cs : List ℕ) (k : ℕ) → Numbered (allFirst n tag at cs k)
+unfolding allFirst
+allFirst-numbered n tag at [] zero = given-numbered _
+allFirst-numbered n tag at [] (suc k) = search (refused-numbered, lit<)
+allFirst-numbered n tag at (c ∷ cs) zero = search (refused-numbered, lit<)
+allFirst-numbered n tag at (c ∷ cs) (suc k) =
+    one-first-by (allFirst n tag (at + 2) cs) (allFirst-numbered n tag (at + 2) cs) k at c (ltb c n)
+
+formula-first-numbered : (n tag first : ℕ) (cs : List ℕ) → Numbered (formulaFirst n tag first cs)
+unfolding formulaFirst
+formula-first-numbered n tag first cs = bind-numbered (allFirst n tag first cs 1) (onlyOne tag) (allFirst-numbered n tag first cs 1) (only-numbered tag)
+
+formula-in-numbered : (edition n tag first : ℕ) (cs : List ℕ) → Numbered (formulaIn edition n tag first cs)
+unfolding formulaIn
+formula-in-numbered edition n tag first cs =
+    cond-numbered (eqb edition 1) (formulaOf n tag first cs) (formulaFirst n tag first cs) (formula-numbered n tag first cs) (formula-first-numbered n tag first cs)
+
 -- ---- fields
 
-header-numbered : (s : List ℕ) → Numbered (header s)
+header-numbered : (last : ℕ) (s : List ℕ) → Numbered (header last s)
 unfolding header
-header-numbered s = search (asks, given-numbered, lit<) depth 20
+header-numbered last s = search (asks, given-numbered, lit<) depth 20
 
 module _ (w : Setting) (s : List ℕ) (at : ℕ) (ns : List (List ℕ)) where
   name-numbered : Numbered (nameAt w s at ns)
@@ -48,7 +79,7 @@ module _ (w : Setting) (s : List ℕ) (at : ℕ) (ns : List (List ℕ)) where
 
   formula-field-numbered : Numbered (formulaAt w s at ns)
   unfolding formulaAt
-  formula-field-numbered = search (asks, bind-numbered, formula-numbered, given-numbered, lit<) depth 20
+  formula-field-numbered = search (asks, bind-numbered, formula-in-numbered, given-numbered, lit<) depth 20
 
   field-numbered : (ended : Bool) → Numbered (fieldAt w s at ns ended)
   unfolding fieldAt
@@ -67,9 +98,11 @@ fields-numbered w zero s at ns = search (refused-numbered, lit<)
 fields-numbered w (suc k) s at ns =
     bind-numbered (fieldAt w s at ns false) (onward w (fields w k s) s ns) (field-numbered w s at ns false) (onward-numbered w (fields w k s) (fields-numbered w k s) s ns)
 
-own-numbered : (w : Setting) (s : List ℕ) → Numbered (own w s)
+own-numbered : (fittings : List (List ℕ)) (s : List ℕ) → Numbered (own fittings s)
 unfolding own
-own-numbered w s = then-numbered (header s) _ (header-numbered s) (fields-numbered w 257 s 5 [])
+own-numbered fittings s =
+    bind-numbered (header 2 s) (λ said. fields (record { fittings = fittings; edition = said }) 257 s 5 []) (header-numbered 2 s)
+    (λ said. fields-numbered (record { fittings = fittings; edition = said }) 257 s 5 [])
 
 -- ---- the fittings sheet
 
@@ -91,12 +124,12 @@ fittings-fields-numbered (suc k) s at ns =
 
 fittingNames-numbered : (s : List ℕ) → Numbered (fittingNames s)
 unfolding fittingNames
-fittingNames-numbered s = then-numbered (header s) _ (header-numbered s) (fittings-fields-numbered 257 s 5 [])
+fittingNames-numbered s = then-numbered (header 1 s) _ (header-numbered 1 s) (fittings-fields-numbered 257 s 5 [])
 
 -- ---- the sheets of a call
 
 pub reading-numbered : (c : Sheets) → Numbered (reading c)
 unfolding reading
-reading-numbered (alone s) = own-numbered unaided s
+reading-numbered (alone s) = own-numbered [] s
 reading-numbered (beside f s) =
-    bind-numbered (ofFittings (fittingNames f)) (λ names. own (record { fittings = names }) s) (fittings-numbered (fittingNames f) (fittingNames-numbered f)) (λ names. own-numbered (record { fittings = names }) s)
+    bind-numbered (ofFittings (fittingNames f)) (λ names. own names s) (fittings-numbered (fittingNames f) (fittingNames-numbered f)) (λ names. own-numbered names s)

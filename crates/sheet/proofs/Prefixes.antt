@@ -11,7 +11,7 @@ use lib.Dec.{ltb, leb, eqb}
 use borrow.Author.Tests.{leb-true, leb-false, ltb-true, ltb-false, le-leb, lt-leb, lt-ltb}
 use Rattle.outcome.specs.Outcome.{Outcome, given, refused, unfit, need, _>>_, _>>=_}
 use Rattle.formula.specs.Formula.{Formula}
-use Rattle.sheet.specs.Sheet.{Sheet, Setting, Field, nameField, formulaField, endField, mostNames, longestName, longestFormula, twoAt, lengthAt, pastAt, bytesAt, header, nameAt, formulaAt, fieldAt, onward, fields, own}
+use Rattle.sheet.specs.Sheet.{Sheet, Setting, Field, nameField, formulaField, endField, mostNames, longestName, longestFormula, twoAt, lengthAt, pastAt, bytesAt, formulaTag, header, nameAt, formulaAt, fieldAt, onward, fields, own}
 use Rattle.sheet.specs.Guaranteed.{mostBytes}
 use Rattle.outcome.proofs.Questions.{then-given, bind-given}
 use Rattle.sheet.proofs.Fields.{IsName, IsFormula, field-given, end-given}
@@ -83,7 +83,7 @@ module _ (w : Setting) (s : List ℕ) (k : ℕ) where
   cut-bytes at h g = rw (cut-length at h) (cut-part (at + 3) (lengthAt s at) k s g)
 
   module _ (in-sheet : k ≤ length s) where
-    cut-header : Cut k 5 (header s) (header (take k s))
+    cut-header : Cut k 5 (header 2 s) (header 2 (take k s))
     unfolding header
     cut-header =
         rw (length-take-le k s in-sheet)
@@ -128,7 +128,7 @@ module _ (w : Setting) (s : List ℕ) (k : ℕ) where
         (cut-ltb k (reach at) _ _ (length s) in-sheet at (omega arith) (λ h.
         rw (getD-take k s at 0 h)
         (cut-cond k (reach at) (eqb (getD s at 0) 2) _ _ _ _ (cut-name at ns)
-        (cut-cond k (reach at) (eqb (getD s at 0) 3) _ _ _ _ (cut-formula at ns) (whole refl)))))
+        (cut-cond k (reach at) (eqb (getD s at 0) (formulaTag (w .edition))) _ _ _ _ (cut-formula at ns) (whole refl)))))
 
 -- ---- a proper prefix of a sheet that is read
 
@@ -150,7 +150,7 @@ module _ (w : Setting) (s : List ℕ) (k : ℕ) (proper : k < length s) (r : She
     after-whole : (v : Field) → fieldAt w (take k s) at ns false ≡ given v → onward w on s ns v ≡ given r → onward w on′ (take k s) ns v ≡ refused 1 k
     after-whole (nameField x e) q h = ih e (ns ++ (x ∷ [])) h
     after-whole (formulaField f a e) q h =
-        let b = then-given (fieldAt w s e ns true) (given (record { names = w .fittings ++ ns; formula = f; first = a; past = e })) r h in
+        let b = then-given (fieldAt w s e ns true) (given (record { edition = w .edition; names = w .fittings ++ ns; formula = f; first = a; past = e })) r h in
         absurd (not-all f at a e ns (end-given w s e ns (b .0) (b .1) .0) (field-given w (take k s) at ns (formulaField f a e) q))
     after-whole endField q h = let z : _≡_ {A = ℕ} 0 1 = cc in absurd (omega arith)
 
@@ -166,16 +166,21 @@ module _ (w : Setting) (s : List ℕ) (k : ℕ) (proper : k < length s) (r : She
       let b = bind-given (fieldAt w s at ns false) (onward w (fields w n s) s ns) r h in
       after-cut (fields w n s) (fields w n (take k s)) (fields-cut n) at ns (b .0) (b .1) (b .2) (cut-field w s k in-sheet at ns)
 
-  header-cut : (ed : ℕ) → header s ≡ given ed → fields w (mostNames + 1) s 5 [] ≡ given r → Cut k 5 (header s) (header (take k s))
-      → (header (take k s) >> fields w (mostNames + 1) (take k s) 5 []) ≡ refused 1 k
-  header-cut ed q h (short l c) = rw c
-  header-cut ed q h (whole c) = rw (c, q) (fields-cut (mostNames + 1) 5 [] h)
+-- The fields after a header that said an edition, beside the fittings' names.
+abbrev after-header : List (List ℕ) → List ℕ → ℕ → Outcome Sheet
+after-header fs s said = fields (record { fittings = fs; edition = said }) (mostNames + 1) s 5 []
 
-  pub prefix-refused : own w s ≡ given r → own w (take k s) ≡ refused 1 k
+module _ (fs : List (List ℕ)) (s : List ℕ) (k : ℕ) (proper : k < length s) (r : Sheet) where
+  header-cut : (said : ℕ) → header 2 s ≡ given said → after-header fs s said ≡ given r → Cut k 5 (header 2 s) (header 2 (take k s))
+      → (header 2 (take k s) >>= after-header fs (take k s)) ≡ refused 1 k
+  header-cut said q h (short l c) = rw c
+  header-cut said q h (whole c) = rw (c, q) (fields-cut (record { fittings = fs; edition = said }) s k proper r (mostNames + 1) 5 [] h)
+
+  pub prefix-refused : own fs s ≡ given r → own fs (take k s) ≡ refused 1 k
   unfolding own
   prefix-refused h =
-      let b = then-given (header s) (fields w (mostNames + 1) s 5 []) r h in
-      header-cut (b .0) (b .1) (b .2) (cut-header w s k in-sheet)
+      let b = bind-given (header 2 s) (after-header fs s) r h in
+      header-cut (b .0) (b .1) (b .2) (cut-header (record { fittings = fs; edition = b .0 }) s k (omega arith))
 
 -- ---- a prefix of 13,063 bytes at least
 
@@ -221,17 +226,23 @@ module _ (w : Setting) (s : List ℕ) (k : ℕ) (in-sheet : k ≤ length s) (eno
       rw (field-same at ns (omega arith) (cut-field w s k in-sheet at ns))
       (after-same (fields w n s) (fields w n (take k s)) (fields-same n) at ns near few (fieldAt w s at ns false) refl)
 
-  header-same : Cut k 5 (header s) (header (take k s)) → header (take k s) ≡ header s
+module _ (fs : List (List ℕ)) (s : List ℕ) (k : ℕ) (in-sheet : k ≤ length s) (enough : mostBytes < k) where
+  header-same : Cut k 5 (header 2 s) (header 2 (take k s)) → header 2 (take k s) ≡ header 2 s
   header-same (short l c) = absurd (omega arith)
   header-same (whole c) = c
 
-  cut-own : own w (take k s) ≡ own w s
+  after-header-same : (o : Outcome ℕ) → (o >>= after-header fs (take k s)) ≡ (o >>= after-header fs s)
+  after-header-same (given said) = fields-same (record { fittings = fs; edition = said }) s k in-sheet enough (mostNames + 1) 5 [] (omega arith) (omega arith)
+  after-header-same (refused i p) = refl
+  after-header-same (unfit i p) = refl
+
+  cut-own : own fs (take k s) ≡ own fs s
   unfolding own
-  cut-own = rw (header-same (cut-header w s k in-sheet), fields-same (mostNames + 1) 5 [] (omega arith) (omega arith))
+  cut-own = rw (header-same (cut-header (record { fittings = fs; edition = 1 }) s k in-sheet)) (after-header-same (header 2 s))
 
-either-way : (w : Setting) (s : List ℕ) (k : ℕ) → mostBytes < k → (b : Bool) → leb k (length s) ≡ b → own w (take k s) ≡ own w s
-either-way w s k enough true q = cut-own w s k (leb-true _ _ q) enough
-either-way w s k enough false q = let h : length s < k = leb-false _ _ q in rw (take-all k s (omega arith))
+either-way : (fs : List (List ℕ)) (s : List ℕ) (k : ℕ) → mostBytes < k → (b : Bool) → leb k (length s) ≡ b → own fs (take k s) ≡ own fs s
+either-way fs s k enough true q = cut-own fs s k (leb-true _ _ q) enough
+either-way fs s k enough false q = let h : length s < k = leb-false _ _ q in rw (take-all k s (omega arith))
 
-pub prefix-enough : (w : Setting) (s : List ℕ) (k : ℕ) → mostBytes < k → own w (take k s) ≡ own w s
-prefix-enough w s k enough = either-way w s k enough (leb k (length s)) refl
+pub prefix-enough : (fs : List (List ℕ)) (s : List ℕ) (k : ℕ) → mostBytes < k → own fs (take k s) ≡ own fs s
+prefix-enough fs s k enough = either-way fs s k enough (leb k (length s)) refl

@@ -1,10 +1,10 @@
--- What sheets that are read guarantee: document 01, 'The sheet', and document 02, K7.
+-- What sheets that are read guarantee: document 01, 'The sheet', and document 02, K7 and K10.
 use Prim.Native.Nat.{ℕ, _+_, _-_, _%_, _≤_, _<_}
 use mathlib.Core.Path.{_≡_}
 use mathlib.Core.List.{List, [], _++_}
 use lib.ListN.{length, getD}
 use Rattle.formula.specs.Formula.{leaves, postfix, Over}
-use Rattle.sheet.specs.Sheet.{Sheets, alone, beside, ownSheet, Sheet, Setting, unaided, mostNames, longestName, longestFormula, between, codesOf}
+use Rattle.sheet.specs.Sheet.{Sheets, alone, beside, ownSheet, Sheet, lastEdition, mostNames, longestName, longestFormula, between, codesOf, codesIn, formulaTag}
 use Rattle.sheet.specs.Walk.{walkEnd, walkNames}
 
 -- So there are at most 1024 leaves, 2047 formula nodes and 13,062 bytes.
@@ -30,8 +30,12 @@ pub record GoodNames (ns : List (List ℕ)) : Type 0 where
   pub good : (k : ℕ) → k < length ns → GoodName (getD ns k [])
   pub unlike : (j k : ℕ) → j < k → k < length ns → getD ns j [] ≡ getD ns k [] → ⊥
 
--- Of the customer's sheet s.
-pub record Own (w : Setting) (s : List ℕ) (r : Sheet) : Type 0 where
+-- Of the customer's sheet s, beside the fittings' names.
+pub record Own (fittings : List (List ℕ)) (s : List ℕ) (r : Sheet) : Type 0 where
+  -- edition 1 or 2, in the header's last byte
+  pub least-edition : 1 ≤ r .edition
+  pub most-edition : r .edition ≤ lastEdition
+  pub said : getD s 4 0 ≡ r .edition
   -- 1 to 256 names, those of both sheets together; the customer's still one at least
   pub owned : ℕ
   pub some-names : 1 ≤ owned
@@ -40,8 +44,9 @@ pub record Own (w : Setting) (s : List ℕ) (r : Sheet) : Type 0 where
   pub over : Over (length (r .names)) (r .formula)
   pub few-leaves : leaves (r .formula) ≤ mostLeaves
   pub few-codes : length (postfix (r .formula)) ≤ mostNodes
-  -- the formula in postfix order, two bytes a code, high byte first, 2 to 4094 bytes
-  pub codes-are : codesOf (between s (r .first) (r .past)) ≡ postfix (r .formula)
+  -- the formula in its edition's order, two bytes a code, high byte first, 2 to 4094 bytes
+  pub tagged : getD s (r .first - 3) 0 ≡ formulaTag (r .edition)
+  pub codes-are : codesOf (between s (r .first) (r .past)) ≡ codesIn (r .edition) (r .formula)
   pub some-bytes : r .first + 2 ≤ r .past
   pub few-bytes : r .past - r .first ≤ longestFormula
   pub even : (r .past - r .first) % 2 ≡ 0
@@ -49,7 +54,7 @@ pub record Own (w : Setting) (s : List ℕ) (r : Sheet) : Type 0 where
   pub ends : r .past ≡ length s
   pub few-in-all : length s ≤ mostBytes
   -- the fittings' names are numbered first; the customer's are those of the fields from offset 5 on; the formula's field is the next one
-  pub names-are : r .names ≡ w .fittings ++ walkNames s 5 owned
+  pub names-are : r .names ≡ fittings ++ walkNames s 5 owned
   pub follows : r .first ≡ walkEnd s 5 owned + 3
 
 -- Of the fittings sheet f: 1 to 256 names, and nothing after them.
@@ -59,13 +64,13 @@ pub record Fitted (f : List ℕ) (names : List (List ℕ)) : Type 0 where
   pub names-are : names ≡ walkNames f 5 (length names)
   pub ends : walkEnd f 5 (length names) ≡ length f
 
--- The setting of a call's sheets.
-abbrev pub SettingOf : Sheets → Setting → Type 0
-SettingOf (alone s) w = w ≡ unaided
-SettingOf (beside f s) w = Fitted f (w .fittings)
+-- The fittings' names of a call's sheets.
+abbrev pub FittingsOf : Sheets → List (List ℕ) → Type 0
+FittingsOf (alone s) names = names ≡ []
+FittingsOf (beside f s) names = Fitted f names
 
 -- Of a call's sheets.
 pub record Guaranteed (c : Sheets) (r : Sheet) : Type 0 where
-  pub setting : Setting
-  pub fitted : SettingOf c setting
-  pub own : Own setting (ownSheet c) r
+  pub fittings : List (List ℕ)
+  pub fitted : FittingsOf c fittings
+  pub own : Own fittings (ownSheet c) r

@@ -1,4 +1,4 @@
--- What reading a sheet gives, alone or beside a fittings sheet: document 01, 'The sheet' and 'Order of reading', and document 02, K7.
+-- What reading a sheet gives, alone or beside a fittings sheet: document 01, 'The sheet' and 'Order of reading', and document 02, K7 and K10.
 -- A sheet is the list of its bytes.
 use Prim.Native.Nat.{ℕ, zero, suc, _+_, _-_, _*_, _%_}
 use mathlib.Core.List.{List, [], _∷_, _++_}
@@ -6,8 +6,8 @@ use mathlib.Core.Option.{Option, none, some}
 use mathlib.Core.Bool.{Bool, true, false, cond, not, _&&_, _||_}
 use lib.ListN.{length, getD, take, drop}
 use lib.Dec.{ltb, leb, eqb}
-use Rattle.outcome.specs.Outcome.{Outcome, given, refused, need, _>>=_, _>>_, ofFittings}
-use Rattle.formula.specs.Formula.{Op, union, intersection, difference, exclusive, code, Formula, leaf, node}
+use Rattle.outcome.specs.Outcome.{Outcome, given, refused, need, _>>=_, _>>_, part, ofFittings}
+use Rattle.formula.specs.Formula.{Op, union, intersection, difference, exclusive, code, Formula, leaf, node, postfix, prefix}
 
 -- The sheets of a call: the customer's sheet alone, or a fittings sheet and the customer's.
 pub data Sheets : Type 0 where
@@ -23,17 +23,21 @@ abbrev pub ownSheet : Sheets → List ℕ
 ownSheet (alone s) = s
 ownSheet (beside f s) = s
 
--- What they hold: the k-th name, from 0, names shape k, the fittings' names first, the customer's after them; the formula stands in the
+-- What they hold: the customer's edition; the k-th name, from 0, names shape k, the fittings' names first, the customer's after them; the formula stands in the
 -- bytes of the customer's sheet from `first` up to `past`.
 pub record Sheet : Type 0 where
+  pub edition : ℕ
   pub names : List (List ℕ)
   pub formula : Formula
   pub first : ℕ
   pub past : ℕ
 
--- The numbers of the page.
-abbrev pub edition : ℕ
-edition = 1
+-- The numbers of the page. A fittings sheet stays at edition 1; the customer's may have edition 2.
+abbrev pub fittingsEdition : ℕ
+fittingsEdition = 1
+
+abbrev pub lastEdition : ℕ
+lastEdition = 2
 
 abbrev pub mostNames : ℕ
 mostNames = 256
@@ -44,12 +48,14 @@ longestName = 32
 abbrev pub longestFormula : ℕ
 longestFormula = 4094
 
--- What reading a sheet depends on besides its bytes: the names of the fittings sheet beside it.
+-- What reading a sheet's fields depends on besides its bytes: the names of the fittings sheet beside it, and what its header said.
 pub record Setting : Type 0 where
   pub fittings : List (List ℕ)
+  pub edition : ℕ
 
+-- The setting of a fittings sheet.
 abbrev pub unaided : Setting
-unaided = record { fittings = [] }
+unaided = record { fittings = []; edition = fittingsEdition }
 
 -- ---- Fields: a one-byte tag, a two-byte length (high byte first), then that many bytes
 
@@ -110,7 +116,7 @@ operation c =
     (cond (eqb c (code difference)) (some difference)
     (cond (eqb c (code exclusive)) (some exclusive) none)))
 
--- The operands that wait stand last one first. An operation joins the last two: the earlier one is the left one.
+-- Edition 1, in postfix order. The operands that wait stand last one first. An operation joins the last two: the earlier one is the left one.
 -- An unknown code, or an operation with fewer than two operands waiting, is 7, at the offset of the code.
 abbrev pub joined : ℕ → Option Op → List Formula → Outcome (List Formula)
 joined at none fs = refused 7 at
@@ -137,11 +143,49 @@ onlyOne tag (f ∷ g ∷ fs) = refused 7 tag
 unfoldable pub formulaOf : ℕ → ℕ → ℕ → List ℕ → Outcome Formula
 formulaOf n tag first cs = allCodes n first cs [] >>= onlyOne tag
 
+-- Edition 2: operation, left operand, right operand. The formulas that follow stand next one first, and an operation joins the next two.
+-- The clauses for fewer never decide: `proofs/CodesFirst.antt`.
+abbrev pub joinedFirst : ℕ → Op → List Formula → Outcome (List Formula)
+joinedFirst at o [] = refused 7 at
+joinedFirst at o (l ∷ []) = refused 7 at
+joinedFirst at o (l ∷ r ∷ fs) = given (node o l r ∷ fs)
+
+-- Each operand is a whole formula of the same kind: after an operation two more are to come, which `on` reads with the k others.
+abbrev pub operated : ℕ → Option Op → (ℕ → Outcome (List Formula)) → ℕ → Outcome (List Formula)
+operated at none on k = refused 7 at
+operated at (some o) on k = on (suc (suc k)) >>= joinedFirst at o
+
+abbrev pub oneFirst : ℕ → ℕ → ℕ → (ℕ → Outcome (List Formula)) → ℕ → Outcome (List Formula)
+oneFirst n at c on k = elim (ltb c n) [ true ↦ part (λ fs. leaf c ∷ fs) (on k) | false ↦ operated at (operation c) on k ]
+
+-- The last argument says how many formulas are still to come. A formula that ends incomplete is 7, at the tag; a code after the formula is
+-- complete is 7, at the offset of the code, as an unknown one is.
+unfoldable pub allFirst : ℕ → ℕ → ℕ → List ℕ → ℕ → Outcome (List Formula)
+allFirst n tag at [] zero = given []
+allFirst n tag at [] (suc k) = refused 7 tag
+allFirst n tag at (c ∷ cs) zero = refused 7 at
+allFirst n tag at (c ∷ cs) (suc k) = oneFirst n at c (allFirst n tag (at + 2) cs) k
+
+unfoldable pub formulaFirst : ℕ → ℕ → ℕ → List ℕ → Outcome Formula
+formulaFirst n tag first cs = allFirst n tag first cs 1 >>= onlyOne tag
+
+-- By the edition.
+unfoldable pub formulaIn : ℕ → ℕ → ℕ → ℕ → List ℕ → Outcome Formula
+formulaIn edition n tag first cs = cond (eqb edition 1) (formulaOf n tag first cs) (formulaFirst n tag first cs)
+
+-- A formula's codes in an edition's order.
+abbrev pub codesIn : ℕ → Formula → List ℕ
+codesIn edition f = cond (eqb edition 1) (postfix f) (prefix f)
+
+-- The formula's tag: 3 in edition 1, and for it 4 in edition 2.
+abbrev pub formulaTag : ℕ → ℕ
+formulaTag edition = edition + 2
+
 -- ---- Order of reading
 
--- Tag 1, once and first.
-unfoldable pub header : List ℕ → Outcome ℕ
-header s = do
+-- Tag 1, once and first: the edition, 1 up to the last one that may stand there.
+unfoldable pub header : ℕ → List ℕ → Outcome ℕ
+header last s = do
   -- is there a tag byte (else 1)
   need (ltb 0 (length s)) 1 (length s)
   -- may this tag stand here (else 2)
@@ -153,7 +197,8 @@ header s = do
   -- are the bytes all there (else 1)
   need (leb 5 (length s)) 1 (length s)
   -- are they good: a header with edition wrong is 3
-  need (eqb (twoAt s 3) edition) 3 0
+  need (leb 1 (twoAt s 3)) 3 0
+  need (leb (twoAt s 3) last) 3 0
   given (twoAt s 3)
 
 -- Tag 2 at an offset, after the names ns.
@@ -175,7 +220,7 @@ nameAt w s at ns = do
   need (not (taken (w .fittings) (bytesAt s at))) 17 at
   given (nameField (bytesAt s at) (pastAt s at))
 
--- Tag 3 at an offset, after the names ns.
+-- The formula's tag at an offset, after the names ns.
 unfoldable pub formulaAt : Setting → List ℕ → ℕ → List (List ℕ) → Outcome Field
 formulaAt w s at ns = do
   -- may this tag stand here: a formula before any name is 2; the customer's names are still one at least
@@ -189,7 +234,7 @@ formulaAt w s at ns = do
   -- are the bytes all there (else 1)
   need (leb (pastAt s at) (length s)) 1 (length s)
   -- are they good: codes are judged left to right; the customer's formula may use both sheets' names
-  f ← formulaOf (length (w .fittings) + length ns) at (at + 3) (codesOf (bytesAt s at))
+  f ← formulaIn (w .edition) (length (w .fittings) + length ns) at (at + 3) (codesOf (bytesAt s at))
   given (formulaField f (at + 3) (pastAt s at))
 
 -- The field at an offset, after the header and the names ns; the last argument says whether the formula was read already.
@@ -201,15 +246,15 @@ fieldAt w s at ns true = do
 fieldAt w s at ns false = do
   -- is there a tag byte (else 1)
   need (ltb at (length s)) 1 (length s)
-  -- may this tag stand here (else 2)
-  cond (eqb (getD s at 0) 2) (nameAt w s at ns) (cond (eqb (getD s at 0) 3) (formulaAt w s at ns) (refused 2 at))
+  -- may this tag stand here (else 2): tag 4 under edition 1 or tag 3 under edition 2 is 2
+  cond (eqb (getD s at 0) 2) (nameAt w s at ns) (cond (eqb (getD s at 0) (formulaTag (w .edition))) (formulaAt w s at ns) (refused 2 at))
 
 -- After a field: a name is added, and `on` reads on; the formula is the last one; an end before the formula comes too soon. That last
 -- clause never decides: `proofs/Enough.antt`.
 abbrev pub onward : Setting → (ℕ → List (List ℕ) → Outcome Sheet) → List ℕ → List (List ℕ) → Field → Outcome Sheet
 onward w on s ns (nameField x past) = on past (ns ++ (x ∷ []))
 onward w on s ns (formulaField f first past) =
-    fieldAt w s past ns true >> given (record { names = w .fittings ++ ns; formula = f; first = first; past = past })
+    fieldAt w s past ns true >> given (record { edition = w .edition; names = w .fittings ++ ns; formula = f; first = first; past = past })
 onward w on s ns endField = refused 1 (length s)
 
 -- The fields from an offset on, after the names ns: at most k of them. The clause for none never decides: `proofs/Enough.antt`.
@@ -217,11 +262,11 @@ unfoldable pub fields : Setting → ℕ → List ℕ → ℕ → List (List ℕ)
 fields w zero s at ns = refused 6 at
 fields w (suc k) s at ns = fieldAt w s at ns false >>= onward w (fields w k s) s ns
 
--- The customer's sheet: the header, then the fields. 257 are enough, since a 257th name is refused.
-unfoldable pub own : Setting → List ℕ → Outcome Sheet
-own w s = do
-  header s
-  fields w (mostNames + 1) s 5 []
+-- The customer's sheet beside the fittings' names: the header, then the fields. 257 are enough, since a 257th name is refused.
+unfoldable pub own : List (List ℕ) → List ℕ → Outcome Sheet
+own fittings s = do
+  said ← header lastEdition s
+  fields (record { fittings = fittings; edition = said }) (mostNames + 1) s 5 []
 
 -- ---- The fittings sheet: the same rules, except that it must end after its names
 
@@ -249,13 +294,13 @@ fittingFields (suc k) s at ns = fittingAt s at ns >>= onwardFitting (fittingFiel
 -- A fittings sheet: the header, then 1 to 256 names. 257 fields are enough: the last one is the end.
 unfoldable pub fittingNames : List ℕ → Outcome (List (List ℕ))
 fittingNames s = do
-  header s
+  header fittingsEdition s
   fittingFields (mostNames + 1) s 5 []
 
 -- ---- The sheets of a call: the fittings sheet is judged first
 
 unfoldable pub reading : Sheets → Outcome Sheet
-reading (alone s) = own unaided s
+reading (alone s) = own [] s
 reading (beside f s) = do
   names ← ofFittings (fittingNames f)
-  own (record { fittings = names }) s
+  own names s

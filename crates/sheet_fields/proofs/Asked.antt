@@ -11,7 +11,7 @@ use lib.Dec.{leb, eqb, lit<}
 use borrow.Author.Tests.{lt-ltb, le-ltb, le-leb, lt-leb, eq-eqb, ne-eqb}
 use Rattle.outcome.specs.Outcome.{Outcome, given, refused, unfit, need, _>>_, _>>=_, part}
 use Rattle.formula.specs.Formula.{Formula, leaves}
-use Rattle.sheet.specs.Sheet.{Setting, between, twoAt, lengthAt, pastAt, bytesAt, allGood, taken, codesOf, formulaOf, header, nameAt, formulaAt, fieldAt, formulaField}
+use Rattle.sheet.specs.Sheet.{Setting, between, twoAt, lengthAt, pastAt, bytesAt, allGood, taken, codesOf, formulaOf, formulaFirst, formulaIn, header, nameAt, formulaAt, fieldAt, formulaField}
 use Rattle.sheet.specs.Walk.{walkNames, fittedBy}
 use Rattle.sheet_fields.specs.Fields.{Seen, seen, name, formula}
 use Rattle.sheet_codes.specs.Codes.{formedOf}
@@ -178,22 +178,60 @@ edition-part s = rw (getD-take 2 (drop 3 s) 0 0 (lit< tt), getD-take 2 (drop 3 s
 
 module _ (s : List ℕ) (n m : ℕ) (some : 0 < length s) (tag : getD s 0 0 ≡ 1) (headed : 3 ≤ length s) (is : n ≡ twoAt s 1) (two : n ≡ 2)
     (all : 5 ≤ length s) (reads : m ≡ twoAt (take 2 (drop 3 s)) 0) where
-  pub header-wrong : (m ≡ 1 → ⊥) → refused 3 0 ≡ header s
+  pub header-low : (last : ℕ) → m < 1 → refused 3 0 ≡ header last s
   unfolding header lengthAt
-  header-wrong h = let e : m ≡ twoAt s 3 = reads ∙ edition-part s in search asked depth 20
+  header-low last h = let e : m ≡ twoAt s 3 = reads ∙ edition-part s in search asked depth 20
 
-  pub header-good : m ≡ 1 → given m ≡ header s
+  pub header-high : (last : ℕ) → 1 ≤ m → last < m → refused 3 0 ≡ header last s
   unfolding header lengthAt
-  header-good h = let e : m ≡ twoAt s 3 = reads ∙ edition-part s in search asked depth 20
+  header-high last l h = let e : m ≡ twoAt s 3 = reads ∙ edition-part s in search asked depth 20
+
+  pub header-good : (last : ℕ) → 1 ≤ m → m ≤ last → given m ≡ header last s
+  unfolding header lengthAt
+  header-good last l h = let e : m ≡ twoAt s 3 = reads ∙ edition-part s in search asked depth 20
 
 -- every question of a name was answered yes
 module _ (f : List ℕ) (m : ℕ) (s : List ℕ) (at j n : ℕ) (few : m + j < 256) (headed : at + 3 ≤ length s) (is : n ≡ twoAt s (at + 1)) (some : 1 ≤ n) (short : n ≤ 32)
     (all : at + 3 + n ≤ length s) (good : Bool) (good-is : good ≡ allGood (between s (at + 3) (at + 3 + n))) (yes : good ≡ true)
     (r : Whose) (whose : r ≡ whoseIs (walkNames f 5 m) (walkNames s 5 j) (between s (at + 3) (at + 3 + n))) (new : r ≡ Nobodys)
     (k : ℕ) (key : k ≡ keyOf (between s (at + 3) (at + 3 + n))) where
-  pub name-good : given (name (between s (at + 3) (at + 3 + n)) (at + 3 + n) k) ≡ part seen (nameAt (fittedBy f m) s at (walkNames s 5 j))
+  pub name-good : given (name (between s (at + 3) (at + 3 + n)) (at + 3 + n) k) ≡ part seen (nameAt (fittedBy 1 f m) s at (walkNames s 5 j))
   unfolding nameAt lengthAt pastAt bytesAt
   name-good = rw (walk-length f 5 m, walk-length s 5 j) (search asked depth 20)
+
+-- ---- the field with tag t; a name is judged the same in either edition
+
+module _ (ed : ℕ) (f : List ℕ) (m : ℕ) (s : List ℕ) (at j : ℕ) (ended : Bool) (t : ℕ) (on : ended ≡ false) (more : at < length s) (is : t ≡ getD s at 0) where
+  pub field-name : (v : Outcome Seen) → t ≡ 2 → v ≡ part seen (nameAt (fittedBy 1 f m) s at (walkNames s 5 j)) → v ≡ part seen (fieldAt (fittedBy ed f m) s at (walkNames s 5 j) ended)
+  unfolding fieldAt nameAt
+  field-name v e h = let q : getD s at 0 ≡ 2 = sym is ∙ e in rw (on, lt-ltb at (length s) more, eq-eqb (getD s at 0) 2 q) h
+
+  module _ (ne : t ≡ 2 → ⊥) where
+    unlike : getD s at 0 ≡ 2 → ⊥
+    unlike q = ne (is ∙ q)
+
+    pub field-formula : (v : Outcome Seen) → t ≡ ed + 2 → v ≡ part seen (formulaAt (fittedBy ed f m) s at (walkNames s 5 j)) → v ≡ part seen (fieldAt (fittedBy ed f m) s at (walkNames s 5 j) ended)
+    unfolding fieldAt
+    field-formula v e h =
+        let q : getD s at 0 ≡ ed + 2 = sym is ∙ e in
+        rw (on, lt-ltb at (length s) more, ne-eqb (getD s at 0) 2 unlike, eq-eqb (getD s at 0) (ed + 2) q) h
+
+    pub field-other : (t ≡ ed + 2 → ⊥) → refused 2 at ≡ part seen (fieldAt (fittedBy ed f m) s at (walkNames s 5 j) ended)
+    unfolding fieldAt
+    field-other e =
+        let q : getD s at 0 ≡ ed + 2 → ⊥ = λ p. e (is ∙ p) in
+        rw (on, lt-ltb at (length s) more, ne-eqb (getD s at 0) 2 unlike, ne-eqb (getD s at 0) (ed + 2) q)
+
+-- ---- the codes, by the edition
+
+module _ (said n tag first : ℕ) (p : List ℕ) (r : Formed) where
+  pub in-first : said ≡ 1 → formedOf r ≡ part leaves (formulaOf n tag first (codesOf p)) → formedOf r ≡ part leaves (formulaIn said n tag first (codesOf p))
+  unfolding formulaIn
+  in-first e h = h ∙ rw (eq-eqb said 1 e)
+
+  pub in-second : (said ≡ 1 → ⊥) → formedOf r ≡ part leaves (formulaFirst n tag first (codesOf p)) → formedOf r ≡ part leaves (formulaIn said n tag first (codesOf p))
+  unfolding formulaIn
+  in-second e h = h ∙ rw (ne-eqb said 1 e)
 
 -- the codes were judged
 judged-good : (o : Outcome Formula) (l a e : ℕ) → given l ≡ part leaves o → given (formula l a e) ≡ part seen (o >>= λ f. given (formulaField f a e))
@@ -206,20 +244,20 @@ judged-wrong (given f) p a e h = let z : _≡_ {A = ℕ} 0 1 = cc in absurd (ome
 judged-wrong (refused k q) p a e h = cc
 judged-wrong (unfit k q) p a e h = let z : _≡_ {A = ℕ} 0 1 = cc in absurd (omega arith)
 
-module _ (f : List ℕ) (m : ℕ) (s : List ℕ) (at k n : ℕ) (some : 1 ≤ k) (headed : at + 3 ≤ length s) (is : n ≡ twoAt s (at + 1)) (short : n ≤ 4094) (long : 1 ≤ n)
+module _ (ed : ℕ) (f : List ℕ) (m : ℕ) (s : List ℕ) (at k n : ℕ) (some : 1 ≤ k) (headed : at + 3 ≤ length s) (is : n ≡ twoAt s (at + 1)) (short : n ≤ 4094) (long : 1 ≤ n)
     (even : n % 2 ≡ 0) (all : at + 3 + n ≤ length s) where
   -- every question before the codes was answered yes
-  formula-on : (v : Outcome Seen) → v ≡ part seen (formulaOf (m + k) at (at + 3) (codesOf (between s (at + 3) (at + 3 + n))) >>= λ g. given (formulaField g (at + 3) (at + 3 + n)))
-      → v ≡ part seen (formulaAt (fittedBy f m) s at (walkNames s 5 k))
+  formula-on : (v : Outcome Seen) → v ≡ part seen (formulaIn ed (m + k) at (at + 3) (codesOf (between s (at + 3) (at + 3 + n))) >>= λ g. given (formulaField g (at + 3) (at + 3 + n)))
+      → v ≡ part seen (formulaAt (fittedBy ed f m) s at (walkNames s 5 k))
   unfolding formulaAt lengthAt pastAt bytesAt
   formula-on v h =
-      let e : v ≡ part seen (formulaOf (m + k) at (at + 3) (codesOf (take (twoAt s (at + 1)) (drop (at + 3) s))) >>= λ g. given (formulaField g (at + 3) (at + 3 + twoAt s (at + 1)))) =
+      let e : v ≡ part seen (formulaIn ed (m + k) at (at + 3) (codesOf (take (twoAt s (at + 1)) (drop (at + 3) s))) >>= λ g. given (formulaField g (at + 3) (at + 3 + twoAt s (at + 1)))) =
       h ∙ rw (part-via n (twoAt s (at + 1)) (at + 3) s is, is) in
       rw (walk-length f 5 m, walk-length s 5 k) (search asked depth 20)
 
-  module _ (j : Formed) (said : formedOf j ≡ part leaves (formulaOf (m + k) at (at + 3) (codesOf (between s (at + 3) (at + 3 + n))))) where
-    pub formula-good : (l : ℕ) → j ≡ Good l → given (formula l (at + 3) (at + 3 + n)) ≡ part seen (formulaAt (fittedBy f m) s at (walkNames s 5 k))
-    formula-good l e = formula-on _ (judged-good (formulaOf (m + k) at (at + 3) (codesOf (between s (at + 3) (at + 3 + n)))) l (at + 3) (at + 3 + n) (rw e at said))
+  module _ (j : Formed) (said : formedOf j ≡ part leaves (formulaIn ed (m + k) at (at + 3) (codesOf (between s (at + 3) (at + 3 + n))))) where
+    pub formula-good : (l : ℕ) → j ≡ Good l → given (formula l (at + 3) (at + 3 + n)) ≡ part seen (formulaAt (fittedBy ed f m) s at (walkNames s 5 k))
+    formula-good l e = formula-on _ (judged-good (formulaIn ed (m + k) at (at + 3) (codesOf (between s (at + 3) (at + 3 + n)))) l (at + 3) (at + 3 + n) (rw e at said))
 
-    pub formula-wrong : (p : ℕ) → j ≡ Wrong p → refused 7 p ≡ part seen (formulaAt (fittedBy f m) s at (walkNames s 5 k))
-    formula-wrong p e = formula-on _ (judged-wrong (formulaOf (m + k) at (at + 3) (codesOf (between s (at + 3) (at + 3 + n)))) p (at + 3) (at + 3 + n) (rw e at said))
+    pub formula-wrong : (p : ℕ) → j ≡ Wrong p → refused 7 p ≡ part seen (formulaAt (fittedBy ed f m) s at (walkNames s 5 k))
+    formula-wrong p e = formula-on _ (judged-wrong (formulaIn ed (m + k) at (at + 3) (codesOf (between s (at + 3) (at + 3 + n)))) p (at + 3) (at + 3 + n) (rw e at said))

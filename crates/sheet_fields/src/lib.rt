@@ -1,13 +1,15 @@
-// One field of a sheet judged, question by question: document 01, 'Order of reading'.
+// One field of a sheet judged, question by question: document 01, 'Order of reading', and document 02, K10.
 use sheet_codes::Formed;
 use sheet_names::Whose;
 ghost use mathlib.Core.Path.{_≡_};
-ghost use Prim.Native.Nat.{_+_, _<_, _≤_};
+ghost use Prim.Native.Nat.{_+_, _%_, _^_, _<_, _≤_};
 ghost use lib.ListN.{length};
 ghost use Rattle.outcome.specs.Outcome.{part};
-ghost use Rattle.sheet.specs.Sheet.{header as headerOf, nameAt, formulaAt, fieldAt, fittingAt};
+ghost use Rattle.formula.specs.Formula.{leaves as leavesOf};
+ghost use Rattle.sheet.specs.Sheet.{codesOf, formulaIn, header as headerOf, nameAt, formulaAt, fieldAt, fittingAt};
 ghost use Rattle.sheet.specs.Walk.{walkNames, fittedBy};
 ghost use Rattle.sheet_names.specs.Keys.{NamesRead};
+ghost use Rattle.sheet_codes.specs.Codes.{formedOf};
 ghost use Rattle.sheet_fields.specs.Fields.{seen, fieldOf, headOf};
 
 // What one field is: a name or the formula, with the offset of its first byte and the one past its last; the end; or a refusal, its
@@ -43,7 +45,7 @@ fn name_field(
     keys: &[u32; 256],
 ) -> Field
     requires { ⌜ NamesRead (now fittings) fitted (now sheet) names (now keys) × (at < length (now sheet)) ⌝ }
-    ensures { λ r. ⌜ fieldOf (now (sheet .entry)) r ≡ part seen (nameAt (fittedBy (now (fittings .entry)) fitted) (now (sheet .entry)) at (walkNames (now (sheet .entry)) 5 names)) ⌝ }
+    ensures { λ r. ⌜ fieldOf (now (sheet .entry)) r ≡ part seen (nameAt (fittedBy 1 (now (fittings .entry)) fitted) (now (sheet .entry)) at (walkNames (now (sheet .entry)) 5 names)) ⌝ }
 {
     if 256 <= fitted + names {
         return Field::Refused(6, at);
@@ -79,10 +81,28 @@ fn name_field(
     }
 }
 
-// The formula, its tag 3 at offset `at`, after `fitted` names of the fittings sheet and `names` of this one.
-fn formula_field(fittings: &[u8], fitted: usize, sheet: &[u8], at: usize, names: usize) -> Field
+// Judges a formula's codes in an edition's order, the first of which stands at offset `first` of the sheet and its tag at `tag`.
+fn judge(edition: usize, formula: &[u8], names: usize, tag: usize, first: usize) -> Formed
+    requires { ⌜ (names ≤ 256) × (length (now formula) ≤ 4094) × (length (now formula) % 2 ≡ 0) × (first + length (now formula) < 2 ^ 64) ⌝ }
+    ensures { λ r. ⌜ formedOf r ≡ part leavesOf (formulaIn edition names tag first (codesOf (now (formula .entry)))) ⌝ }
+{
+    if edition == 1 {
+        return sheet_codes::judge(formula, names, tag, first);
+    }
+    sheet_descent::judge_first(formula, names, tag, first)
+}
+
+// The formula, its edition's tag at offset `at`, after `fitted` names of the fittings sheet and `names` of this one.
+fn formula_field(
+    edition: usize,
+    fittings: &[u8],
+    fitted: usize,
+    sheet: &[u8],
+    at: usize,
+    names: usize,
+) -> Field
     requires { ⌜ (at < length (now sheet)) × (fitted + names ≤ 256) ⌝ }
-    ensures { λ r. ⌜ fieldOf (now (sheet .entry)) r ≡ part seen (formulaAt (fittedBy (now (fittings .entry)) fitted) (now (sheet .entry)) at (walkNames (now (sheet .entry)) 5 names)) ⌝ }
+    ensures { λ r. ⌜ fieldOf (now (sheet .entry)) r ≡ part seen (formulaAt (fittedBy edition (now (fittings .entry)) fitted) (now (sheet .entry)) at (walkNames (now (sheet .entry)) 5 names)) ⌝ }
 {
     if names < 1 {
         return Field::Refused(2, at);
@@ -105,7 +125,7 @@ fn formula_field(fittings: &[u8], fitted: usize, sheet: &[u8], at: usize, names:
     if sheet.len() < e {
         return Field::Refused(1, sheet.len());
     }
-    match sheet_codes::judge(&sheet[a..e], fitted + names, at, a) {
+    match judge(edition, &sheet[a..e], fitted + names, at, a) {
         Formed::Good(leaves) => Field::Formula {
             first: a,
             past: e,
@@ -115,8 +135,9 @@ fn formula_field(fittings: &[u8], fitted: usize, sheet: &[u8], at: usize, names:
     }
 }
 
-// The field at offset `at` of the customer's sheet, after the header and `names` names; `ended` says whether the formula was read already.
+// The field at offset `at` of the customer's sheet, after a header of this edition and `names` names; `ended` says whether the formula was read already.
 pub fn one_field(
+    edition: usize,
     fittings: &[u8],
     fitted: usize,
     sheet: &[u8],
@@ -125,8 +146,8 @@ pub fn one_field(
     keys: &[u32; 256],
     ended: bool,
 ) -> Field
-    requires { ⌜ NamesRead (now fittings) fitted (now sheet) names (now keys) ⌝ }
-    ensures { λ r. ⌜ fieldOf (now (sheet .entry)) r ≡ part seen (fieldAt (fittedBy (now (fittings .entry)) fitted) (now (sheet .entry)) at (walkNames (now (sheet .entry)) 5 names) ended) ⌝ }
+    requires { ⌜ NamesRead (now fittings) fitted (now sheet) names (now keys) × (edition ≤ 2) ⌝ }
+    ensures { λ r. ⌜ fieldOf (now (sheet .entry)) r ≡ part seen (fieldAt (fittedBy edition (now (fittings .entry)) fitted) (now (sheet .entry)) at (walkNames (now (sheet .entry)) 5 names) ended) ⌝ }
 {
     if ended {
         if sheet.len() <= at {
@@ -137,12 +158,12 @@ pub fn one_field(
     if sheet.len() <= at {
         return Field::Refused(1, sheet.len());
     }
-    let tag = sheet[at];
+    let tag = sheet::as_number(sheet[at]);
     if tag == 2 {
         return name_field(fittings, fitted, sheet, at, names, keys);
     }
-    if tag == 3 {
-        return formula_field(fittings, fitted, sheet, at, names);
+    if tag == edition + 2 {
+        return formula_field(edition, fittings, fitted, sheet, at, names);
     }
     Field::Refused(2, at)
 }
@@ -165,9 +186,9 @@ pub fn one_fitting(sheet: &[u8], at: usize, names: usize, keys: &[u32; 256]) -> 
     Field::Refused(2, at)
 }
 
-// The header.
-pub fn header(sheet: &[u8]) -> Head
-    ensures { λ r. ⌜ headOf r ≡ headerOf (now (sheet .entry)) ⌝ }
+// The header, of an edition from 1 up to `last`.
+pub fn header(last: usize, sheet: &[u8]) -> Head
+    ensures { λ r. ⌜ headOf r ≡ headerOf last (now (sheet .entry)) ⌝ }
 {
     if sheet.len() <= 0 {
         return Head::Refused(1, sheet.len());
@@ -186,7 +207,10 @@ pub fn header(sheet: &[u8]) -> Head
         return Head::Refused(1, sheet.len());
     }
     let edition = sheet::two(&sheet[3..5], 0);
-    if edition != 1 {
+    if edition < 1 {
+        return Head::Refused(3, 0);
+    }
+    if last < edition {
         return Head::Refused(3, 0);
     }
     Head::Good(edition)

@@ -13,7 +13,7 @@ use Rattle.sheet.specs.Sheet.{mostNames, between, pastAt, bytesAt, allGood, sam
 use Rattle.sheet.specs.Walk.{walkEnd, walkNames}
 use Rattle.sheet_names.specs.Keys.{mixed, keyFrom, keyOf, has, Walkable, NamesRead, whoseIs}
 use Rattle.sheet_names.specs.declared.Whose.the-variants.{Customers, Fittings, Nobodys}
-use Rattle.sheet.proofs.Names.{or-false, or-assoc, same-equal, taken-append, bytes-between, walk-length}
+use Rattle.sheet.proofs.Names.{or-false, or-assoc, same-equal, taken-append, bytes-between, walk-length, walk-on}
 
 -- ---- allGood
 
@@ -63,11 +63,6 @@ module _ (a b : List ℕ) (i : ℕ) (inv : same a b ≡ same (drop i a) (drop i 
   same-long h k = sym (inv ∙ rw (drop-of-length-le a h, drop-cons b i 0 k))
 
 -- ---- walkEnd, walkNames, taken: n names are left to walk, from offset at on
-
-walk-on : (s : List ℕ) (at n : ℕ) → at ≤ walkEnd s at n
-unfolding walkEnd pastAt
-walk-on s at zero = omega arith
-walk-on s at (suc n) = omega (arith, walk-on s (pastAt s at) n)
 
 pub walk-inside : (s : List ℕ) (at n : ℕ) → 0 < n → Walkable s at n → pastAt s at ≤ length s
 unfolding walkEnd

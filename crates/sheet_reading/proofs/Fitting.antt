@@ -10,7 +10,7 @@ use Rattle.outcome.specs.Outcome.{Outcome, given, refused, unfit, _>>=_, part}
 use Rattle.formula.specs.Formula.{Formula}
 use Rattle.sheet.specs.Sheet as paper
 use Rattle.sheet.specs.Sheet.{sheetsOf, unaided, nameField, formulaField, endField, between, header, own, fittingAt, onwardFitting, fittingFields, fittingNames, reading}
-use Rattle.sheet.specs.Walk.{walkEnd, walkNames, fittedBy}
+use Rattle.sheet.specs.Walk.{walkEnd, walkNames}
 use Rattle.sheet_names.specs.Keys.{keyOf, NamesRead}
 use Rattle.sheet_fields.specs.Fields.{name, formula, finish, seen, fieldOf, headOf}
 use Rattle.sheet_fields.specs.declared.Field.{Field}
@@ -105,7 +105,7 @@ pub fit-start : (s ks : List ℕ) → 5 ≤ length s → length ks ≡ 256 → N
 unfolding walkEnd walkNames
 fit-start s ks i sized = record { fittings-there = record { ends = λ some. i }; there = record { ends = λ some. i }; few = omega arith; keyed = record { are = refl; sized = sized } }
 
-module _ (s : List ℕ) (r : Head) (said : headOf r ≡ header s) where
+module _ (s : List ℕ) (r : Head) (said : headOf r ≡ header 1 s) where
   head-on : (ed : ℕ) → r ≡ head.Good ed → fittingNames s ≡ fittingFields 257 s 5 []
   unfolding fittingNames
   head-on ed is = rw (← said, is)
@@ -134,7 +134,7 @@ module _ (b : Bool) (f ks : List ℕ) where
 
 -- ---- the sheets of a call, by the fittings sheet's answer
 
-by-flag : (b : Bool) (f s : List ℕ) (fs : List (List ℕ)) → fittingsOf b f ≡ given fs → reading (sheetsOf b f s) ≡ own (record { fittings = fs }) s
+by-flag : (b : Bool) (f s : List ℕ) (fs : List (List ℕ)) → fittingsOf b f ≡ given fs → reading (sheetsOf b f s) ≡ own fs s
 unfolding reading
 by-flag true f s fs is = rw is
 by-flag false f s fs is = let e : [] ≡ fs = given-same [] fs is in rw (← e)
@@ -156,6 +156,6 @@ module _ (b : Bool) (f s ks : List ℕ) (r : Fittings) (are : FittingsAre f (fit
     pub sheets-known : FittingsRead f m ks
     sheets-known = names-given .known
 
-    pub sheets-told : (v : Outcome Numbers) → v ≡ toldOwn (fittedBy f m) s → v ≡ told (sheetsOf b f s)
+    pub sheets-told : (v : Outcome Numbers) → v ≡ toldOwn (walkNames f 5 m) s → v ≡ told (sheetsOf b f s)
     unfolding told toldOwn
     sheets-told v h = h ∙ rw (by-flag b f s (walkNames f 5 m) (names-given .are))

@@ -1,13 +1,15 @@
 -- What an answer tells of the reading itself, for the rooms above: its sheet, and that the formula's codes can be put into an array.
-use Prim.Native.Nat.{ℕ, _-_, _≤_}
+use Prim.Native.Nat.{ℕ, _-_, _≤_, _<_}
 use native.Mathlib.Omega.{arith}
 use mathlib.Core.Path.{_≡_}
 use mathlib.Core.List.{List}
-use lib.ListN.{length, length-take, length-drop}
+use lib.ListN.{length, getD, length-take, length-drop}
 use Rattle.outcome.specs.Outcome.{given}
-use Rattle.formula.specs.Formula.{leaves, postfix}
-use Rattle.sheet.specs.Sheet.{Sheets, ownSheet, Sheet, between, codesOf, reading}
+use Rattle.formula.specs.Formula.{firstOperation, leaves}
+use Rattle.sheet.specs.Sheet.{Sheets, ownSheet, Sheet, between, codesOf, formulaIn, codesIn, reading}
 use Rattle.sheet.specs.Guaranteed.{Guaranteed}
+use Rattle.sheet.proofs.CodesFirst.{codesIn-formula}
+use Rattle.sheet.proofs.Names.{walk-on}
 use Rattle.sheet.proofs.Guaranteed.{guaranteed}
 use Rattle.sheet_reading.specs.Reading.{numbers, numbersOf, told, answerOf}
 use Rattle.sheet_codes.specs.Codes.{CodesFit}
@@ -54,5 +56,17 @@ module _ (c : Sheets) (n l first past : ℕ) (known : Known c n l first past) wh
         sized = sized;
       }
 
-  pub formula-codes : codesOf (between (ownSheet c) first past) ≡ postfix (known .sheet .formula)
+  formula-codes : codesOf (between (ownSheet c) first past) ≡ codesIn (known .sheet .edition) (known .sheet .formula)
   formula-codes = rw (known .first-is, known .past-is) (known-facts .own .codes-are)
+
+  pub header-there : 4 < length (ownSheet c)
+  header-there = omega (arith, known-facts .own .ends, known-facts .own .some-bytes, known-facts .own .follows, walk-on (ownSheet c) 5 (known-facts .own .owned))
+
+  pub few-names : n ≤ 256
+  few-names = omega (arith, known .names-are, known-facts .own .good-names .few)
+
+  -- the codes, judged in the order of the edition that the header says, give the formula
+  pub formula-said : formulaIn (getD (ownSheet c) 4 0) n 0 0 (codesOf (between (ownSheet c) first past)) ≡ given (known .sheet .formula)
+  formula-said =
+      let few : n ≤ firstOperation = omega (arith, few-names) in
+      rw (formula-codes, known-facts .own .said) (codesIn-formula (known .sheet .edition) n few 0 0 (known .sheet .formula) (rw (known .names-are) (known-facts .own .over)))

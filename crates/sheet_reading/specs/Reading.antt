@@ -1,4 +1,4 @@
--- What reading the sheets of a call answers: document 01, 'The library does four jobs', and document 02, K7.
+-- What reading the sheets of a call answers: document 01, 'The library does four jobs', and document 02, K7 and K10.
 use Prim.Native.Nat.{ℕ}
 use lib.ListN.{length}
 use Rattle.outcome.specs.Outcome.{Outcome, given, refused, unfit, part}

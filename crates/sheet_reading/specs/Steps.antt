@@ -14,8 +14,8 @@ use Rattle.sheet_reading.specs.declared.Fittings.the-variants.{Names, Re
 
 -- ---- The customer's sheet: as a whole, from an offset on after the names ns, and after the formula
 
-unfoldable pub toldOwn : Setting → List ℕ → Outcome Numbers
-toldOwn w s = part numbersOf (own w s)
+unfoldable pub toldOwn : List (List ℕ) → List ℕ → Outcome Numbers
+toldOwn fittings s = part numbersOf (own fittings s)
 
 unfoldable pub toldFrom : Setting → ℕ → List ℕ → ℕ → List (List ℕ) → Outcome Numbers
 toldFrom w k s at ns = part numbersOf (fields w k s at ns)

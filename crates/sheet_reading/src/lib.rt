@@ -1,4 +1,4 @@
-// Reads the sheets of a call, field after field: document 01, 'Order of reading', and document 02, K7.
+// Reads the sheets of a call, field after field: document 01, 'Order of reading', and document 02, K7 and K10.
 use sheet_fields::Field;
 use sheet_fields::Head;
 ghost use mathlib.Core.Path.{_≡_};
@@ -62,7 +62,7 @@ fn fit(sheet: &[u8], keys: &mut [u32; 256]) -> Fittings
     requires { ⌜ length (now keys) ≡ 256 ⌝ }
     ensures { λ r. ⌜ FittingsAre (now (sheet .entry)) (fittingNames (now (sheet .entry))) (now (keys .exit)) r ⌝ }
 {
-    match sheet_fields::header(sheet) {
+    match sheet_fields::header(1, sheet) {
         Head::Good(_) => fit_fields(sheet, keys),
         Head::Refused(number, place) => Fittings::Refused(number, place),
     }
@@ -106,23 +106,29 @@ fn fit_fields(sheet: &[u8], keys: &mut [u32; 256]) -> Fittings
 // Reads the customer's sheet, after the names of a fittings sheet.
 fn read_own(fittings: &[u8], fitted: usize, sheet: &[u8], keys: &mut [u32; 256]) -> ReadAnswer
     requires { ⌜ FittingsRead (now fittings) fitted (now keys) ⌝ }
-    ensures { λ r. ⌜ answerOf r ≡ toldOwn (fittedBy (now (fittings .entry)) fitted) (now (sheet .entry)) ⌝ }
+    ensures { λ r. ⌜ answerOf r ≡ toldOwn (walkNames (now (fittings .entry)) 5 fitted) (now (sheet .entry)) ⌝ }
 {
-    match sheet_fields::header(sheet) {
-        Head::Good(_) => read_fields(fittings, fitted, sheet, keys),
+    match sheet_fields::header(2, sheet) {
+        Head::Good(edition) => read_fields(edition, fittings, fitted, sheet, keys),
         Head::Refused(number, place) => ReadAnswer::Refused { number, place },
     }
 }
 
-// Reads the fields of a customer's sheet with a good header.
-fn read_fields(fittings: &[u8], fitted: usize, sheet: &[u8], keys: &mut [u32; 256]) -> ReadAnswer
-    requires { ⌜ NamesRead (now fittings) fitted (now sheet) 0 (now keys) ⌝ }
-    ensures { λ r. ⌜ answerOf r ≡ toldFrom (fittedBy (now (fittings .entry)) fitted) 257 (now (sheet .entry)) 5 [] ⌝ }
+// Reads the fields of a customer's sheet with a good header of this edition.
+fn read_fields(
+    edition: usize,
+    fittings: &[u8],
+    fitted: usize,
+    sheet: &[u8],
+    keys: &mut [u32; 256],
+) -> ReadAnswer
+    requires { ⌜ NamesRead (now fittings) fitted (now sheet) 0 (now keys) × (edition ≤ 2) ⌝ }
+    ensures { λ r. ⌜ answerOf r ≡ toldFrom (fittedBy edition (now (fittings .entry)) fitted) 257 (now (sheet .entry)) 5 [] ⌝ }
 {
     let mut at: usize = 5;
     let mut names: usize = 0;
     loop {
-        match sheet_fields::one_field(fittings, fitted, sheet, at, names, keys, false) {
+        match sheet_fields::one_field(edition, fittings, fitted, sheet, at, names, keys, false) {
             Field::Name {
                 first: _,
                 past,
@@ -137,7 +143,17 @@ fn read_fields(fittings: &[u8], fitted: usize, sheet: &[u8], keys: &mut [u32; 25
                 past,
                 leaves,
             } => {
-                return closed(fittings, fitted, sheet, names, keys, leaves, first, past);
+                return closed(
+                    edition,
+                    fittings,
+                    fitted,
+                    sheet,
+                    names,
+                    keys,
+                    leaves,
+                    first,
+                    past,
+                );
             }
             Field::End => {
                 return ReadAnswer::Refused {
@@ -154,6 +170,7 @@ fn read_fields(fittings: &[u8], fitted: usize, sheet: &[u8], keys: &mut [u32; 25
 
 // The answer after the formula.
 fn closed(
+    edition: usize,
     fittings: &[u8],
     fitted: usize,
     sheet: &[u8],
@@ -163,10 +180,10 @@ fn closed(
     first: usize,
     past: usize,
 ) -> ReadAnswer
-    requires { ⌜ NamesRead (now fittings) fitted (now sheet) names (now keys) ⌝ }
-    ensures { λ r. ⌜ answerOf r ≡ toldEnd (fittedBy (now (fittings .entry)) fitted) (now (sheet .entry)) (walkNames (now (sheet .entry)) 5 names) leaves first past ⌝ }
+    requires { ⌜ NamesRead (now fittings) fitted (now sheet) names (now keys) × (edition ≤ 2) ⌝ }
+    ensures { λ r. ⌜ answerOf r ≡ toldEnd (fittedBy edition (now (fittings .entry)) fitted) (now (sheet .entry)) (walkNames (now (sheet .entry)) 5 names) leaves first past ⌝ }
 {
-    match sheet_fields::one_field(fittings, fitted, sheet, past, names, keys, true) {
+    match sheet_fields::one_field(edition, fittings, fitted, sheet, past, names, keys, true) {
         Field::End => ReadAnswer::Read {
             names: fitted + names,
             leaves,

@@ -74,4 +74,11 @@ impl Formula {
             Formula::Node(op, left, right) => [left.codes(), right.codes(), vec![op.code()]].concat(),
         }
     }
+    /// The codes with the operation first: "operation, left operand, right operand".
+    pub fn codes_first(&self) -> Vec<u16> {
+        match self {
+            Formula::Shape(shape) => vec![*shape],
+            Formula::Node(op, left, right) => [vec![op.code()], left.codes_first(), right.codes_first()].concat(),
+        }
+    }
 }

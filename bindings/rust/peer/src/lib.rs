@@ -111,6 +111,14 @@ pub fn names(sheets: Sheets, rooms: [usize; 3]) -> Result<Vec<(u8, usize, usize)
     Ok(places)
 }
 
+/// The move of the customer's sheet to the edition that it has not. "An answer list shorter than the sheet is 9, last, place the
+/// sheet's length."
+pub fn move_sheet(sheets: Sheets, room: usize) -> Result<Vec<u8>, Refused> {
+    let sheet = sheet::read(sheets)?;
+    enough([room], [sheets.own.len()])?;
+    Ok(sheet::moved(&sheet, sheets.own))
+}
+
 /// The sheets' formula and its dwarf tree, unless that is too high.
 fn contracted(sheets: Sheets) -> Result<(Sheet, Dwarf), Refused> {
     let sheet = sheet::read(sheets)?;

@@ -1,6 +1,7 @@
 //! Sheets, toggle lists, start rows and crossing lists made from a seed: good, damaged, extreme and long ones.
 
 use crate::lines::Crossing;
+use crate::sheet::Sheets;
 
 /// Numbers from a seed (splitmix64).
 pub struct Dice(u64);
@@ -131,6 +132,15 @@ pub fn sheet<N: AsRef<[u8]>>(names: &[N], codes: &[u16]) -> Vec<u8> {
     bytes
 }
 
+/// The same of edition 2: header value 2, tag 4.
+pub fn sheet_first<N: AsRef<[u8]>>(names: &[N], codes: &[u16]) -> Vec<u8> {
+    let mut bytes = sheet(names, codes);
+    let tag = bytes.len() - 2 * codes.len() - 3;
+    bytes[4] = 2;
+    bytes[tag] = 4;
+    bytes
+}
+
 /// A good sheet, and how many names it has.
 pub fn good_sheet(dice: &mut Dice) -> (Vec<u8>, usize) {
     let count = dice.size(256);
@@ -138,7 +148,16 @@ pub fn good_sheet(dice: &mut Dice) -> (Vec<u8>, usize) {
     let leaves = dice.size(1024);
     let form = dice.of_these(&Form::ALL);
     let names = names(dice, count, longest);
-    (sheet(&names, &codes(dice, count, leaves, form)), count)
+    let own = sheet(&names, &codes(dice, count, leaves, form));
+    (in_either(dice, None, own), count)
+}
+
+/// A good sheet of edition 1, now and then moved to edition 2.
+fn in_either(dice: &mut Dice, fittings: Option<&[u8]>, own: Vec<u8>) -> Vec<u8> {
+    match dice.once_in(3) {
+        true => crate::move_sheet(Sheets { fittings, own: &own }, own.len()).unwrap_or_else(|refused| panic!("a good sheet: {refused:?}")),
+        false => own,
+    }
 }
 
 /// A good fittings sheet, a good sheet beside it, and how many names they have together.
@@ -149,7 +168,9 @@ pub fn good_pair(dice: &mut Dice) -> (Vec<u8>, Vec<u8>, usize) {
     let form = dice.of_these(&Form::ALL);
     let all = names(dice, count, longest);
     let (first, second) = all.split_at(1 + dice.below(count - 1));
-    (fittings(first), sheet(second, &codes(dice, count, leaves, form)), count)
+    let (beside, own) = (fittings(first), sheet(second, &codes(dice, count, leaves, form)));
+    let own = in_either(dice, Some(&beside), own);
+    (beside, own, count)
 }
 
 /// A pair of any kind: a good one, one of which one sheet or both are damaged, or one just past a rule of the pair.

@@ -1,4 +1,4 @@
-//! "The sheet" and "Order of reading", and K7's fittings sheet: refusals 1 to 7 and 17.
+//! "The sheet" and "Order of reading", K7's fittings sheet and K10's edition 2: refusals 1 to 7 and 17. And K10's move.
 
 use crate::formula::{Formula, Op};
 use crate::{refuse, Refused};
@@ -20,6 +20,8 @@ impl<'a> Sheets<'a> {
 
 #[derive(Debug, Clone, PartialEq, Eq)]
 pub struct Sheet {
+    /// The customer's edition, 1 or 2.
+    pub edition: u8,
     /// The joined names: the fittings' first, the customer's after them.
     pub names: Vec<Vec<u8>>,
     pub formula: Formula,
@@ -66,10 +68,11 @@ pub fn read(sheets: Sheets) -> Result<Sheet, Refused> {
     own(fittings, sheets.own).map_err(|refused| Refused { sheet: 2, ..refused })
 }
 
-/// "A header and names, 1 to 256, with no formula": "it must end after its names; ending before the first name is 1".
+/// "A header and names, 1 to 256, with no formula": "it must end after its names; ending before the first name is 1". It "stays at
+/// edition 1 beside either".
 fn fittings(bytes: &[u8]) -> Result<Vec<Vec<u8>>, Refused> {
     let mut reader = Reader { bytes, at: 0 };
-    header(&mut reader)?;
+    header(&mut reader, &[1])?;
     let mut names: Vec<Vec<u8>> = Vec::new();
     while reader.at < bytes.len() || names.is_empty() {
         let tag = reader.at;
@@ -91,7 +94,7 @@ fn fittings(bytes: &[u8]) -> Result<Vec<Vec<u8>>, Refused> {
 /// The customer's sheet. "17, a customer's name equal to a fitting's, stands directly after 5; 6 counts both sheets' names together."
 fn own(mut names: Vec<Vec<u8>>, bytes: &[u8]) -> Result<Sheet, Refused> {
     let mut reader = Reader { bytes, at: 0 };
-    header(&mut reader)?;
+    let edition = header(&mut reader, &[1, 2])?;
     let fittings: HashSet<Vec<u8>> = names.iter().cloned().collect();
     let mut taken = HashSet::new();
     loop {
@@ -108,31 +111,44 @@ fn own(mut names: Vec<Vec<u8>>, bytes: &[u8]) -> Result<Sheet, Refused> {
                 }
                 names.push(name.to_vec());
             }
-            3 if !taken.is_empty() => {
+            // "Tag 4 under edition 1 or tag 3 under edition 2 is 2."
+            kind if kind == formula_tag(edition) && !taken.is_empty() => {
                 let codes = codes(&mut reader, tag)?;
-                let (formula, leaves) = judge(&codes, names.len(), tag)?;
+                let formula = match edition {
+                    1 => judge(&codes, names.len(), tag)?,
+                    _ => judge_first(&codes, names.len(), tag)?,
+                };
                 if reader.at < bytes.len() {
                     return refuse(2, reader.at);
                 }
-                return Ok(Sheet { names, formula, leaves, first: tag + 3, past: reader.at });
+                let leaves = formula.leaves().len();
+                return Ok(Sheet { edition, names, formula, leaves, first: tag + 3, past: reader.at });
             }
             _ => return refuse(2, tag),
         }
     }
 }
 
-/// "Tag 1, once and first: length 2, the edition, 1."
-fn header(reader: &mut Reader) -> Result<(), Refused> {
+/// "For tag 3, tag 4."
+fn formula_tag(edition: u8) -> u8 {
+    match edition {
+        1 => 3,
+        _ => 4,
+    }
+}
+
+/// "Tag 1, once and first: length 2, the edition", one of those that may stand there.
+fn header(reader: &mut Reader, editions: &[u8]) -> Result<u8, Refused> {
     if reader.tag()? != 1 {
         return refuse(2, 0);
     }
     if reader.length()? != 2 {
         return refuse(3, 0);
     }
-    if reader.take(2)? != [0, 1] {
-        return refuse(3, 0);
+    match reader.take(2)? {
+        [0, edition] if editions.contains(edition) => Ok(*edition),
+        _ => refuse(3, 0),
     }
-    Ok(())
 }
 
 /// "A name of 1 to 32 bytes, each 0x21 to 0x7E."
@@ -160,14 +176,12 @@ fn codes(reader: &mut Reader, tag: usize) -> Result<Vec<u16>, Refused> {
     Ok(reader.take(length)?.chunks(2).map(|two| u16::from(two[0]) << 8 | u16::from(two[1])).collect())
 }
 
-/// "Codes are judged left to right", and what they stand for, with the number of leaves.
-fn judge(codes: &[u16], names: usize, tag: usize) -> Result<(Formula, usize), Refused> {
+/// "Codes are judged left to right", and the formula that they stand for.
+fn judge(codes: &[u16], names: usize, tag: usize) -> Result<Formula, Refused> {
     let mut waiting = Vec::new();
-    let mut leaves = 0;
     for (k, code) in codes.iter().enumerate() {
         if usize::from(*code) < names {
             waiting.push(Formula::Shape(*code));
-            leaves += 1;
             continue;
         }
         let (Some(op), Some(right), Some(left)) = (Op::of_code(*code), waiting.pop(), waiting.pop()) else {
@@ -176,7 +190,53 @@ fn judge(codes: &[u16], names: usize, tag: usize) -> Result<(Formula, usize), Re
         waiting.push(Formula::node(op, left, right));
     }
     match <[Formula; 1]>::try_from(waiting) {
-        Ok([formula]) => Ok((formula, leaves)),
+        Ok([formula]) => Ok(formula),
         Err(_) => refuse(7, tag),
     }
+}
+
+/// Edition 2: "7 for a code after the formula is complete (place that code) and for one that ends incomplete (place the tag)". An
+/// unknown code, as in edition 1, is 7 at that code.
+fn judge_first(codes: &[u16], names: usize, tag: usize) -> Result<Formula, Refused> {
+    let place = |k: usize| tag + 3 + 2 * k;
+    // Of each operation that waits for operands: itself, and its left operand once that is there.
+    let mut waiting: Vec<(Op, Option<Formula>)> = Vec::new();
+    let mut complete = None;
+    for (k, code) in codes.iter().enumerate() {
+        if complete.is_some() {
+            return refuse(7, place(k));
+        }
+        if usize::from(*code) >= names {
+            let Some(op) = Op::of_code(*code) else {
+                return refuse(7, place(k));
+            };
+            waiting.push((op, None));
+            continue;
+        }
+        let mut operand = Formula::Shape(*code);
+        complete = loop {
+            match waiting.pop() {
+                None => break Some(operand),
+                Some((op, None)) => {
+                    waiting.push((op, Some(operand)));
+                    break None;
+                }
+                Some((op, Some(left))) => operand = Formula::node(op, left, operand),
+            }
+        };
+    }
+    complete.map_or_else(|| refuse(7, tag), Ok)
+}
+
+/// A sheet in the other edition: the header's value, the formula's tag and the order of its codes change, and nothing else.
+pub fn moved(sheet: &Sheet, bytes: &[u8]) -> Vec<u8> {
+    let (edition, codes) = match sheet.edition {
+        1 => (2, sheet.formula.codes_first()),
+        _ => (1, sheet.formula.codes()),
+    };
+    let mut moved = bytes[..sheet.first].to_vec();
+    moved[4] = edition;
+    moved[sheet.first - 3] = formula_tag(edition);
+    moved.extend(codes.into_iter().flat_map(u16::to_be_bytes));
+    moved
 }

@@ -197,7 +197,7 @@ fn refusals_of_reading() {
     assert_eq!(read(&[1, 0]), refused(1, 2));
     assert_eq!(read(&[1, 0, 3]), refused(3, 0));
     assert_eq!(read(&[1, 0, 2, 0]), refused(1, 4));
-    assert_eq!(read(&[1, 0, 2, 0, 2]), refused(3, 0));
+    assert_eq!(read(&[1, 0, 2, 0, 3]), refused(3, 0));
     assert_eq!(with(&[]), refused(1, 5));
     assert_eq!(with(&header), refused(2, 5));
     assert_eq!(with(&[3, 0, 2, 0, 0]), refused(2, 5));

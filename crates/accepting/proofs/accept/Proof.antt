@@ -1,5 +1,5 @@
 -- `accepting::accept` meets its contract: a sheet is refused, or the sheets are accepted.
-use Rattle.accepting.proofs.PreparedLaws.{sheet-refused, sheet-unfit, ordered, inside, fit, coded-given}
+use Rattle.accepting.proofs.PreparedLaws.{sheet-refused, sheet-unfit, ordered, inside, headed, fit, coded-given}
 use borrow.Author.Needs.{needs}
 use Rattle.accepting.proofs.accept.Statement.{statement}
 use Rattle.accepting.proofs.accept.Tie as tie
@@ -15,6 +15,9 @@ enum-known-number-2 c = search needs
 
 enum-known-names : tie.Need-enum-known-names
 enum-known-names c = search needs
+
+shared-slice-read-fill-codes : tie.Need-shared-slice-read-fill-codes
+shared-slice-read-fill-codes c = search headed
 
 sub-fill-codes : tie.Need-sub-fill-codes
 sub-fill-codes c = search ordered
@@ -45,6 +48,7 @@ accept-spec =
     enum-known-number
     enum-known-number-2
     enum-known-names
+    shared-slice-read-fill-codes
     sub-fill-codes
     part-fill-codes-start
     part-fill-codes-end

@@ -1,6 +1,6 @@
 -- `sheet_fields::header` meets its contract: at each return the tests that led there answer the definition's questions one by one.
 use Rattle.sheet.specs.Sheet as paper
-use Rattle.sheet_fields.proofs.Asked.{asked, header-wrong, header-good}
+use Rattle.sheet_fields.proofs.Asked.{asked, header-low, header-high, header-good}
 use borrow.Author.Needs.{needs}
 use Rattle.sheet_fields.proofs.header.Statement.{statement}
 use Rattle.sheet_fields.proofs.header.Tie as tie
@@ -44,10 +44,13 @@ two-requires-2 : tie.Need-two-requires-2
 two-requires-2 c κs = search needs
 
 returns-6 : tie.Need-returns-6
-returns-6 c = search header-wrong
+returns-6 c = search header-low
 
 returns-7 : tie.Need-returns-7
-returns-7 c = search header-good
+returns-7 c = search header-high
+
+returns-8 : tie.Need-returns-8
+returns-8 c = search header-good
 
 pub header-spec : {M : Type 1} → statement M
 header-spec =
@@ -65,4 +68,5 @@ header-spec =
     part-two-end
     two-requires-2
     returns-6
-    returns-7)
+    returns-7
+    returns-8)

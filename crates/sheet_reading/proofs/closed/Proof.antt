@@ -10,8 +10,8 @@ one-field-requires c κs = search needs
 enum-told : tie.Need-enum-told
 enum-told c = search needs
 
-add-t13 : tie.Need-add-t13
-add-t13 c = search needs
+add-t14 : tie.Need-add-t14
+add-t14 c = search needs
 
 enum-known-number : tie.Need-enum-known-number
 enum-known-number c = search needs
@@ -40,7 +40,7 @@ closed-spec =
     (tie.spec
     one-field-requires
     enum-told
-    add-t13
+    add-t14
     enum-known-number
     enum-told-2
     enum-told-3

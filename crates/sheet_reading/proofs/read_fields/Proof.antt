@@ -11,12 +11,12 @@ use Rattle.sheet_reading.proofs.read_fields.Statement.{statement}
 use Rattle.sheet_reading.proofs.read_fields.Tie as tie
 
 abbrev Inv-loop : tie.InvT-loop
-Inv-loop fittings fitted sheet keys₀ at₀ names₀ keys at names =
+Inv-loop edition fittings fitted sheet keys₀ at₀ names₀ keys at names =
     NamesRead fittings fitted sheet names keys × (at ≡ walkEnd sheet 5 names)
-    × (toldFrom (fittedBy fittings fitted) 257 sheet 5 [] ≡ toldFrom (fittedBy fittings fitted) (257 - names) sheet at (walkNames sheet 5 names))
+    × (toldFrom (fittedBy edition fittings fitted) 257 sheet 5 [] ≡ toldFrom (fittedBy edition fittings fitted) (257 - names) sheet at (walkNames sheet 5 names))
 
 abbrev μ-loop : tie.MeasureT-loop
-μ-loop fittings fitted sheet keys₀ at₀ names₀ keys at names = 257 - names
+μ-loop edition fittings fitted sheet keys₀ at₀ names₀ keys at names = 257 - names
 
 loop-holds : tie.Need-loop-holds Inv-loop μ-loop
 unfolding walkEnd walkNames

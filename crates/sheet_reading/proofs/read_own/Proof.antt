@@ -1,5 +1,5 @@
 -- `sheet_reading::read_own` meets its contract.
-use Rattle.sheet_reading.proofs.Reading.{beside-known, head-good, head-refused}
+use Rattle.sheet_reading.proofs.Reading.{beside-known, head-edition, head-good, head-refused}
 use borrow.Author.Needs.{needs}
 use Rattle.sheet_reading.proofs.read_own.Statement.{statement}
 use Rattle.sheet_reading.proofs.read_own.Tie as tie
@@ -7,11 +7,11 @@ use Rattle.sheet_reading.proofs.read_own.Tie as tie
 header-requires : tie.Need-header-requires
 header-requires c κs = search needs
 
-enum-told : tie.Need-enum-told
-enum-told c = search needs
+enum-known-edition : tie.Need-enum-known-edition
+enum-known-edition c = search needs
 
 read-fields-requires : tie.Need-read-fields-requires
-read-fields-requires c κs = search beside-known
+read-fields-requires c κs = (search beside-known, search head-edition)
 
 enum-known-number : tie.Need-enum-known-number
 enum-known-number c = search needs
@@ -27,7 +27,7 @@ read-own-spec =
     tie.close
     (tie.spec
     header-requires
-    enum-told
+    enum-known-edition
     read-fields-requires
     enum-known-number
     returns

@@ -1,4 +1,4 @@
-//! The command: sheets and CSV lists in, CSV out.
+//! The command: sheets and CSV lists in, CSV or a moved sheet out.
 
 mod csv;
 mod drawing;
@@ -29,7 +29,7 @@ enum Stop {
 
 fn main() -> ExitCode {
     let args: Vec<String> = std::env::args_os().skip(1).map(|arg| arg.to_string_lossy().into_owned()).collect();
-    let stop = match answer(&args.iter().map(String::as_str).collect::<Vec<_>>()).and_then(|text| out(&text)) {
+    let stop = match answer(&args.iter().map(String::as_str).collect::<Vec<_>>()).and_then(|answer| out(&answer)) {
         Ok(()) => return ExitCode::SUCCESS,
         Err(stop) => stop,
     };
@@ -40,7 +40,7 @@ fn main() -> ExitCode {
             return ExitCode::from(1);
         }
         Stop::Foundries(text, refused) => {
-            let _ = out(&text);
+            let _ = out(text.as_bytes());
             for (foundry, refusal, about) in refused {
                 eprintln!("wallcheck: foundry {foundry}: {refusal}");
                 about.iter().for_each(|about| eprintln!("  {about}"));
@@ -54,9 +54,17 @@ fn main() -> ExitCode {
     ExitCode::from(2)
 }
 
-/// What a command line answers.
-fn answer(args: &[&str]) -> Result<String, Stop> {
+/// What a command line answers: a sheet, or text.
+fn answer(args: &[&str]) -> Result<Vec<u8>, Stop> {
     let (fittings, args) = without_fittings(args)?;
+    match *args {
+        ["move", sheet] => moved(Files::of(fittings, sheet)?),
+        ["move", ..] => Err(Stop::Usage("'move' takes one file: SHEET".into())),
+        _ => told(fittings, &args).map(String::into_bytes),
+    }
+}
+
+fn told(fittings: Option<&str>, args: &[&str]) -> Result<String, Stop> {
     match *args {
         ["--help" | "-h" | "help", ..] => Ok(HELP.into()),
         ["--version" | "-V"] => Ok(concat!("wallcheck ", env!("CARGO_PKG_VERSION"), "\n").into()),
@@ -112,6 +120,11 @@ fn read(files: Files) -> Result<String, Stop> {
     let sheets = files.sheets();
     let read = kressedach::read(sheets).map_err(|refusal| of_sheet(sheets, refusal))?;
     Ok(format!("names,leaves,first,past\n{},{},{},{}\n", read.names, read.leaves, read.formula.start, read.formula.end))
+}
+
+fn moved(files: Files) -> Result<Vec<u8>, Stop> {
+    let sheets = files.sheets();
+    kressedach::move_sheet(sheets).map_err(|refusal| of_sheet(sheets, refusal))
 }
 
 fn names(files: Files) -> Result<String, Stop> {
@@ -285,9 +298,9 @@ fn shown(path: &str) -> String {
     if path == "-" { "standard input" } else { path }.into()
 }
 
-fn out(text: &str) -> Result<(), Stop> {
+fn out(answer: &[u8]) -> Result<(), Stop> {
     let mut stdout = io::stdout().lock();
-    stdout.write_all(text.as_bytes()).and_then(|()| stdout.flush()).map_err(|e| match e.kind() {
+    stdout.write_all(answer).and_then(|()| stdout.flush()).map_err(|e| match e.kind() {
         io::ErrorKind::BrokenPipe => Stop::Gone,
         _ => Stop::File("standard output".into(), e.to_string()),
     })

@@ -1,0 +1,31 @@
+-- Dwarf listings, toggles and walls of a moved sheet are unchanged: document 02, K10.
+use Prim.Native.Nat.{ℕ}
+use mathlib.Core.Path.{_≡_}
+use mathlib.Core.List.{List}
+use Rattle.outcome.specs.Outcome.{given}
+use Rattle.sheet.specs.Sheet.{Sheets, Sheet, reading}
+use Rattle.accepting.specs.Accepting.{accepted}
+use Rattle.accepting.proofs.Accepted.{accepted-given}
+use Rattle.lines.specs.Lines.{LineLists, AnswerLists}
+use Rattle.job_build.specs.Building.{building}
+use Rattle.job_run.specs.Running.{running}
+use Rattle.job_classify.specs.Classifying.{classifying}
+use Rattle.job_move.specs.Moving.{other}
+use Rattle.job_move.proofs.Journey.{inEdition, movedIn, reading-moves}
+
+module _ (c : Sheets) (r : Sheet) (read : reading c ≡ given r) where
+  -- A moved sheet is accepted.
+  pub moved-accepted : accepted (movedIn c r) ≡ given (inEdition (other (r .edition)) r)
+  moved-accepted = accepted-given (movedIn c r) (inEdition (other (r .edition)) r) (reading-moves c r read)
+
+  pub build-moved : (kinds firsts seconds : ℕ) → building (movedIn c r) kinds firsts seconds ≡ building c kinds firsts seconds
+  unfolding building
+  build-moved kinds firsts seconds = rw (moved-accepted, accepted-given c r read)
+
+  pub run-moved : (toggles : List ℕ) (roots counts labels : ℕ) → running (movedIn c r) toggles roots counts labels ≡ running c toggles roots counts labels
+  unfolding running
+  run-moved toggles roots counts labels = rw (moved-accepted, accepted-given c r read)
+
+  pub classify-moved : (lines : LineLists) (lent : AnswerLists) → classifying (movedIn c r) lines lent ≡ classifying c lines lent
+  unfolding classifying
+  classify-moved lines lent = rw (moved-accepted, accepted-given c r read)

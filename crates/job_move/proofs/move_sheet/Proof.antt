@@ -1,0 +1,50 @@
+-- `job_move::move_sheet` meets its contract: the sheets are refused, the list is too short, or the moved sheet is given.
+use Rattle.job_move.proofs.MoveLaws.{move-refused, move-unfit, move-short, movable, move-given}
+use borrow.Author.Needs.{needs}
+use Rattle.job_move.proofs.move_sheet.Statement.{statement}
+use Rattle.job_move.proofs.move_sheet.Tie as tie
+
+accept-requires : tie.Need-accept-requires
+accept-requires c κs = search needs
+
+enum-known-number : tie.Need-enum-known-number
+enum-known-number c = search needs
+
+enum-known-number-2 : tie.Need-enum-known-number-2
+enum-known-number-2 c = search needs
+
+enum-known-n : tie.Need-enum-known-n
+enum-known-n c = search needs
+
+returns : tie.Need-returns
+returns c = search move-short
+
+give-moved-requires : tie.Need-give-moved-requires
+give-moved-requires c κs = search (movable, needs)
+
+returns-2 : tie.Need-returns-2
+returns-2 c = search move-refused
+
+returns-3 : tie.Need-returns-3
+returns-3 c = search move-unfit
+
+same-length : tie.Need-same-length
+same-length c = search needs
+
+returns-4 : tie.Need-returns-4
+returns-4 c = search (move-given, needs)
+
+pub move-sheet-spec : {M : Type 1} → statement M
+move-sheet-spec =
+    tie.close
+    (tie.spec
+    accept-requires
+    enum-known-number
+    enum-known-number-2
+    enum-known-n
+    returns
+    give-moved-requires
+    returns-2
+    returns-3
+    same-length
+    returns-4)

@@ -1,0 +1,45 @@
+-- What the functions of the move promise each other.
+use Prim.Native.Nat.{ℕ, _+_, _*_, _≤_}
+use mathlib.Core.Path.{_≡_}
+use mathlib.Core.List.{List}
+use lib.ListN.{length, take}
+use lib.Seq.{sets}
+use Rattle.outcome.specs.Lent.{filled}
+use Rattle.formula.specs.Formula.{firstOperation, Formula, postfix, Over}
+use Rattle.sheet.specs.Sheet.{Sheet, codesIn}
+use Rattle.sheet.specs.Guaranteed.{Own}
+use Rattle.sheet_laying.specs.Bytes.{codeBytes}
+use Rattle.job_move.specs.Moving.{other, moved}
+
+-- The first n codes of an array are those of the formula f, in postfix order.
+pub record Stand (codes : List ℕ) (n : ℕ) (f : Formula) : Type 0 where
+  pub are : take n codes ≡ postfix f
+  pub over : Over firstOperation f
+  pub few : n ≤ 2047
+  pub sized : length codes ≡ 2048
+
+-- ---- a formula put into bytes
+
+pub record Puttable (codes : List ℕ) (n : ℕ) (bytes : List ℕ) (at : ℕ) : Type 0 where
+  pub formula : Formula
+  pub stand : Stand codes n formula
+  pub fits : at + 2 * n ≤ length bytes
+
+pub record PutIn (edition : ℕ) (codes : List ℕ) (n : ℕ) (old new : List ℕ) (at : ℕ) : Type 0 where
+  pub long : length new ≡ length old
+  pub are : (f : Formula) → Stand codes n f → new ≡ sets old at (codeBytes (codesIn (other edition) f))
+
+-- ---- a sheet that is read, given in the other edition
+
+pub record Held (s codes : List ℕ) (n : ℕ) (r : Sheet) : Type 0 where
+  pub fittings : List (List ℕ)
+  pub own : Own fittings s r
+  pub stand : Stand codes n (r .formula)
+
+pub record Movable (s codes : List ℕ) (n : ℕ) (lent : List ℕ) : Type 0 where
+  pub sheet : Sheet
+  pub held : Held s codes n sheet
+  pub room : length s ≤ length lent
+
+pub record MovedTo (s codes : List ℕ) (n : ℕ) (old new : List ℕ) : Type 0 where
+  pub are : (r : Sheet) → Held s codes n r → new ≡ filled (moved s r) old

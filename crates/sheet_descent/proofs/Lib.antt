@@ -1,0 +1,2 @@
+pub mod Descending
+pub mod Judged
