@@ -8,7 +8,6 @@ use Rattle.outcome.specs.Outcome.{given, part}
 use Rattle.formula.specs.Formula.{union, intersection, difference, exclusive, Formula, leaf, node, postfix}
 use Rattle.formula.specs.States.{times}
 use Rattle.contraction.specs.Records.{number}
-use Rattle.contraction.specs.Rounds.{dwarf}
 use Rattle.sheet.specs.Sheet.{alone, lengthAt, pastAt, bytesAt, allGood, same, taken, codesOf, allCodes, formulaOf, formulaIn, header, nameAt, formulaAt, fieldAt, fields, own, reading}
 use Rattle.accepting.specs.Accepting.{accepted}
 use Rattle.toggles.specs.Toggles.{Answers, answers}
@@ -81,7 +80,7 @@ pub data Case : Type 0 where
 abbrev pub Holds : Case → Type 0
 Holds (bytes s b) = s ≡ b
 Holds (builds s n) = part summaryOf (building (alone s) room room room) ≡ given n
-Holds (lists s rs) = part (λ f. map (λ r. (number (r .kind), r .first, r .second)) (dwarf f)) (building (alone s) room room room) ≡ given rs
+Holds (lists s rs) = part (λ t. map (λ r. (number (r .kind), r .first, r .second)) (t .records)) (building (alone s) room room room) ≡ given rs
 Holds (runs s ts a) = running (alone s) ts room room room ≡ given a
 Holds (walls s row xs ws) =
     classifying (alone s) (lineLists row (map (λ x. 0) xs) (map (λ x. x .0) xs) (map (λ x. x .1) xs)) (answerLists lentNumbers lentPlaces lentPlaces lentNumbers lentNumbers)

@@ -4,7 +4,6 @@ use mathlib.Core.Path.{_≡_, sym, ap, _∙_}
 use mathlib.Core.List.{List}
 use borrow.Author.Tests.{le-leb, lt-leb, eq-eqb, ne-eqb}
 use Rattle.outcome.specs.Outcome.{Outcome, given, refused, unfit}
-use Rattle.formula.specs.Formula.{Formula}
 use Rattle.sheet.specs.Sheet.{Sheets}
 use Rattle.sheet_reading.specs.Reading.{Numbers, numbers, answerOf}
 use Rattle.sheet_reading.specs.declared.ReadAnswer.{ReadAnswer}
@@ -20,7 +19,7 @@ use Rattle.job_names.specs.declared.NamesAnswer.the-variants as names
 use Rattle.job_move.specs.Moved.{lengthOf, Moved}
 use Rattle.job_move.specs.declared.MoveAnswer.{MoveAnswer}
 use Rattle.job_move.specs.declared.MoveAnswer.the-variants as move
-use Rattle.job_build.specs.Building.{Summary, summary}
+use Rattle.job_build.specs.Building.{DwarfTree, Summary, summary}
 use Rattle.job_build.specs.Built.{builtOf, Built}
 use Rattle.toggles.specs.Toggles.{Answers}
 use Rattle.job_run.specs.Ran.{ranOf, Ran}
@@ -108,7 +107,7 @@ module _ {o : Outcome (List ℕ)} {bs : List ℕ} {a : MoveAnswer} {bs′ : List
   pub move-unfit : {k p : ℕ} → a ≡ move.Unfit k p → MoveReported o bs (moveReport (unfit k p)) bs′
   move-unfit {k} {p} is = move-as (unfit k p) (ap lengthOf is)
 
-module _ {o : Outcome Formula} {ks fs ss : List ℕ} {a : BuildAnswer} {ks′ fs′ ss′ : List ℕ} (built : Built o ks fs ss a ks′ fs′ ss′) where
+module _ {o : Outcome DwarfTree} {ks fs ss : List ℕ} {a : BuildAnswer} {ks′ fs′ ss′ : List ℕ} (built : Built o ks fs ss a ks′ fs′ ss′) where
   build-as : (v : Outcome Summary) → builtOf a ≡ v → BuildReported o ks fs ss (buildReport v) ks′ fs′ ss′
   build-as v is =
       record {

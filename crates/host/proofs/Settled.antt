@@ -9,7 +9,6 @@ use lib.ListN.{length}
 use Rattle.outcome.specs.Outcome.{Outcome, given, refused, unfit, part}
 use Rattle.outcome.specs.Numbered.{Numbered}
 use Rattle.outcome.proofs.NumberedLaws.{part-numbered}
-use Rattle.formula.specs.Formula.{Formula}
 use Rattle.sheet.specs.Sheet.{Sheets, reading}
 use Rattle.sheet_reading.specs.Reading.{Numbers, numbersOf, told}
 use Rattle.sheet.proofs.Numbered.{reading-numbered}
@@ -21,7 +20,7 @@ use Rattle.job_names.specs.Names.{namingAll}
 use Rattle.job_names.proofs.Settled.{names-numbered}
 use Rattle.job_move.specs.Moving.{moving}
 use Rattle.job_move.proofs.Settled.{move-numbered}
-use Rattle.job_build.specs.Building.{Summary, summaryOf, building}
+use Rattle.job_build.specs.Building.{DwarfTree, Summary, summaryOf, building}
 use Rattle.job_build.proofs.Settled.{build-numbered}
 use Rattle.toggles.specs.Toggles.{Answers}
 use Rattle.job_run.specs.Running.{running}
@@ -70,7 +69,7 @@ names-report-unique o ss fs ps r q ss₁ fs₁ ps₁ ss₂ fs₂ ps₂ a b = (
 pub move-report-unique : (o : Outcome (List ℕ)) (bs : List ℕ) (r q : MoveReport) (bs₁ bs₂ : List ℕ) → MoveReported o bs r bs₁ → MoveReported o bs q bs₂ → (r ≡ q) × (bs₁ ≡ bs₂)
 move-report-unique o bs r q bs₁ bs₂ a b = (a .report ∙ sym (b .report), a .list ∙ sym (b .list))
 
-pub build-report-unique : (o : Outcome Formula) (ks fs ss : List ℕ) (r q : BuildReport) (ks₁ fs₁ ss₁ ks₂ fs₂ ss₂ : List ℕ)
+pub build-report-unique : (o : Outcome DwarfTree) (ks fs ss : List ℕ) (r q : BuildReport) (ks₁ fs₁ ss₁ ks₂ fs₂ ss₂ : List ℕ)
     → BuildReported o ks fs ss r ks₁ fs₁ ss₁ → BuildReported o ks fs ss q ks₂ fs₂ ss₂ → (r ≡ q) × (ks₁ ≡ ks₂) × (fs₁ ≡ fs₂) × (ss₁ ≡ ss₂)
 build-report-unique o ks fs ss r q ks₁ fs₁ ss₁ ks₂ fs₂ ss₂ a b = (
   a .report ∙ sym (b .report),

@@ -10,14 +10,13 @@ use lib.IntN.{ℤ}
 use lib.ListN.{length}
 use Rattle.outcome.specs.Outcome.{Outcome, given, refused, unfit, part}
 use Rattle.outcome.specs.Lent.{afterCall}
-use Rattle.formula.specs.Formula.{Formula}
 use Rattle.sheet.specs.Sheet.{Sheets}
 use Rattle.sheet_reading.specs.Reading.{Numbers, numbers}
 use Rattle.lines.specs.Lines.{AnswerLists, Wall}
 use Rattle.lines.specs.Given.{WallLists}
 use Rattle.job_name.specs.Naming.{Stand, stand}
 use Rattle.job_names.specs.NamedAll.{NameLists}
-use Rattle.job_build.specs.Building.{Summary, summary, summaryOf}
+use Rattle.job_build.specs.Building.{DwarfTree, Summary, summary, summaryOf}
 use Rattle.job_build.specs.Built.{BuiltLists}
 use Rattle.toggles.specs.Toggles.{Answers}
 use Rattle.job_run.specs.Ran.{RanLists}
@@ -105,7 +104,7 @@ pub record MoveReported (o : Outcome (List ℕ)) (moved : List ℕ) (r : MoveRep
   pub report : r ≡ moveReport (part length o)
   pub list : moved′ ≡ afterCall o moved
 
-pub record BuildReported (o : Outcome Formula) (kinds firsts seconds : List ℕ) (r : BuildReport) (kinds′ firsts′ seconds′ : List ℕ) : Type 0 where
+pub record BuildReported (o : Outcome DwarfTree) (kinds firsts seconds : List ℕ) (r : BuildReport) (kinds′ firsts′ seconds′ : List ℕ) : Type 0 where
   pub report : r ≡ buildReport (part summaryOf o)
   pub lists : BuiltLists o kinds firsts seconds kinds′ firsts′ seconds′
 

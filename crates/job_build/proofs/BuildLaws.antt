@@ -16,28 +16,28 @@ use Rattle.accepting.specs.Accepting.{accepted}
 use Rattle.accepting.specs.Prepared.{Stands, Says}
 use Rattle.accepting.specs.declared.Prepared.{Prepared}
 use Rattle.accepting.specs.declared.Prepared.the-variants as prepared
-use Rattle.job_build.specs.Building.{giving, building, summary, summaryOf}
+use Rattle.job_build.specs.Building.{DwarfTree, dwarfTree, giving, building, summary, summaryOf}
 use Rattle.job_build.specs.Built.{Built}
 use Rattle.job_build.specs.declared.BuildAnswer.{BuildAnswer}
 use Rattle.job_build.specs.declared.BuildAnswer.the-variants as answer
 
 -- a refusal met: the answer is that refusal, and the lists are as lent
-build-refused : (o : Outcome Formula) (ks fs ss : List ℕ) (number place : ℕ) → o ≡ refused number place
+build-refused : (o : Outcome DwarfTree) (ks fs ss : List ℕ) (number place : ℕ) → o ≡ refused number place
     → Built o ks fs ss (answer.Refused number place) ks fs ss
 build-refused o ks fs ss number place is =
     record { answer = rw is; lists = record { kinds-list = rw is; firsts-list = rw is; seconds-list = rw is } }
 
-build-unfit : (o : Outcome Formula) (ks fs ss : List ℕ) (number place : ℕ) → o ≡ unfit number place
+build-unfit : (o : Outcome DwarfTree) (ks fs ss : List ℕ) (number place : ℕ) → o ≡ unfit number place
     → Built o ks fs ss (answer.Unfit number place) ks fs ss
 build-unfit o ks fs ss number place is =
     record { answer = rw is; lists = record { kinds-list = rw is; firsts-list = rw is; seconds-list = rw is } }
 
-summary-is : (g : Formula) (k f e : List ℕ) (b : Figures) → Dwarfed g k f e b → summary (b .leaves) (b .nodes) (b .rounds) (b .height) ≡ summaryOf g
+summary-is : (g : Formula) (k f e : List ℕ) (b : Figures) → Dwarfed g k f e b → summary (b .leaves) (b .nodes) (b .rounds) (b .height) ≡ summaryOf (dwarfTree g)
 summary-is g k f e b d = rw (d .leaves-are, d .nodes-are, d .rounds-are, d .height-is)
 
 -- the answer lists are judged, and what is built is given
 module _ (k f e : List ℕ) (b : Figures) (ks fs ss : List ℕ) where
-  abbrev asked : Formula → Outcome Formula
+  abbrev asked : Formula → Outcome DwarfTree
   asked g = giving g (length ks) (length fs) (length ss)
 
   pub kinds-short : length ks < b .nodes → (g : Formula) → Dwarfed g k f e b → Built (asked g) ks fs ss (answer.Refused 9 (b .nodes)) ks fs ss
@@ -57,7 +57,7 @@ module _ (k f e : List ℕ) (b : Figures) (ks fs ss : List ℕ) where
       → (g : Formula) → Dwarfed g k f e b → Built (asked g) ks fs ss (answer.Built (b .leaves) (b .nodes) (b .rounds) (b .height)) ks′ fs′ ss′
   unfolding giving
   all-given h i j ks′ fs′ ss′ hk hf hs g d =
-      let is : asked g ≡ given g = rw (← (d .nodes-are), le-leb _ _ h, le-leb _ _ i, le-leb _ _ j) in
+      let is : asked g ≡ given (dwarfTree g) = rw (← (d .nodes-are), le-leb _ _ h, le-leb _ _ i, le-leb _ _ j) in
       record {
         answer = rw is (ap given (summary-is g k f e b d));
         lists =

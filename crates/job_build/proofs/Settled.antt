@@ -8,12 +8,11 @@ use Rattle.outcome.specs.Numbered.{Numbered}
 use Rattle.outcome.proofs.Questions.{part-refused, part-unfit, then-given, bind-given, given-same}
 use Rattle.outcome.proofs.NumberedLaws.{given-numbered, room-asks, bind-numbered}
 use Rattle.outcome.proofs.Known.{known-by}
-use Rattle.formula.specs.Formula.{Formula}
 use Rattle.contraction.specs.Rounds.{dwarf}
 use Rattle.sheet.specs.Sheet.{Sheets, Sheet}
 use Rattle.accepting.specs.Accepting.{accepted}
 use Rattle.accepting.proofs.Accepted.{accepted-numbered}
-use Rattle.job_build.specs.Building.{giving, building, Summary, summary, summaryOf}
+use Rattle.job_build.specs.Building.{DwarfTree, dwarfTree, giving, building, Summary, summary, summaryOf}
 use Rattle.job_build.specs.Built.{builtOf, Built}
 use Rattle.job_build.specs.declared.BuildAnswer.{BuildAnswer}
 use Rattle.job_build.specs.declared.BuildAnswer.the-variants as answer
@@ -31,7 +30,7 @@ builtOf-same = known-by builtOf back same
     same (answer.Refused number place) = refl
     same (answer.Unfit number place) = refl
 
-module _ (o : Outcome Formula) (ks fs ss : List ℕ) where
+module _ (o : Outcome DwarfTree) (ks fs ss : List ℕ) where
   pub build-unique : (r q : BuildAnswer) (ks₁ fs₁ ss₁ ks₂ fs₂ ss₂ : List ℕ) → Built o ks fs ss r ks₁ fs₁ ss₁ → Built o ks fs ss q ks₂ fs₂ ss₂
       → (r ≡ q) × (ks₁ ≡ ks₂) × (fs₁ ≡ fs₂) × (ss₁ ≡ ss₂)
   build-unique r q ks₁ fs₁ ss₁ ks₂ fs₂ ss₂ a b = (
@@ -65,11 +64,11 @@ unfolding building giving
 build-numbered s kinds firsts seconds = bind-numbered (accepted s) _ (accepted-numbered s) (λ x. search (room-asks, given-numbered))
 
 -- A job that answers has accepted the sheet, and it is the sheet's formula that is built.
-pub built-accepted : (s : Sheets) (a b c : ℕ) (f : Formula) → building s a b c ≡ given f → (x : Sheet) × (accepted s ≡ given x) × (x .formula ≡ f)
+pub built-accepted : (s : Sheets) (a b c : ℕ) (t : DwarfTree) → building s a b c ≡ given t → (x : Sheet) × (accepted s ≡ given x) × (dwarfTree (x .formula) ≡ t)
 unfolding building giving
-built-accepted s a b c f is =
-    let x = bind-given (accepted s) (λ (y : Sheet). giving (y .formula) a b c) f is in
+built-accepted s a b c t is =
+    let x = bind-given (accepted s) (λ (y : Sheet). giving (y .formula) a b c) t is in
     let g = x .0 .formula in
     let n = length (dwarf g) in
-    let rest = then-given (room n b) _ f (then-given (room n a) _ f (x .2) .2) .2 in
-    (x .0, x .1, given-same g f (then-given (room n c) (given g) f rest .2))
+    let rest = then-given (room n b) _ t (then-given (room n a) _ t (x .2) .2) .2 in
+    (x .0, x .1, given-same (dwarfTree g) t (then-given (room n c) (given (dwarfTree g)) t rest .2))

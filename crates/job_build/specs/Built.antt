@@ -4,10 +4,8 @@ use mathlib.Core.Path.{_≡_}
 use mathlib.Core.List.{List}
 use Rattle.outcome.specs.Outcome.{Outcome, given, refused, unfit, part}
 use Rattle.outcome.specs.Lent.{afterCall}
-use Rattle.formula.specs.Formula.{Formula}
 use Rattle.contraction.specs.Records.{kindsOf, firstsOf, secondsOf}
-use Rattle.contraction.specs.Rounds.{dwarf}
-use Rattle.job_build.specs.Building.{Summary, summary, summaryOf}
+use Rattle.job_build.specs.Building.{DwarfTree, Summary, summary, summaryOf}
 use Rattle.job_build.specs.declared.BuildAnswer.{BuildAnswer}
 use Rattle.job_build.specs.declared.BuildAnswer.the-variants as answer
 
@@ -17,12 +15,12 @@ builtOf (answer.Refused number place) = refused number place
 builtOf (answer.Unfit number place) = unfit number place
 
 -- Of the job's outcome and the lists as lent: the lists after the call.
-pub record BuiltLists (o : Outcome Formula) (kinds firsts seconds kinds′ firsts′ seconds′ : List ℕ) : Type 0 where
-  pub kinds-list : kinds′ ≡ afterCall (part (λ f. kindsOf (dwarf f)) o) kinds
-  pub firsts-list : firsts′ ≡ afterCall (part (λ f. firstsOf (dwarf f)) o) firsts
-  pub seconds-list : seconds′ ≡ afterCall (part (λ f. secondsOf (dwarf f)) o) seconds
+pub record BuiltLists (o : Outcome DwarfTree) (kinds firsts seconds kinds′ firsts′ seconds′ : List ℕ) : Type 0 where
+  pub kinds-list : kinds′ ≡ afterCall (part (λ t. kindsOf (t .records)) o) kinds
+  pub firsts-list : firsts′ ≡ afterCall (part (λ t. firstsOf (t .records)) o) firsts
+  pub seconds-list : seconds′ ≡ afterCall (part (λ t. secondsOf (t .records)) o) seconds
 
 -- And the answer r.
-pub record Built (o : Outcome Formula) (kinds firsts seconds : List ℕ) (r : BuildAnswer) (kinds′ firsts′ seconds′ : List ℕ) : Type 0 where
+pub record Built (o : Outcome DwarfTree) (kinds firsts seconds : List ℕ) (r : BuildAnswer) (kinds′ firsts′ seconds′ : List ℕ) : Type 0 where
   pub answer : builtOf r ≡ part summaryOf o
   pub lists : BuiltLists o kinds firsts seconds kinds′ firsts′ seconds′
