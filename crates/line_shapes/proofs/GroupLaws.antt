@@ -23,7 +23,7 @@ use Rattle.lines.proofs.Keys.{yes-leK, ltZ-not, lt→no, lt→le, leZ-self, lt-
 use Rattle.lines.proofs.Items.{judged-ascending}
 use Rattle.lines.proofs.Lowest.{lowest-is}
 use Rattle.lines.proofs.Crossings.{crossed-in, crossed-out}
-use Rattle.line_shapes.specs.Groups.{stateOf, aside, GroupStart, GroupEnd, GroupShape, FewShapes, Least, Tallied}
+use Rattle.line_shapes.specs.Groups.{stateOf, aside, GroupStart, FirstThere, GroupEnd, GroupShape, FewShapes, Least, Tallied}
 use Rattle.line_shapes.proofs.TallyLaws.{none-inside, least-lowest}
 
 -- ---- the crossings that pass a test, by their index
@@ -288,3 +288,17 @@ module _ {ls : List ℕ} {ps : List ℤ} {i g : ℕ} (b : Back ls ps i g) where
         by : (k : ℕ) → g - 1 ≤ k → k ≤ i → Dec (k < g) → aside ls ps k i ≡ false
         by k lo hi (yes q) = let z : k ≡ g - 1 = omega arith in rw (z, eq-eqb _ _ same) (sym is ∙ h)
         by k lo hi (no q) = b .together k (omega arith) hi
+
+-- ---- the first at its position
+
+pub group-alone : {ls : List ℕ} {ps : List ℤ} {ss : List ℕ} {i : ℕ} {r : Bool} → GroupEnd ls ps ss i → FirstThere ls ps i r → r ≡ true → GroupShape ls ps ss i (getD ss i 0)
+group-alone end there h = group-one end (there .first h) refl
+
+pub first-of-all : {ls : List ℕ} {ps : List ℤ} {i : ℕ} → i ≡ 0 → FirstThere ls ps i true
+first-of-all h = record { first = λ z. back-end back-start (omega arith) }
+
+pub first-of-line : {ls : List ℕ} {ps : List ℤ} {i : ℕ} → (getD ls (i - 1) 0 ≡ getD ls i 0 → ⊥) → FirstThere ls ps i true
+first-of-line h = record { first = λ z. back-line back-start h }
+
+pub first-by-place : {ls : List ℕ} {ps : List ℤ} {i : ℕ} {short : Bool} → getD ls (i - 1) 0 ≡ getD ls i 0 → short ≡ ltZ (getD ps (i - 1) (pos 0)) (getD ps i (pos 0)) → FirstThere ls ps i short
+first-by-place same is = record { first = λ h. back-place back-start same is h }

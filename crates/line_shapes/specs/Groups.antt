@@ -27,6 +27,10 @@ pub record GroupStart (ls : List ℕ) (ps : List ℤ) (i g : ℕ) : Type 0 where
   pub together : (k : ℕ) → g ≤ k → k ≤ i → aside ls ps k i ≡ false
   pub first : 0 < g → aside ls ps (g - 1) i ≡ true
 
+-- where r is so, crossing i acts first at its position
+pub record FirstThere (ls : List ℕ) (ps : List ℤ) (i : ℕ) (r : Bool) : Type 0 where
+  pub first : r ≡ true → GroupStart ls ps i i
+
 -- crossing i is the last that acts at its position, in lists that are accepted for some names and start rows
 pub record GroupEnd (ls : List ℕ) (ps : List ℤ) (ss : List ℕ) (i : ℕ) : Type 0 where
   pub inside : i < length ls

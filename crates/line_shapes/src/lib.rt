@@ -4,7 +4,7 @@ ghost use mathlib.Core.Bool.{cond, _&&_};
 ghost use Prim.Native.Nat.{_<_};
 ghost use lib.Dec.{ltb};
 ghost use lib.ListN.{length};
-ghost use Rattle.line_shapes.specs.Groups.{stateOf, GroupStart, Flipped, Tallied, FewShapes, Least, GroupEnd, GroupShape};
+ghost use Rattle.line_shapes.specs.Groups.{stateOf, GroupStart, FirstThere, Flipped, Tallied, FewShapes, Least, GroupEnd, GroupShape};
 
 // The first of the crossings that act together with the one at i.
 fn group_start(line: &[u32], at: &[i32], i: usize) -> usize
@@ -80,18 +80,41 @@ fn least(shapes: &[u16], odd: &[u8; 256]) -> u16
     r
 }
 
-// The shape at the position of the crossing at i, which is the last there. Only a position with several crossings needs a byte a shape.
-pub fn group_shape(line: &[u32], at: &[i32], shape: &[u16], i: usize) -> u16
+// Whether the crossing at i stands first at its position, as most do, so that no other has to be looked at.
+fn stands_first(line: &[u32], at: &[i32], i: usize) -> bool
+    requires { ⌜ (i < length (now line)) × (length (now at) ≡ length (now line)) ⌝ }
+    ensures { λ r. ⌜ FirstThere (now (line .entry)) (now (at .entry)) i r ⌝ }
+{
+    if i == 0 {
+        return true;
+    }
+    let h = i - 1;
+    if line[h] != line[i] {
+        return true;
+    }
+    line_checking::below(at, h, i)
+}
+
+// Of the shapes crossed at the position of the crossing at i, the lowest that is turned.
+fn lowest_turned(line: &[u32], at: &[i32], shape: &[u16], i: usize) -> u16
     requires { ⌜ GroupEnd (now line) (now at) (now shape) i ⌝ }
     ensures { λ r. ⌜ GroupShape (now (line .entry)) (now (at .entry)) (now (shape .entry)) i r ⌝ }
 {
     let g = group_start(line, at, i);
-    if g == i {
-        return shape[g];
-    }
     let e = i + 1;
     let part = &shape[g..e];
     let mut odd = [0u8; 256];
     tally(part, &mut odd);
     least(part, &odd)
+}
+
+// The shape at the position of the crossing at i, which is the last there. Only a position with several crossings needs a byte a shape.
+pub fn group_shape(line: &[u32], at: &[i32], shape: &[u16], i: usize) -> u16
+    requires { ⌜ GroupEnd (now line) (now at) (now shape) i ⌝ }
+    ensures { λ r. ⌜ GroupShape (now (line .entry)) (now (at .entry)) (now (shape .entry)) i r ⌝ }
+{
+    if stands_first(line, at, i) {
+        return shape[i];
+    }
+    lowest_turned(line, at, shape, i)
 }

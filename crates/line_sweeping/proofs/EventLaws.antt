@@ -12,7 +12,7 @@ use lib.Seq.{take-suc-set}
 use Rattle.line_strips.specs.Words.{bit}
 use Rattle.line_strips.specs.Strips.{cell, columns}
 use Rattle.line_sweeping.specs.Events.{endsIn, settled, changesAt, opensAt, eventsAt, metalNext, metalAfter, eventsAfter}
-use Rattle.line_sweeping.specs.Steps.{Quiet, NextNoisy, ColumnThere, EventRoom, Reached, Noted, Changed, Left, Stepped, Sweepable, WordPart, Events, Swept, Listed}
+use Rattle.line_sweeping.specs.Steps.{Quiet, NextNoisy, ColumnThere, NoteRoom, EventNoted, EventRoom, Reached, Noted, Changed, Left, Stepped, Sweepable, WordPart, Events, Swept, Listed}
 use Rattle.line_sweeping.specs.declared.Found.{Found}
 use Rattle.line_sweeping.proofs.BitLaws.{cell-word}
 use Rattle.line_sweeping.proofs.ListedLaws.{events-zero, events-more, metal-zero, metal-more}
@@ -22,8 +22,12 @@ use Rattle.line_sweeping.proofs.ListedLaws.{events-zero, events-more, m
 noted-none : (k : ℕ) (events : List ℕ) → Noted [] k events k events
 noted-none k events = record { sized = refl; count = omega arith; are = sym (append-nil (take k events)) }
 
-noted-one : (x k : ℕ) (events : List ℕ) → k < length events → Noted (x ∷ []) k events (k + 1) (set events k x)
-noted-one x k events h = record { sized = length-set events k x; count = refl; are = rw (add-one k) (take-suc-set events k x h) }
+pub noted-one : {v count : ℕ} {metal : Bool} {events : List ℕ} {k x : ℕ} → NoteRoom v count events → k ≡ count → x ≡ v → EventNoted v metal count events (set events k x) (record { metal = metal; count = count + 1 })
+noted-one {v} {count} {metal} {events} room at is =
+    record {
+      noted = rw (at, is) (record { sized = length-set events count v; count = refl; are = rw (add-one count) (take-suc-set events count v (omega (arith, room .few, room .sized))) });
+      metal-after = refl;
+    }
 
 noted-both : {new more : List ℕ} {k k′ k″ : ℕ} {events events′ events″ : List ℕ} → Noted new k events k′ events′ → Noted more k′ events′ k″ events″ → Noted (new ++ more) k events k″ events″
 noted-both {new} {more} {k} {events = events} a b =
@@ -63,19 +67,20 @@ changed-same ends bit c events f h =
     let e : bit ≡ f .metal = beq-is bit (f .metal) h in
     record { noted = rw (e, beq-same (f .metal), and-no ends) (noted-none (f .count) events); metal = sym (same-settled ends bit (f .metal) e) }
 
-pub changed-here : (ends now bit : Bool) (c x : ℕ) (events : List ℕ) (f : Found) → EventRoom c events f → x ≡ c → now ≡ ends → now ≡ true → Bool·beq bit (f .metal) ≡ false
-    → Changed ends bit c events f (set events (f .count) x) (record { metal = bit; count = f .count + 1 })
-changed-here ends now bit c x events f room is-c is yes-now differs =
-    let e : ends ≡ true = sym is ∙ yes-now in
-    record { noted = rw (e, beq-flip (f .metal) bit ∙ differs, is-c) (noted-one c (f .count) events (omega (arith, room .few, room .sized, room .narrow))); metal = rw e }
+pub change-room : {c : ℕ} {events : List ℕ} {f : Found} → EventRoom c events f → NoteRoom c (f .count) events
+change-room room = record { narrow = omega (arith, room .narrow); few = omega (arith, room .few, room .narrow); sized = room .sized }
+
+pub leave-room : {c : ℕ} {events : List ℕ} {f : Found} → EventRoom c events f → NoteRoom (columns + c) (f .count) events
+leave-room room = record { narrow = omega (arith, room .narrow); few = omega (arith, room .few, room .narrow); sized = room .sized }
+
+pub changed-here : {ends now bit : Bool} {c : ℕ} {events events′ : List ℕ} {f f′ : Found} → now ≡ ends → now ≡ true → Bool·beq bit (f .metal) ≡ false → EventNoted c bit (f .count) events events′ f′ → Changed ends bit c events f events′ f′
+changed-here {ends} {now} {bit} {f = f} is yes-now differs n = let e : ends ≡ true = sym is ∙ yes-now in record { noted = rw (e, beq-flip (f .metal) bit ∙ differs) (n .noted); metal = rw e (n .metal-after) }
 
 pub changed-later : (ends now bit : Bool) (c : ℕ) (events : List ℕ) (f : Found) → now ≡ ends → now ≡ false → Changed ends bit c events f events f
 changed-later ends now bit c events f is no-now = let e : ends ≡ false = sym is ∙ no-now in record { noted = rw e (noted-none (f .count) events); metal = rw e }
 
-pub left-open : (last : Bool) (c x : ℕ) (events : List ℕ) (f : Found) → EventRoom c events f → x ≡ columns + c → last ≡ true → f .metal ≡ true
-    → Left last c events f (set events (f .count) x) (record { metal = false; count = f .count + 1 })
-left-open last c x events f room is e m =
-    record { noted = rw (e, m, is) (noted-one (columns + c) (f .count) events (omega (arith, room .few, room .sized, room .narrow))); metal = rw e }
+pub left-open : {last : Bool} {c : ℕ} {events events′ : List ℕ} {f f′ : Found} → last ≡ true → f .metal ≡ true → EventNoted (columns + c) false (f .count) events events′ f′ → Left last c events f events′ f′
+left-open e m n = record { noted = rw (e, m) (n .noted); metal = rw e (n .metal-after) }
 
 pub left-air : (last : Bool) (c : ℕ) (events : List ℕ) (f : Found) → f .metal ≡ false → Left last c events f events f
 left-air last c events f m = record { noted = rw (m, and-no last) (noted-none (f .count) events); metal = rw (m, and-no (not last)) }
@@ -85,9 +90,6 @@ left-on last c events f e = record { noted = rw e (noted-none (f .count) events)
 
 pub reached-room : {ls : List ℕ} {ps : List ℤ} {a : ℕ} {cols : List ℕ} {c : ℕ} {events : List ℕ} {f : Found} → Reached ls ps a cols c events f → EventRoom c events f
 reached-room r = record { narrow = r .there .narrow; few = omega (arith, r .few); sized = r .sized }
-
-pub reached-there : {ls : List ℕ} {ps : List ℤ} {a : ℕ} {cols : List ℕ} {c : ℕ} {events : List ℕ} {f : Found} → Reached ls ps a cols c events f → ColumnThere ls ps a cols c
-reached-there r = r .there
 
 pub changed-room : {ls : List ℕ} {ps : List ℤ} {a : ℕ} {cols : List ℕ} {ends bit : Bool} {c : ℕ} {events events′ : List ℕ} {f f′ : Found} → Reached ls ps a cols c events f → Changed ends bit c events f events′ f′ → EventRoom c events′ f′
 changed-room {ends = ends} {bit} {c} {f = f} r a = record { narrow = r .there .narrow; few = omega (arith, r .few, a .noted .count, one (ends && not (Bool·beq (f .metal) bit))); sized = a .noted .sized ∙ r .sized }
@@ -250,8 +252,11 @@ pub word-part : (k e : ℕ) → 64 * k < e → e - 64 * k ≤ 64 → WordPart k 
 word-part k e lo h = record { some = lo; inside = omega arith }
 
 module _ {ls : List ℕ} {ps : List ℤ} {a : ℕ} {cols row lasts : List ℕ} {metal : Bool} {n k e : ℕ} {events : List ℕ} {f : Found} (g : Worded ls ps a cols row lasts metal n k e events f) where
-  pub worded-end : n ≤ e → Listed (endsIn ls ps a cols) (cell row) (cell lasts) metal n events (f .count)
-  worded-end h = let z : e ≡ n = omega (arith, g .inside) in let s : Swept ls ps a cols row lasts metal n events f = rw z at (g .swept) in record { few = s .few; sized = s .sized; are = s .are }
+  pub worded-end : n ≤ e → {r : ℕ} → r ≡ f .count → Listed (endsIn ls ps a cols) (cell row) (cell lasts) metal n events r
+  worded-end h is =
+      let z : e ≡ n = omega (arith, g .inside) in
+      let s : Swept ls ps a cols row lasts metal n events f = rw z at (g .swept) in
+      rw is (record { few = s .few; sized = s .sized; are = s .are })
 
   pub worded-some : e < n → 64 * k < n
   worded-some h = omega (arith, g .whole h)

@@ -2,7 +2,7 @@
 use Prim.Native.Nat.{ℕ, _+_, _*_, _≤_, _<_}
 use mathlib.Core.Path.{_≡_}
 use mathlib.Core.Bool.{Bool, true, false, not, _&&_}
-use mathlib.Core.List.{List, _++_}
+use mathlib.Core.List.{List, [], _∷_, _++_}
 use lib.IntN.{ℤ}
 use lib.ListN.{length, take, getD}
 use Rattle.line_strips.specs.Words.{bit}
@@ -45,6 +45,17 @@ pub record Noted (new : List ℕ) (k : ℕ) (events : List ℕ) (k′ : ℕ) (ev
   pub sized : length events′ ≡ length events
   pub count : k′ ≡ k + length new
   pub are : take k′ events′ ≡ take k events ++ new
+
+-- a list of events has room for v after the first count
+pub record NoteRoom (v count : ℕ) (events : List ℕ) : Type 0 where
+  pub narrow : v < 2 * columns
+  pub few : count < 2 * columns
+  pub sized : length events ≡ 2 * columns
+
+-- v is one event more, after which there is metal or not
+pub record EventNoted (v : ℕ) (metal : Bool) (count : ℕ) (events events′ : List ℕ) (f : Found) : Type 0 where
+  pub noted : Noted (v ∷ []) count events (f .count) events′
+  pub metal-after : f .metal ≡ metal
 
 pub record Changed (ends bit : Bool) (c : ℕ) (events : List ℕ) (f : Found) (events′ : List ℕ) (f′ : Found) : Type 0 where
   pub noted : Noted (changesAt ends bit (f .metal) c) (f .count) events (f′ .count) events′

@@ -8,7 +8,7 @@ ghost use Rattle.lines.specs.Steps.{groupEndsAt};
 ghost use Rattle.line_strips.specs.Words.{bit};
 ghost use Rattle.line_strips.specs.Strips.{columns, cell};
 ghost use Rattle.line_sweeping.specs.Events.{endsIn};
-ghost use Rattle.line_sweeping.specs.Steps.{NextNoisy, ColumnThere, EventRoom, Reached, Changed, Left, Stepped, Sweepable, WordPart, Swept, Listed};
+ghost use Rattle.line_sweeping.specs.Steps.{NextNoisy, ColumnThere, NoteRoom, EventNoted, EventRoom, Reached, Changed, Left, Stepped, Sweepable, WordPart, Swept, Listed};
 
 const W: usize = line_strips::W;
 
@@ -23,7 +23,7 @@ const START: u16 = 65535;
 // Whether there is metal after the columns gone through, and how many events they have.
 struct Found {
     metal: bool,
-    count: usize,
+    count: u16,
 }
 
 fn group_ends(line: &[u32], at: &[i32], i: usize) -> bool
@@ -60,6 +60,19 @@ fn column_ends(line: &[u32], at: &[i32], a: usize, cols: &[u16; COLUMNS], c: usi
     group_ends(line, at, i)
 }
 
+// v is one event more, after which there is `metal`.
+fn note(events: &mut [u16; EVENTS], v: usize, metal: bool, count: u16) -> Found
+    requires { ⌜ NoteRoom v count (now events) ⌝ }
+    ensures { λ r. ⌜ EventNoted v metal count (now (events .entry)) (now (events .exit)) r ⌝ }
+{
+    let k = basics::wide(count);
+    events[k] = basics::narrow(v);
+    Found {
+        metal,
+        count: count + 1,
+    }
+}
+
 // Metal changes at column c, if its bit says something else than before and all that stands at its position has acted.
 fn change(
     line: &[u32],
@@ -78,12 +91,7 @@ fn change(
         return f;
     }
     if column_ends(line, at, a, cols, c) {
-        let k = f.count;
-        events[k] = basics::narrow(c);
-        return Found {
-            metal,
-            count: k + 1,
-        };
+        return note(events, c, metal, f.count);
     }
     f
 }
@@ -95,12 +103,7 @@ fn leave(c: usize, last: bool, events: &mut [u16; EVENTS], f: Found) -> Found
 {
     if last {
         if f.metal {
-            let k = f.count;
-            events[k] = basics::narrow(COLUMNS + c);
-            return Found {
-                metal: false,
-                count: k + 1,
-            };
+            return note(events, COLUMNS + c, false, f.count);
         }
     }
     f
@@ -217,5 +220,5 @@ pub fn sweep(
         f = sweep_word(row, lasts, line, at, a, cols, k, e, metal, events, f);
         k += 1;
     }
-    f.count
+    basics::wide(f.count)
 }

@@ -1,3 +1,4 @@
+-- A line's start stands alone; a crossing ends its position where the next is past it.
 use Rattle.line_sweeping.proofs.EndLaws.{ends-start, ends-crossing, there-crossing, there-index, there-long}
 use borrow.Author.Needs.{needs}
 use Rattle.line_sweeping.proofs.column_ends.Statement.{statement}

@@ -1,3 +1,4 @@
+-- The last of the list, the last of its line, or short of the next.
 use Rattle.line_sweeping.proofs.EndLaws.{ends-list, ends-line, ends-place}
 use borrow.Author.Needs.{needs}
 use Rattle.line_sweeping.proofs.group_ends.Statement.{statement}

@@ -1,3 +1,4 @@
+-- A bit as the machine takes it.
 use Rattle.line_strips.proofs.Digits.{shift-bit}
 use borrow.Author.Needs.{needs}
 use Rattle.line_sweeping.proofs.is_on.Statement.{statement}

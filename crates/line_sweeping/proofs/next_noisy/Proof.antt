@@ -1,3 +1,4 @@
+-- The zeros from bit j on are quiet.
 use Rattle.line_sweeping.proofs.BitLaws.{next-noisy}
 use borrow.Author.Needs.{needs}
 use Rattle.line_sweeping.proofs.next_noisy.Statement.{statement}

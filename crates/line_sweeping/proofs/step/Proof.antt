@@ -1,4 +1,5 @@
-use Rattle.line_sweeping.proofs.EventLaws.{reached-room, reached-there, changed-room, stepped-both}
+-- A change at the column, then what goes on past it.
+use Rattle.line_sweeping.proofs.EventLaws.{reached-room, changed-room, stepped-both}
 use borrow.Author.Needs.{needs}
 use Rattle.line_sweeping.proofs.step.Statement.{statement}
 use Rattle.line_sweeping.proofs.step.Tie as tie
@@ -13,7 +14,7 @@ is-on-requires : tie.Need-is-on-requires
 is-on-requires c κs = search needs
 
 change-requires : tie.Need-change-requires
-change-requires c κs = search (reached-there, reached-room, needs)
+change-requires c κs = search (reached-room, needs)
 
 is-on-requires-2 : tie.Need-is-on-requires-2
 is-on-requires-2 c κs = search needs

@@ -1,3 +1,4 @@
+-- Word by word.
 use Prim.Native.Nat.{_-_}
 use Rattle.line_sweeping.proofs.EventLaws.{Worded, worded-start, worded-some, word-part, worded-sweepable, worded-swept, worded-more, worded-end}
 use borrow.Author.Needs.{needs}
@@ -31,6 +32,9 @@ loop-less c = search needs
 loop-again : tie.Need-loop-again Inv-loop μ-loop
 loop-again c = search (worded-more, needs)
 
+wide-requires : tie.Need-wide-requires Inv-loop μ-loop
+wide-requires c κs = search needs
+
 returns : tie.Need-returns Inv-loop μ-loop
 returns c = search (worded-end, needs)
 
@@ -47,4 +51,5 @@ sweep-spec =
     add-k
     loop-less
     loop-again
+    wide-requires
     returns)

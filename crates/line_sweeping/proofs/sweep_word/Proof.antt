@@ -1,3 +1,4 @@
+-- From one bit that may be an event to the next.
 use Prim.Native.Nat.{_-_}
 use Rattle.line_sweeping.proofs.EventLaws.{Going, going-start, going-end, going-low, going-reached, going-rest, going-on}
 use borrow.Author.Needs.{needs}

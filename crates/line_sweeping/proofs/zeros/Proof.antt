@@ -1,3 +1,4 @@
+-- At most 64 of them.
 use Rattle.line_sweeping.proofs.BitLaws.{zeros-few}
 use borrow.Author.Needs.{needs}
 use Rattle.line_sweeping.proofs.zeros.Statement.{statement}
