@@ -3,7 +3,8 @@
  * Link target/staticlib/libhost.a, which `rt staticlib host` writes: cc prog.c libhost.a. It is for x86-64 Linux and position
  * independent. It keeps no state, allocates nothing, calls nothing back, never unwinds, and may be called from any number of threads
  * at once. Of the C library it needs memcpy, memmove and memset at most. Its working memory is on the stack, which the proofs do not
- * count: 512 kilobytes are enough.
+ * count: 512 kilobytes are enough. The most that was measured is 242 KB, for a move of 2047 operations in a row in edition 2, which are
+ * read by descent, 112 bytes a code; reading them takes 234 KB.
  *
  * Each function but the crossing makers takes the sheets of a call: the customer's, `sheet`, alone where `fitted` is false; else beside a fittings sheet,
  * `fittings`, whose shapes are numbered first. Where `fitted` is false, `fittings` is not looked at, and may have no bytes; where it is

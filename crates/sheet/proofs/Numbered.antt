@@ -4,11 +4,11 @@ use mathlib.Core.Bool.{Bool, true, false}
 use mathlib.Core.List.{List, [], _∷_, _++_}
 use mathlib.Core.Option.{Option, none, some}
 use lib.Dec.{ltb, eqb, lit<}
-use Rattle.outcome.specs.Outcome.{Outcome, given, refused, _>>_, _>>=_, part, ofFittings}
+use Rattle.outcome.specs.Outcome.{Outcome, given, part, ofFittings}
 use Rattle.outcome.specs.Numbered.{Numbered}
 use Rattle.outcome.proofs.NumberedLaws.{given-numbered, refused-numbered, asks, then-numbered, bind-numbered, part-numbered, cond-numbered, fittings-numbered}
 use Rattle.formula.specs.Formula.{Op, Formula, leaf}
-use Rattle.sheet.specs.Sheet.{Sheets, alone, beside, Sheet, Setting, unaided, Field, nameField, formulaField, endField, joined, operation, oneCode, allCodes, onlyOne, formulaOf, joinedFirst, operated, allFirst, formulaFirst, formulaIn, header, nameAt, formulaAt, fieldAt, onward, fields, own, fittingAt, onwardFitting, fittingFields, fittingNames, reading}
+use Rattle.sheet.specs.Sheet.{Sheets, alone, beside, Sheet, Setting, Field, nameField, formulaField, endField, joined, operation, oneCode, allCodes, onlyOne, formulaOf, joinedFirst, operated, allFirst, formulaFirst, formulaIn, header, nameAt, formulaAt, fieldAt, onward, fields, own, fittingAt, onwardFitting, fittingFields, fittingNames, reading}
 
 -- ---- codes
 

@@ -1,5 +1,5 @@
 -- The descent over the codes, operation first: what one code more, and one operand more, adds.
-use Prim.Native.Nat.{ℕ, suc, _+_, _-_, _*_, _%_, _^_, _≤_, _<_}
+use Prim.Native.Nat.{ℕ, suc, _+_, _-_, _*_, _^_, _≤_, _<_}
 use native.Mathlib.Omega.{arith}
 use native.Mathlib.Numerals.{add-one}
 use native.Mathlib.Nat.{add-assoc}
@@ -9,12 +9,12 @@ use mathlib.Core.List.{List, [], _∷_, _++_, append-assoc}
 use mathlib.Core.Option.{Option, none, some}
 use lib.ListN.{length, take, drop, set, length-set, length-append, drop-of-length-le}
 use lib.Seq.{take-suc-set}
-use Rattle.outcome.specs.Outcome.{Outcome, refused, _>>=_, part}
-use Rattle.formula.specs.Formula.{Op, firstOperation, code, Formula, leaf, node, postfix, prefix, Over}
+use Rattle.outcome.specs.Outcome.{_>>=_, part}
+use Rattle.formula.specs.Formula.{Op, code, leaf, node, postfix, prefix}
 use Rattle.formula.proofs.Laws.{length-prefix}
 use Rattle.sheet.specs.Sheet.{twoAt, codesOf, operation, joinedFirst, allFirst}
 use Rattle.sheet.proofs.Codes.{operation-which, operation-code}
-use Rattle.sheet.proofs.CodesFirst.{first-leaf, first-operation, first-unknown, first-prefix}
+use Rattle.sheet.proofs.CodesFirst.{first-operation, first-unknown, first-prefix}
 use Rattle.sheet_codes.specs.Steps.{isSome, isOperation}
 use Rattle.sheet_codes.proofs.CodeSteps.{operation-low, operation-high, operation-yes, codes-more}
 use Rattle.sheet_descent.specs.Descent.{Room, IsWhole, IsWrong, IsShort, Descended}

@@ -58,6 +58,9 @@ module _ (n tag first : ℕ) (p : List ℕ) (fits : FirstFits n first p) where
           rw c (first-prefix n (fits .few-names) tag f first (codesOf (drop next p)) 0 (it .over))
           ∙ ap (λ (i : ℕ). part (λ fs. f ∷ fs) (allFirst n tag i (codesOf (drop next p)) 0)) q
 
+      pub next-near : first + next < 2 ^ 64
+      next-near = omega (arith, fits .near, it .within)
+
       over-first : next < length p → formulaFirst n tag first (codesOf p) ≡ refused 7 (first + next)
       unfolding formulaFirst allFirst
       over-first h =

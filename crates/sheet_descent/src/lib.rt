@@ -71,10 +71,10 @@ pub fn judge_first(formula: &[u8], names: usize, tag: usize, first: usize) -> Fo
     let mut codes: [u16; 2048] = [0; 2048];
     match descend(formula, names, 0, &mut codes, 0) {
         Descent::Whole { next, count } => {
-            if next < formula.len() {
-                Formed::Wrong(first + next)
-            } else {
+            if formula.len() <= next {
                 Formed::Good((count + 1) / 2)
+            } else {
+                Formed::Wrong(first + next)
             }
         }
         Descent::Wrong(at) => Formed::Wrong(first + at),

@@ -26,6 +26,11 @@ fn main() {
     let [mut pair, mut one] = rows::pair_and_one();
     let times = best(&mut [&mut pair, &mut one]);
     println!("\nReading 128 names beside 128 fittings takes {:.2} of the time of 256 in one sheet.\n", times[0] / times[1]);
+    let [one, two] = rows::moves_and_reads().map(|[mut moving, mut reading]| {
+        let times = best(&mut [&mut moving, &mut reading]);
+        times[0] / times[1]
+    });
+    println!("Moving the largest sheet takes {one:.2} times as long as reading it, of edition 2 {two:.2} times.\n");
     for leaves in [256, 1024] {
         let walks = said.iter().filter(|row| row.leaves == leaves).filter_map(|row| row.walk);
         let (least, most) = walks.fold((f64::INFINITY, 0.0), |(least, most): (f64, f64), walk| (least.min(walk), most.max(walk)));
@@ -62,7 +67,7 @@ fn heading() {
         date.unwrap_or_default()
     );
     println!(
-        "Nanoseconds an item, the best of many turns: an item is a leaf for read and build, a toggle for run, a crossing for classify, a shape for cross."
+        "Nanoseconds an item, the best of many turns: an item is a leaf for read, move and build, a toggle for run, a crossing for classify, a shape for cross."
     );
     println!("Each time is of a whole call: run and classify include reading the sheet, and run and `walk` contracting its formula.");
     println!("For cross, one line a call, the shapes stand in the column of the formula, and their number in that of the leaves.\n");

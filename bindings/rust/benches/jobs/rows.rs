@@ -54,6 +54,7 @@ fn sheet(formula: &str, leaves: usize) -> (Vec<u8>, usize) {
 pub fn all(crossings: usize) -> Vec<Row> {
     let mut rows: Vec<Row> = SIZES.into_iter().map(|leaves| read("chain", leaves)).collect();
     rows.push(read_pair("chain", 128, 256));
+    rows.extend(SIZES.into_iter().map(|leaves| moved("chain", leaves)));
     for formula in ["chain", "balanced"] {
         rows.extend(SIZES.into_iter().map(|leaves| build(formula, leaves)));
     }
@@ -149,6 +150,50 @@ pub fn pair_and_one() -> [Box<dyn FnMut()>; 2] {
         Box::new(move || _ = black_box(kressedach::read(black_box(kressedach::Sheets::beside(&fittings, &own))))),
         Box::new(move || _ = black_box(kressedach::read(black_box(&one)))),
     ]
+}
+
+/// The move to edition 2.
+fn moved(formula: &'static str, leaves: usize) -> Row {
+    let (sheet, _) = sheet(formula, leaves);
+    let (a, b) = (sheet.clone(), sheet.clone());
+    let [mut moved, mut plain_moved] = [vec![0; sheet.len()], vec![0; sheet.len()]];
+    let (mut copy_sheet, mut copy_moved) = (copying(sheet.clone()), copying(sheet.clone()));
+    Row {
+        job: "move",
+        formula,
+        leaves,
+        lists: format!("{} bytes", sheet.len()),
+        items: leaves,
+        library: Box::new(move || _ = black_box(kressedach::move_into(black_box(&a), &mut moved))),
+        plain: Box::new(move || _ = black_box(plain::move_sheet(black_box(&b), &mut plain_moved))),
+        walk: None,
+        copy: Box::new(move || {
+            copy_sheet();
+            copy_moved();
+        }),
+        pass: None,
+        check: Box::new(move || {
+            let due = peer::move_sheet(Sheets::alone(&sheet), sheet.len()).unwrap();
+            let [mut moved, mut plain_moved] = [vec![0; sheet.len()], vec![0; sheet.len()]];
+            assert_eq!(kressedach::move_into(&sheet, &mut moved), Ok(sheet.len()));
+            assert_eq!(plain::move_sheet(&sheet, &mut plain_moved), Ok(sheet.len()));
+            assert!(moved == due && plain_moved == due);
+        }),
+    }
+}
+
+/// Moving the largest sheet of edition 1, with names of 32 bytes, and reading it; and the same of edition 2.
+pub fn moves_and_reads() -> [[Box<dyn FnMut()>; 2]; 2] {
+    let dice = &mut Dice::of(12, 0);
+    let one = make::sheet(&make::names(dice, 256, 32), &make::codes(dice, 256, 1024, Form::Any));
+    let two = kressedach::move_sheet(&one).unwrap();
+    [one, two].map(|sheet| -> [Box<dyn FnMut()>; 2] {
+        let (read, mut moved) = (sheet.clone(), vec![0; sheet.len()]);
+        [
+            Box::new(move || _ = black_box(kressedach::move_into(black_box(&sheet), &mut moved))),
+            Box::new(move || _ = black_box(kressedach::read(black_box(&read)))),
+        ]
+    })
 }
 
 fn build(formula: &'static str, leaves: usize) -> Row {

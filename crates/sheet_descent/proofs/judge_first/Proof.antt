@@ -1,5 +1,5 @@
 -- `sheet_descent::judge_first` meets its contract.
-use Rattle.sheet_descent.proofs.Judged.{wrong-near, judged-wrong, judged-short, judged-over, count-more, judged-good}
+use Rattle.sheet_descent.proofs.Judged.{wrong-near, next-near, judged-wrong, judged-short, judged-over, count-more, judged-good}
 use borrow.Author.Needs.{needs}
 use Rattle.sheet_descent.proofs.judge_first.Statement.{statement}
 use Rattle.sheet_descent.proofs.judge_first.Tie as tie
@@ -11,10 +11,10 @@ enum-known-next : tie.Need-enum-known-next
 enum-known-next c = search needs
 
 add-t15 : tie.Need-add-t15
-add-t15 c = search needs
+add-t15 c = record { fits = search count-more }
 
-add-t16 : tie.Need-add-t16
-add-t16 c = record { fits = search count-more }
+add-t17 : tie.Need-add-t17
+add-t17 c = record { fits = search next-near }
 
 enum-known-at : tie.Need-enum-known-at
 enum-known-at c = search needs
@@ -26,10 +26,10 @@ enum-told : tie.Need-enum-told
 enum-told c = search needs
 
 returns : tie.Need-returns
-returns c = search judged-over
+returns c = search judged-good
 
 returns-2 : tie.Need-returns-2
-returns-2 c = search judged-good
+returns-2 c = search judged-over
 
 returns-3 : tie.Need-returns-3
 returns-3 c = search judged-wrong
@@ -44,7 +44,7 @@ judge-first-spec =
     descend-requires
     enum-known-next
     add-t15
-    add-t16
+    add-t17
     enum-known-at
     add-t18
     enum-told

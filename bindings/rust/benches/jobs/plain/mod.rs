@@ -5,6 +5,7 @@
 mod columns;
 mod cross;
 mod dwarf;
+mod moved;
 mod read;
 mod run;
 mod walk;
@@ -14,6 +15,7 @@ pub use columns::over;
 pub use cross::{cross, cross_balls};
 pub use dwarf::build;
 use dwarf::{contracted, Dwarf};
+pub use moved::move_sheet;
 pub use read::{read, read_pair};
 pub use run::run;
 pub use walls::{by_walk, by_words, Lines};
