@@ -204,6 +204,11 @@ static void move(void) {
     expect(r.number == KRESSEDACH_GIVEN && memcmp(back, sheet, sizeof sheet) == 0 && back[sizeof sheet] == 9, "there and back");
     r = kressedach_move(ALONE(sheet), there, sizeof sheet - 1);
     expect(r.number == KRESSEDACH_LIST_TOO_SHORT && r.place == sizeof sheet && r.length == 0, "room for the whole sheet");
+    uint8_t exclusive[sizeof sheet];
+    memcpy(exclusive, sheet, sizeof sheet);
+    exclusive[sizeof sheet - 1] = 0xF3;
+    r = kressedach_move(ALONE(exclusive), LIST(there));
+    expect(r.number == KRESSEDACH_OUT_OF_USE && r.sheet == KRESSEDACH_NO_SHEET && r.place == sizeof sheet - 2, "no move of an exclusive union");
 }
 
 static void read_pair(void) {

@@ -59,12 +59,13 @@ enum kressedach_number {
     KRESSEDACH_ASTRAY = 15,        /* the index: a position at either end mark, or a line with no start row */
     KRESSEDACH_SHAPE_WRONG = 16,   /* 256 for more than 256 shapes, 65535 for the line, else the first shape at fault */
     KRESSEDACH_FITTINGS_NAME = 17, /* a customer's name equal to a fitting's: the tag's offset */
-    KRESSEDACH_BALL_WRONG = 18     /* 256 for more than 256 balls, else the first ball with a number out of its range */
+    KRESSEDACH_BALL_WRONG = 18,    /* 256 for more than 256 balls, else the first ball with a number out of its range */
+    KRESSEDACH_OUT_OF_USE = 19     /* the offset in the customer's sheet of its first exclusive union, 0xFFF3: it does not move to edition 2 */
 };
 
 /* Which sheet the place of a refusal is in. */
 enum kressedach_sheet {
-    KRESSEDACH_NO_SHEET = 0,       /* given, or refused for no sheet */
+    KRESSEDACH_NO_SHEET = 0,       /* given, or refused for no sheet; also 19, always of the customer's */
     KRESSEDACH_FITTINGS_SHEET = 1, /* 1 to 6, in the fittings sheet */
     KRESSEDACH_CUSTOMERS_SHEET = 2 /* 1 to 7 and 17, in the customer's sheet, also where it is alone */
 };
@@ -156,7 +157,8 @@ struct kressedach_move_report {
 };
 
 /* Gives the customer's sheet in the edition that it has not: the header's edition, the formula's tag and the order of its codes change,
- * and no other byte. Refusals: 1 to 7 and 17, then 9, place the sheet's length.
+ * and no other byte. A sheet without exclusive unions, 0xFFF3, moved again, is the same bytes as before; one with them moves to edition 1
+ * alone. Refusals: 1 to 7 and 17; 19 for a sheet of edition 1 with 0xFFF3, at the first one; then 9, place the sheet's length.
  *
  * The caller keeps: fittings_length bytes at fittings, sheet_length bytes at sheet, moved_length bytes at moved.
  */

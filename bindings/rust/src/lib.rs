@@ -259,7 +259,8 @@ pub fn name<'a>(sheets: impl Into<Sheets<'a>>, shape: usize) -> Result<&'a [u8],
 }
 
 /// The customer's sheet in the edition that it has not, beside a fittings sheet where there is one. The header's edition, the formula's
-/// tag and the order of its codes change, and no other byte; moved again it is the same bytes as before.
+/// tag and the order of its codes change, and no other byte. A sheet without exclusive unions, moved again, is the same bytes as before;
+/// one with them moves to edition 1 alone.
 ///
 /// ```
 /// let sheet = b"\x01\0\x02\0\x01\x02\0\x01A\x02\0\x01B\x03\0\x06\0\0\0\x01\xFF\xF2";
@@ -271,7 +272,7 @@ pub fn name<'a>(sheets: impl Into<Sheets<'a>>, shape: usize) -> Result<&'a [u8],
 ///
 /// # Errors
 ///
-/// As [`read`].
+/// 1 to 7 and 17 as [`read`], then 19, place the first 0xFFF3 of a sheet of edition 1.
 pub fn move_sheet<'a>(sheets: impl Into<Sheets<'a>>) -> Result<Vec<u8>, Refusal> {
     let sheets = sheets.into();
     let mut moved = vec![0; sheets.parts().2.len()];
@@ -283,7 +284,7 @@ pub fn move_sheet<'a>(sheets: impl Into<Sheets<'a>>) -> Result<Vec<u8>, Refusal>
 ///
 /// # Errors
 ///
-/// 1 to 7 and 17 as [`read`], then 9, place the sheet's length.
+/// As [`move_sheet`], then 9, place the sheet's length.
 #[inline]
 pub fn move_into<'a>(sheets: impl Into<Sheets<'a>>, moved: &mut [u8]) -> Result<usize, Refusal> {
     let (fitted, fittings, sheet) = sheets.into().parts();

@@ -188,7 +188,7 @@ fn compare_one(case: &Case) -> Result<u8, String> {
     }
 }
 
-/// The sheet in the other edition; moved back it is the sheet.
+/// The sheet in the other edition; moved back it is the sheet, where that is not refused.
 fn compare_move(sheet: &Given, room: usize) -> Result<u8, String> {
     let mut moved = Lent::new(room, |k| k as u8);
     let got = kressedach::move_into(sheet.ours(), moved.list());
@@ -197,9 +197,11 @@ fn compare_move(sheet: &Given, room: usize) -> Result<u8, String> {
     moved.check("moved", due.iter().flatten().copied())?;
     if let Ok(moved) = due {
         let moved = Given { own: moved, ..sheet.clone() };
-        if kressedach::move_sheet(moved.ours()).as_ref() != Ok(&sheet.own) {
+        let due = peer::move_sheet(moved.theirs(), sheet.own.len());
+        if due.as_ref().is_ok_and(|back| *back != sheet.own) {
             return Err("the move there and back is another sheet".into());
         }
+        same(kressedach::move_sheet(moved.ours()), due.as_ref().map(Clone::clone))?;
     }
     Ok(number)
 }
@@ -421,6 +423,55 @@ fn a_pair_damaged_everywhere() {
     }
 }
 
+/// Moves of sheets from a seed, good ones and others: whatever the move can answer comes up.
+#[test]
+fn moves_from_a_seed() {
+    let mut seen = [0u64; 20];
+    for case in 0..from_env("KRESSEDACH_CASES", 120_000) / 6 {
+        let dice = &mut Dice::of(6, case);
+        let sheet = if dice.once_in(2) { mostly_good(dice).0 } else { any_given(dice) };
+        let room = sheet.own.len().saturating_sub(usize::from(dice.once_in(4)));
+        let number = compare_move(&sheet, room).unwrap_or_else(|wrong| panic!("case {case}: {wrong}\n{:?}", Case::Read { sheet }));
+        seen[usize::from(number)] += 1;
+    }
+    assert!([0, 1, 2, 3, 4, 5, 6, 7, 9, 17, 19].iter().all(|number| seen[*number] >= 20), "{seen:?}");
+}
+
+/// Every two reasons to refuse a move: those of either sheet, then 19, then 9. A sheet of edition 2 is never refused 19.
+#[test]
+fn every_two_reasons_to_refuse_a_move() {
+    let fittings = make::fittings(&["Lug"]);
+    let changed = |sheet: &[u8], at: usize, byte: u8| [&sheet[..at], &[byte], &sheet[at + 1..]].concat();
+    let many: Vec<String> = (0..256).map(|k| format!("N{k}")).collect();
+    for (op, edition) in [(0xFFF0, 1), (0xFFF3, 1), (0xFFF0, 2), (0xFFF3, 2)] {
+        let codes = if edition == 1 { [0, 1, op, 2, op] } else { [op, op, 0, 1, 2] };
+        let with = |names: &[&str]| if edition == 1 { make::sheet(names, &codes) } else { make::sheet_first(names, &codes) };
+        let good = with(&["A", "B"]);
+        let cut = good[..good.len() - 1].to_vec();
+        let more = [&good[..], &[3]].concat();
+        let many = with(&many.iter().map(String::as_str).collect::<Vec<_>>());
+        let unknown = changed(&good, 21, 9);
+        let own =
+            [&good, &cut, &more, &changed(&good, 4, 9), &with(&["A", " "]), &with(&["A", "A"]), &many, &unknown, &with(&["A", "Lug"])];
+        let theirs: [&[u8]; 5] =
+            [&fittings, &fittings[..4], &changed(&fittings, 5, 9), &changed(&fittings, 4, 2), &changed(&fittings, 8, b' ')];
+        for (own, reason) in own.into_iter().zip([0, 1, 2, 3, 4, 5, 6, 7, 17]) {
+            for (theirs, unfit) in theirs.iter().zip([0, 1, 2, 3, 4]) {
+                for short in [0, 1] {
+                    let due = match (unfit, reason, op, edition, short) {
+                        (1.., ..) => unfit,
+                        (_, 1.., ..) => reason,
+                        (_, _, 0xFFF3, 1, _) => 19,
+                        (.., short) => 9 * short,
+                    };
+                    let sheet = Given { fittings: Some(theirs.to_vec()), own: own.clone() };
+                    assert_eq!(compare_move(&sheet, own.len() - usize::from(short)), Ok(due), "{:?}", Case::Read { sheet });
+                }
+            }
+        }
+    }
+}
+
 /// The largest sheet, in every form, with every shape toggled and crossed.
 fn largest_sheets() -> Vec<Case> {
     let mut cases = Vec::new();
@@ -450,7 +501,8 @@ fn largest_sheets() -> Vec<Case> {
 /// 1024 leaves in a chain to the left, and to the right, in both editions.
 fn deepest_sheets() -> Vec<Vec<u8>> {
     let dice = &mut Dice::of(4, 0);
-    let last = [Form::LeftChain, Form::RightChain].map(|form| make::sheet(&["A"], &make::codes(dice, 1, 1024, form)));
+    let codes = [Form::LeftChain, Form::RightChain].map(|form| make::without_exclusive(make::codes(dice, 1, 1024, form)));
+    let last = codes.map(|codes| make::sheet(&["A"], &codes));
     last.into_iter().flat_map(|sheet| [kressedach::move_sheet(&sheet).unwrap(), sheet]).collect()
 }
 

@@ -231,6 +231,10 @@ fn a_sheet_moved_there_and_back() {
     assert_eq!(wallcheck(&["list", &path], b""), wallcheck(&["list", "-"], &worked()));
     let ends = "refused 1 at byte 29 of the customer's sheet: the sheet ends too soon";
     assert_eq!(wallcheck(&["move", "-"], &there[..29]), refused(ends));
+    let mut exclusive = worked();
+    exclusive[29] = 0xF3;
+    let out_of_use = "exclusive union, 0xFFF3, is out of use: a sheet that has it does not move to edition 2";
+    assert_eq!(wallcheck(&["move", "-"], &exclusive), refused(&format!("refused 19 at byte 28 of the customer's sheet: {out_of_use}")));
 }
 
 #[test]

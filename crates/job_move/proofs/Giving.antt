@@ -49,10 +49,10 @@ module _ (s codes : List ℕ) (n : ℕ) (r : Sheet) (h : Held s codes n r) where
       let c : length (codesOf (between s (r .first) (r .past))) ≡ n = ap length (h .own .codes-are) ∙ length-codesIn (r .edition) (r .formula) ∙ many in
       omega (arith, e, c, formula-long)
 
-  first-is : length s - 2 * n ≡ r .first
+  pub first-is : length s - 2 * n ≡ r .first
   first-is = omega (arith, all-codes, h .own .ends, h .own .some-bytes)
 
-  enough : 2 * n ≤ length s
+  pub enough : 2 * n ≤ length s
   enough = omega (arith, all-codes, h .own .ends)
 
   eight : 8 ≤ r .first

@@ -1,4 +1,4 @@
--- A moved sheet is read as the same names and the same formula, in the other edition; and moved again it is the same bytes.
+-- A moved sheet is read as the same names and the same formula, in the other edition; and its bytes, moved again, are the same.
 use Prim.Native.Nat.{ℕ, zero, suc, _+_, _-_, _*_, _/_, _%_, _≤_, _<_}
 use native.Mathlib.Omega.{arith}
 use mathlib.Core.Path.{_≡_, refl, sym, ap, _∙_}
@@ -291,7 +291,7 @@ module _ (fs : List (List ℕ)) (s : List ℕ) (r : Sheet) (g : Own fs s r) wher
   unfolding moved
   moved-is = refl
 
-  moved-long : length (moved s r) ≡ length s
+  pub moved-long : length (moved s r) ≡ length s
   moved-long = ap length moved-is ∙ length-append heads bytes ∙ omega (arith, heads-long, bytes-long, g .ends, within)
 
   moved-low : (i : ℕ) → i < r .first → getD (moved s r) i 0 ≡ getD heads i 0
@@ -458,12 +458,11 @@ module _ (fs : List (List ℕ)) (s : List ℕ) (r : Sheet) (g : Own fs s r) (b :
   moved-front : take (r .first) (moved s r) ≡ heads fs s r g
   moved-front = ap (take (r .first)) (moved-is fs s r g) ∙ take-at (heads fs s r g) (bytes fs s r g) (r .first) (heads-long fs s r g)
 
-  -- Moved there and back it is the same bytes.
-  pub there-and-back : moved (moved s r) (inEdition (other (r .edition)) r) ≡ s
+  there-and-back : moved (moved s r) (inEdition (other (r .edition)) r) ≡ s
   unfolding moved
   there-and-back =
       rw (moved-front, back-edition, front-back, back-codes) (take-append-drop (r .first) s)
 
--- The same of the sheets of a call.
-pub journey : (c : Sheets) (r : Sheet) → reading c ≡ given r → Bytes (ownSheet c) → moved (moved (ownSheet c) r) (inEdition (other (r .edition)) r) ≡ ownSheet c
-journey c r h b = let g = guaranteed c r h in there-and-back (g .fittings) (ownSheet c) r (g .own) b
+-- A moved sheet's bytes, moved again, are the sheet's.
+pub bytes-back : (c : Sheets) (r : Sheet) → reading c ≡ given r → Bytes (ownSheet c) → moved (moved (ownSheet c) r) (inEdition (other (r .edition)) r) ≡ ownSheet c
+bytes-back c r h b = let g = guaranteed c r h in there-and-back (g .fittings) (ownSheet c) r (g .own) b

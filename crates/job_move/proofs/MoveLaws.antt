@@ -17,7 +17,7 @@ use Rattle.accepting.specs.declared.Acceptance.the-variants as acceptance
 use Rattle.accepting.proofs.Accepted.{accepted-given, accepted-refused, accepted-unfit}
 use Rattle.job_move.specs.Moving.{moving}
 use Rattle.job_move.specs.Moved.{Moved}
-use Rattle.job_move.specs.Steps.{Held, Movable, MovedTo}
+use Rattle.job_move.specs.Steps.{Held, Holding, UsedAt, Movable, MovedTo}
 use Rattle.job_move.specs.declared.MoveAnswer.the-variants as answer
 use Rattle.job_move.proofs.Giving.{moved-long}
 
@@ -53,10 +53,6 @@ module _ (b : Bool) (f s codes lent : List ℕ) (a : Acceptance) (says : SaysCod
     read : reading all ≡ given (coded .0)
     read = is-read all (given (coded .0)) (coded .1 .is)
 
-    pub move-short : length lent < length s → Moved (moving all (length lent)) lent (answer.Refused 9 (length s)) lent
-    unfolding moving
-    move-short h = record { answer = rw (read, own-of b f s, lt-leb (length s) (length lent) h); list = rw (read, own-of b f s, lt-leb (length s) (length lent) h) }
-
     module _ (sized : length codes ≡ 2048) where
       held : Held s codes n (coded .0)
       held =
@@ -74,13 +70,30 @@ module _ (b : Bool) (f s codes lent : List ℕ) (a : Acceptance) (says : SaysCod
                 };
           }
 
+      pub holding : Holding s codes n
+      holding = record { sheet = coded .0; held = held }
+
       pub movable : length s ≤ length lent → Movable s codes n lent
       movable h = record { sheet = coded .0; held = held; room = h }
 
-      pub move-given : (new : List ℕ) → length s ≤ length lent → MovedTo s codes n lent new → Moved (moving all (length lent)) lent (answer.Moved (length s)) new
-      unfolding moving
-      move-given new h done =
-          record {
-            answer = rw (read, own-of b f s, le-leb (length s) (length lent) h, moved-long s codes n (coded .0) held);
-            list = done .are (coded .0) held ∙ rw (read, own-of b f s, le-leb (length s) (length lent) h);
-          }
+      module _ (at : ℕ) (used : UsedAt s codes n at) where
+        pub move-used : at < length s → Moved (moving all (length lent)) lent (answer.Refused 19 at) lent
+        unfolding moving
+        move-used l = let e = used .place (coded .0) held l in record { answer = rw (read, used .some (coded .0) held l, ← e); list = rw (read, used .some (coded .0) held l) }
+
+        module _ (l : length s ≤ at) where
+          pub move-short : length lent < length s → Moved (moving all (length lent)) lent (answer.Refused 9 (length s)) lent
+          unfolding moving
+          move-short h =
+              record {
+                answer = rw (read, used .none (coded .0) held l, own-of b f s, lt-leb (length s) (length lent) h);
+                list = rw (read, used .none (coded .0) held l, own-of b f s, lt-leb (length s) (length lent) h);
+              }
+
+          pub move-given : (new : List ℕ) → length s ≤ length lent → MovedTo s codes n lent new → Moved (moving all (length lent)) lent (answer.Moved (length s)) new
+          unfolding moving
+          move-given new h done =
+              record {
+                answer = rw (read, used .none (coded .0) held l, own-of b f s, le-leb (length s) (length lent) h, moved-long s codes n (coded .0) held);
+                list = done .are (coded .0) held ∙ rw (read, used .none (coded .0) held l, own-of b f s, le-leb (length s) (length lent) h);
+              }

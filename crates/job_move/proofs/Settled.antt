@@ -3,10 +3,11 @@ use Prim.Native.Nat.{ℕ}
 use mathlib.Core.Path.{_≡_, refl, sym, ap, _∙_}
 use mathlib.Core.List.{List}
 use lib.ListN.{length}
+use lib.Dec.{lit<}
 use Rattle.outcome.specs.Outcome.{Outcome, given, refused, unfit, part}
 use Rattle.outcome.specs.Numbered.{Numbered}
 use Rattle.outcome.proofs.Questions.{part-refused, part-unfit}
-use Rattle.outcome.proofs.NumberedLaws.{given-numbered, room-asks, bind-numbered}
+use Rattle.outcome.proofs.NumberedLaws.{given-numbered, asks, room-asks, bind-numbered}
 use Rattle.outcome.proofs.Known.{known-by}
 use Rattle.sheet.specs.Sheet.{Sheets, reading}
 use Rattle.sheet.proofs.Numbered.{reading-numbered}
@@ -49,4 +50,4 @@ module _ (o : Outcome (List ℕ)) (bytes : List ℕ) where
 -- No refusal has number 0.
 pub move-numbered : (c : Sheets) (long : ℕ) → Numbered (moving c long)
 unfolding moving
-move-numbered c long = bind-numbered (reading c) _ (reading-numbered c) (λ x. search (room-asks, given-numbered))
+move-numbered c long = bind-numbered (reading c) _ (reading-numbered c) (λ x. search (asks, room-asks, given-numbered, lit<))

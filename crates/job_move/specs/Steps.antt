@@ -1,15 +1,17 @@
 -- What the functions of the move promise each other.
-use Prim.Native.Nat.{ℕ, _+_, _*_, _≤_}
+use Prim.Native.Nat.{ℕ, _+_, _*_, _≤_, _<_}
 use mathlib.Core.Path.{_≡_}
+use mathlib.Core.Bool.{true, false, cond}
 use mathlib.Core.List.{List}
 use lib.ListN.{length, take}
 use lib.Seq.{sets}
+use lib.Dec.{ltb, eqb}
 use Rattle.outcome.specs.Lent.{filled}
-use Rattle.formula.specs.Formula.{firstOperation, Formula, postfix, Over}
+use Rattle.formula.specs.Formula.{exclusive, firstOperation, code, Formula, postfix, Over}
 use Rattle.sheet.specs.Sheet.{Sheet, codesIn}
 use Rattle.sheet.specs.Guaranteed.{Own}
 use Rattle.sheet_laying.specs.Bytes.{codeBytes}
-use Rattle.job_move.specs.Moving.{other, moved}
+use Rattle.job_move.specs.Moving.{other, moved, beforeExclusive, codesOfSheet, outOfUse}
 
 -- The first n codes of an array are those of the formula f, in postfix order.
 pub record Stand (codes : List ℕ) (n : ℕ) (f : Formula) : Type 0 where
@@ -29,12 +31,28 @@ pub record PutIn (edition : ℕ) (codes : List ℕ) (n : ℕ) (old new : List �
   pub long : length new ≡ length old
   pub are : (f : Formula) → Stand codes n f → new ≡ sets old at (codeBytes (codesIn (other edition) f))
 
+-- ---- the first 0xFFF3
+
+-- The index found so far, or n, after the code c at index i.
+abbrev pub firstOne : ℕ → ℕ → ℕ → ℕ → ℕ
+firstOne found n c i = cond (ltb found n) found (cond (eqb c (code exclusive)) i found)
+
 -- ---- a sheet that is read, given in the other edition
 
 pub record Held (s codes : List ℕ) (n : ℕ) (r : Sheet) : Type 0 where
   pub fittings : List (List ℕ)
   pub own : Own fittings s r
   pub stand : Stand codes n (r .formula)
+
+pub record Holding (s codes : List ℕ) (n : ℕ) : Type 0 where
+  pub sheet : Sheet
+  pub held : Held s codes n sheet
+
+-- The offset of the first 0xFFF3 of a sheet of edition 1, or the sheet's length.
+pub record UsedAt (s codes : List ℕ) (n at : ℕ) : Type 0 where
+  pub none : (r : Sheet) → Held s codes n r → length s ≤ at → outOfUse r ≡ false
+  pub some : (r : Sheet) → Held s codes n r → at < length s → outOfUse r ≡ true
+  pub place : (r : Sheet) → Held s codes n r → at < length s → at ≡ r .first + 2 * beforeExclusive (codesOfSheet r)
 
 pub record Movable (s codes : List ℕ) (n : ℕ) (lent : List ℕ) : Type 0 where
   pub sheet : Sheet

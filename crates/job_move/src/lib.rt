@@ -1,10 +1,12 @@
-// The move: the customer's sheet in the edition that it has not. Document 02, K10.
+// The move: the customer's sheet in the edition that it has not. Document 02, K10 and K11.
 use accepting::Acceptance;
-ghost use lib.ListN.{length};
+ghost use mathlib.Core.Path.{_≡_};
+ghost use Prim.Native.Nat.{_≤_};
+ghost use lib.ListN.{length, take};
 ghost use Rattle.sheet.specs.Sheet.{sheetsOf};
-ghost use Rattle.job_move.specs.Moving.{moving};
+ghost use Rattle.job_move.specs.Moving.{beforeExclusive, moving};
 ghost use Rattle.job_move.specs.Moved.{Moved as Promise};
-ghost use Rattle.job_move.specs.Steps.{Puttable, PutIn, Movable, MovedTo};
+ghost use Rattle.job_move.specs.Steps.{Puttable, PutIn, firstOne, Holding, UsedAt, Movable, MovedTo};
 
 // What the move answers: the length of the sheet, which is given; `Unfit` is a refusal of the fittings sheet.
 pub enum MoveAnswer {
@@ -40,6 +42,44 @@ fn give_moved(sheet: &[u8], codes: &[u16; 2048], n: usize, moved: &mut [u8])
     put_formula(edition, codes, n, moved, first);
 }
 
+// The index of the first 0xFFF3, or n where there is none, after one code more: the code at index i.
+fn first_one(found: usize, n: usize, code: u16, i: usize) -> usize
+    ensures { λ r. ⌜ r ≡ firstOne found n code i ⌝ }
+{
+    if found < n {
+        return found;
+    }
+    if code == 0xFFF3 {
+        return i;
+    }
+    found
+}
+
+// The index of the first 0xFFF3 among n codes, or n where there is none. Few sheets have one, so all codes are looked at.
+fn first_exclusive(codes: &[u16; 2048], n: usize) -> usize
+    requires { ⌜ (n ≤ 2048) × (length (now codes) ≡ 2048) ⌝ }
+    ensures { λ r. ⌜ r ≡ beforeExclusive (take n (now (codes .entry))) ⌝ }
+{
+    let mut found = n;
+    let mut i: usize = 0;
+    while i < n {
+        found = first_one(found, n, codes[i], i);
+        i += 1;
+    }
+    found
+}
+
+// The offset of the code for which the move is refused: the first 0xFFF3 of a sheet of edition 1. The sheet's length where there is none.
+fn used_at(sheet: &[u8], codes: &[u16; 2048], n: usize) -> usize
+    requires { ⌜ Holding (now sheet) (now codes) n ⌝ }
+    ensures { λ r. ⌜ UsedAt (now (sheet .entry)) (now (codes .entry)) n r ⌝ }
+{
+    if sheet[4] == 1 {
+        return sheet.len() - 2 * (n - first_exclusive(codes, n));
+    }
+    sheet.len()
+}
+
 // Gives the customer's sheet in the edition that it has not.
 pub fn move_sheet(fitted: bool, fittings: &[u8], sheet: &[u8], moved: &mut [u8]) -> MoveAnswer
     ensures { λ r. ⌜ Promise (moving (sheetsOf fitted (now (fittings .entry)) (now (sheet .entry))) (length (now (moved .entry)))) (now (moved .entry)) r (now (moved .exit)) ⌝ }
@@ -49,6 +89,13 @@ pub fn move_sheet(fitted: bool, fittings: &[u8], sheet: &[u8], moved: &mut [u8])
         Acceptance::Refused { number, place } => MoveAnswer::Refused { number, place },
         Acceptance::Unfit { number, place } => MoveAnswer::Unfit { number, place },
         Acceptance::Given { names: _, codes: n } => {
+            let at = used_at(sheet, &codes, n);
+            if at < sheet.len() {
+                return MoveAnswer::Refused {
+                    number: 19,
+                    place: at,
+                };
+            }
             if moved.len() < sheet.len() {
                 return MoveAnswer::Refused {
                     number: 9,

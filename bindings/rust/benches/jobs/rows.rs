@@ -152,9 +152,19 @@ pub fn pair_and_one() -> [Box<dyn FnMut()>; 2] {
     ]
 }
 
+/// The sheet with unions for exclusive unions.
+fn movable(formula: &str, leaves: usize) -> Vec<u8> {
+    let (mut sheet, _) = sheet(formula, leaves);
+    let first = sheet.len() - 2 * (2 * leaves - 1);
+    for code in sheet[first..].chunks_exact_mut(2).filter(|code| **code == [0xFF, 0xF3]) {
+        code[1] = 0xF0;
+    }
+    sheet
+}
+
 /// The move to edition 2.
 fn moved(formula: &'static str, leaves: usize) -> Row {
-    let (sheet, _) = sheet(formula, leaves);
+    let sheet = movable(formula, leaves);
     let (a, b) = (sheet.clone(), sheet.clone());
     let [mut moved, mut plain_moved] = [vec![0; sheet.len()], vec![0; sheet.len()]];
     let (mut copy_sheet, mut copy_moved) = (copying(sheet.clone()), copying(sheet.clone()));
@@ -185,7 +195,7 @@ fn moved(formula: &'static str, leaves: usize) -> Row {
 /// Moving the largest sheet of edition 1, with names of 32 bytes, and reading it; and the same of edition 2.
 pub fn moves_and_reads() -> [[Box<dyn FnMut()>; 2]; 2] {
     let dice = &mut Dice::of(12, 0);
-    let one = make::sheet(&make::names(dice, 256, 32), &make::codes(dice, 256, 1024, Form::Any));
+    let one = make::sheet(&make::names(dice, 256, 32), &make::without_exclusive(make::codes(dice, 256, 1024, Form::Any)));
     let two = kressedach::move_sheet(&one).unwrap();
     [one, two].map(|sheet| -> [Box<dyn FnMut()>; 2] {
         let (read, mut moved) = (sheet.clone(), vec![0; sheet.len()]);

@@ -111,10 +111,15 @@ pub fn names(sheets: Sheets, rooms: [usize; 3]) -> Result<Vec<(u8, usize, usize)
     Ok(places)
 }
 
-/// The move of the customer's sheet to the edition that it has not. "An answer list shorter than the sheet is 9, last, place the
-/// sheet's length."
+/// The move of the customer's sheet to the edition that it has not. "19, a move to edition 2 of a sheet with 0xFFF3, place the first
+/// such code, after 1 to 7." "An answer list shorter than the sheet is 9, last, place the sheet's length."
 pub fn move_sheet(sheets: Sheets, room: usize) -> Result<Vec<u8>, Refused> {
     let sheet = sheet::read(sheets)?;
+    if sheet.edition == 1 {
+        if let Some(k) = sheet.formula.codes().iter().position(|code| *code == 0xFFF3) {
+            return refuse(19, sheet.first + 2 * k);
+        }
+    }
     enough([room], [sheets.own.len()])?;
     Ok(sheet::moved(&sheet, sheets.own))
 }

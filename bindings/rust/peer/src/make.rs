@@ -152,12 +152,20 @@ pub fn good_sheet(dice: &mut Dice) -> (Vec<u8>, usize) {
     (in_either(dice, None, own), count)
 }
 
-/// A good sheet of edition 1, now and then moved to edition 2.
+/// A good sheet of edition 1, now and then in edition 2, also with exclusive unions, which no move writes there.
 fn in_either(dice: &mut Dice, fittings: Option<&[u8]>, own: Vec<u8>) -> Vec<u8> {
     match dice.once_in(3) {
-        true => crate::move_sheet(Sheets { fittings, own: &own }, own.len()).unwrap_or_else(|refused| panic!("a good sheet: {refused:?}")),
+        true => {
+            let sheet = crate::read(Sheets { fittings, own: &own }).unwrap_or_else(|refused| panic!("a good sheet: {refused:?}"));
+            crate::sheet::moved(&sheet, &own)
+        }
         false => own,
     }
+}
+
+/// The codes with unions for exclusive unions: those of a sheet that moves to edition 2.
+pub fn without_exclusive(codes: Vec<u16>) -> Vec<u16> {
+    codes.into_iter().map(|code| if code == 0xFFF3 { 0xFFF0 } else { code }).collect()
 }
 
 /// A good fittings sheet, a good sheet beside it, and how many names they have together.

@@ -1,4 +1,4 @@
-//! K10 of document 02, rule by rule, of the plain implementation.
+//! K10 and K11 of document 02, rule by rule, of the plain implementation.
 
 use peer::lines::Crossings;
 use peer::make::{fittings, sheet, sheet_first};
@@ -6,6 +6,7 @@ use peer::sheet::{Sheet, Sheets};
 use peer::Refused;
 
 const UNION: u16 = 0xFFF0;
+const INTERSECTION: u16 = 0xFFF1;
 const DIFFERENCE: u16 = 0xFFF2;
 const EXCLUSIVE: u16 = 0xFFF3;
 const ABC: [&str; 3] = ["A", "B", "C"];
@@ -94,12 +95,32 @@ fn sheets_move_there_and_back() {
     let [last, first] = worked();
     assert_eq!(moved(&last), Ok(first.clone()));
     assert_eq!(moved(&first), Ok(last));
-    for codes in [vec![0], vec![0, 1, EXCLUSIVE, 2, EXCLUSIVE], vec![2, 1, 0, DIFFERENCE, 1, UNION, DIFFERENCE]] {
+    for codes in [vec![0], vec![0, 1, INTERSECTION, 2, INTERSECTION], vec![2, 1, 0, DIFFERENCE, 1, UNION, DIFFERENCE]] {
         let one = sheet(&ABC, &codes);
         let two = moved(&one).unwrap();
         assert_eq!(moved(&two), Ok(one.clone()));
         assert_eq!(read(&two).map(|sheet| Sheet { edition: 1, ..sheet }), read(&one));
     }
+}
+
+#[test]
+fn a_move_to_edition_2_of_a_sheet_with_0xfff3_is_19_at_the_first_such_code() {
+    assert_eq!(moved(&sheet(&ABC, &[0, 1, EXCLUSIVE, 2, EXCLUSIVE])), refused(19, 24));
+    assert_eq!(moved(&sheet(&ABC, &[0, 1, UNION, 2, EXCLUSIVE])), refused(19, 28));
+    let many: Vec<String> = (0..250).map(|k| format!("N{k}")).collect();
+    assert!(moved(&sheet(&many, &[0, 243, UNION])).is_ok(), "shape 0xF3 is no operation");
+    let mut sheet = sheet(&ABC, &[0, 1, EXCLUSIVE, 2, EXCLUSIVE]);
+    assert_eq!(peer::move_sheet(Sheets::alone(&sheet), 29), refused(19, 24), "19 before 9");
+    sheet[27] = 9;
+    assert_eq!(moved(&sheet), refused(7, 26), "7 before 19");
+}
+
+#[test]
+fn sheets_with_0xfff3_are_read_and_move_back_to_edition_1() {
+    let (last, first) = (sheet(&ABC, &[0, 1, 2, EXCLUSIVE, UNION]), sheet_first(&ABC, &[UNION, 0, EXCLUSIVE, 1, 2]));
+    assert_eq!(read(&first).map(|sheet| Sheet { edition: 1, ..sheet }), read(&last));
+    assert_eq!(moved(&first), Ok(last.clone()));
+    assert_eq!(moved(&last), refused(19, 26));
 }
 
 #[test]

@@ -1,5 +1,5 @@
--- `job_move::move_sheet` meets its contract: the sheets are refused, the list is too short, or the moved sheet is given.
-use Rattle.job_move.proofs.MoveLaws.{move-refused, move-unfit, move-short, movable, move-given}
+-- `job_move::move_sheet` meets its contract: the sheets are refused, 0xFFF3 is out of use, the list is too short, or the moved sheet is given.
+use Rattle.job_move.proofs.MoveLaws.{move-refused, move-unfit, holding, move-used, move-short, movable, move-given}
 use borrow.Author.Needs.{needs}
 use Rattle.job_move.proofs.move_sheet.Statement.{statement}
 use Rattle.job_move.proofs.move_sheet.Tie as tie
@@ -16,23 +16,29 @@ enum-known-number-2 c = search needs
 enum-known-n : tie.Need-enum-known-n
 enum-known-n c = search needs
 
+used-at-requires : tie.Need-used-at-requires
+used-at-requires c κs = search (holding, needs)
+
 returns : tie.Need-returns
-returns c = search move-short
+returns c = search (move-used, needs)
+
+returns-2 : tie.Need-returns-2
+returns-2 c = search (move-short, needs)
 
 give-moved-requires : tie.Need-give-moved-requires
 give-moved-requires c κs = search (movable, needs)
 
-returns-2 : tie.Need-returns-2
-returns-2 c = search move-refused
-
 returns-3 : tie.Need-returns-3
-returns-3 c = search move-unfit
+returns-3 c = search move-refused
+
+returns-4 : tie.Need-returns-4
+returns-4 c = search move-unfit
 
 same-length : tie.Need-same-length
 same-length c = search needs
 
-returns-4 : tie.Need-returns-4
-returns-4 c = search (move-given, needs)
+returns-5 : tie.Need-returns-5
+returns-5 c = search (move-given, needs)
 
 pub move-sheet-spec : {M : Type 1} → statement M
 move-sheet-spec =
@@ -42,9 +48,11 @@ move-sheet-spec =
     enum-known-number
     enum-known-number-2
     enum-known-n
+    used-at-requires
     returns
-    give-moved-requires
     returns-2
+    give-moved-requires
     returns-3
+    returns-4
     same-length
-    returns-4)
+    returns-5)

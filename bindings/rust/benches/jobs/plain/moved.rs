@@ -5,6 +5,9 @@ use super::{read, Refused};
 /// How many bytes were given.
 pub fn move_sheet(sheet: &[u8], moved: &mut [u8]) -> Result<usize, Refused> {
     let (_, _, first, past) = read(sheet)?;
+    if let Some(k) = sheet[first..past].chunks_exact(2).position(|code| code == [0xFF, 0xF3]) {
+        return Err((19, first + 2 * k));
+    }
     if moved.len() < sheet.len() {
         return Err((9, sheet.len()));
     }

@@ -1,0 +1,134 @@
+-- 0xFFF3 among codes: found by one pass over them, and the same in either order.
+use Prim.Native.Nat.{ℕ, suc, _+_, _≤_, _<_}
+use native.Mathlib.Omega.{arith}
+use native.Mathlib.Numerals.{add-one}
+use mathlib.Core.Path.{_≡_, refl, sym, ap, _∙_}
+use mathlib.Core.Bool.{Bool, true, false, cond, _||_}
+use mathlib.Core.List.{List, [], _∷_, _++_}
+use lib.ListN.{length, getD, take, drop, drop-of-length-le}
+use lib.Seq.{getD-take, drop-cons, length-take-le}
+use lib.Dec.{ltb, eqb}
+use borrow.Author.Tests.{lt-ltb, le-ltb, ltb-false, eq-eqb, ne-eqb}
+use Rattle.formula.specs.Formula.{exclusive, code, Formula, leaf, node, postfix, prefix}
+use Rattle.sheet.specs.Sheet.{codesIn}
+use Rattle.job_move.specs.Moving.{hasExclusive, beforeExclusive}
+use Rattle.job_move.specs.Steps.{firstOne}
+
+-- ---- it is among codes exactly if not all of them stand before it
+
+none-by : (cs : List ℕ) (b : Bool) → (length cs ≤ beforeExclusive cs → hasExclusive cs ≡ false)
+    → suc (length cs) ≤ elim b [ true ↦ 0 | false ↦ suc (beforeExclusive cs) ] → (b || hasExclusive cs) ≡ false
+none-by cs true ih h = absurd (omega (arith, h))
+none-by cs false ih h = ih (omega (arith, h))
+
+pub has-none : (cs : List ℕ) → length cs ≤ beforeExclusive cs → hasExclusive cs ≡ false
+unfolding hasExclusive beforeExclusive
+has-none [] h = refl
+has-none (c ∷ cs) h = none-by cs (eqb c (code exclusive)) (has-none cs) h
+
+some-by : (cs : List ℕ) (b : Bool) → (beforeExclusive cs < length cs → hasExclusive cs ≡ true)
+    → elim b [ true ↦ 0 | false ↦ suc (beforeExclusive cs) ] < suc (length cs) → (b || hasExclusive cs) ≡ true
+some-by cs true ih h = refl
+some-by cs false ih h = ih (omega (arith, h))
+
+pub has-some : (cs : List ℕ) → beforeExclusive cs < length cs → hasExclusive cs ≡ true
+unfolding hasExclusive beforeExclusive
+has-some [] h = absurd (omega (arith, h))
+has-some (c ∷ cs) h = some-by cs (eqb c (code exclusive)) (has-some cs) h
+
+most-by : (cs : List ℕ) (b : Bool) → beforeExclusive cs ≤ length cs → elim b [ true ↦ 0 | false ↦ suc (beforeExclusive cs) ] ≤ suc (length cs)
+most-by cs true ih = omega arith
+most-by cs false ih = omega (arith, ih)
+
+pub before-most : (cs : List ℕ) → beforeExclusive cs ≤ length cs
+unfolding beforeExclusive
+before-most [] = omega arith
+before-most (c ∷ cs) = most-by cs (eqb c (code exclusive)) (before-most cs)
+
+-- ---- in either order
+
+or-assoc : (a b c : Bool) → ((a || b) || c) ≡ (a || (b || c))
+or-assoc true b c = refl
+or-assoc false b c = refl
+
+has-append : (xs ys : List ℕ) → hasExclusive (xs ++ ys) ≡ (hasExclusive xs || hasExclusive ys)
+unfolding hasExclusive
+has-append [] ys = refl
+has-append (x ∷ xs) ys = ap (λ (b : Bool). eqb x (code exclusive) || b) (has-append xs ys) ∙ sym (or-assoc (eqb x (code exclusive)) (hasExclusive xs) (hasExclusive ys))
+
+last-first : (a b c : Bool) → (a || (b || (c || false))) ≡ (c || (a || b))
+last-first true b true = refl
+last-first true b false = refl
+last-first false true true = refl
+last-first false true false = refl
+last-first false false true = refl
+last-first false false false = refl
+
+has-order : (f : Formula) → hasExclusive (prefix f) ≡ hasExclusive (postfix f)
+unfolding hasExclusive
+has-order (leaf s) = refl
+has-order (node o l r) =
+    let c = eqb (code o) (code exclusive) in
+    ap (λ (b : Bool). c || b) (has-append (prefix l) (prefix r))
+    ∙ rw (has-order l, has-order r) (sym (last-first (hasExclusive (postfix l)) (hasExclusive (postfix r)) c))
+    ∙ ap (λ (b : Bool). hasExclusive (postfix l) || b) (sym (has-append (postfix r) (code o ∷ [])))
+    ∙ sym (has-append (postfix l) (postfix r ++ (code o ∷ [])))
+
+pub has-either : (edition : ℕ) (f : Formula) → hasExclusive (codesIn edition f) ≡ hasExclusive (postfix f)
+has-either edition f = by (eqb edition 1)
+  where
+    by : (b : Bool) → hasExclusive (cond b (postfix f) (prefix f)) ≡ hasExclusive (postfix f)
+    by true = refl
+    by false = has-order f
+
+-- ---- one code more
+
+module _ (found n c i : ℕ) where
+  pub one-kept : found < n → found ≡ firstOne found n c i
+  one-kept h = rw (lt-ltb found n h)
+
+  pub one-here : n ≤ found → c ≡ 0xFFF3 → i ≡ firstOne found n c i
+  one-here h e = rw (le-ltb found n h, eq-eqb c 0xFFF3 e)
+
+  pub one-none : n ≤ found → (c ≡ 0xFFF3 → ⊥) → found ≡ firstOne found n c i
+  one-none h e = rw (le-ltb found n h, ne-eqb c 0xFFF3 e)
+
+-- The first i of n codes are looked at: what is found decides, or what is left.
+pub record Looked (codes : List ℕ) (n found i : ℕ) : Type 0 where
+  pub most : found ≤ n
+  pub whole : beforeExclusive (take n codes) ≡ cond (ltb found n) found (i + beforeExclusive (drop i (take n codes)))
+
+pub looked-none : (codes : List ℕ) (n : ℕ) → Looked codes n n 0
+looked-none codes n = record { most = omega arith; whole = rw (le-ltb n n (omega arith)) (omega arith) }
+
+module _ (codes : List ℕ) (n found i : ℕ) (so : Looked codes n found i) where
+  more-by : (b d : Bool) → ltb found n ≡ b → i < n → beforeExclusive (drop i (take n codes)) ≡ elim d [ true ↦ 0 | false ↦ suc (beforeExclusive (drop (suc i) (take n codes))) ]
+      → Looked codes n (cond b found (cond d i found)) (i + 1)
+  more-by true d e more left =
+      let k : beforeExclusive (take n codes) ≡ found = rw e at (so .whole) in
+      record { most = so .most; whole = k ∙ rw e }
+  more-by false true e more left =
+      let k : beforeExclusive (take n codes) ≡ i + 0 = rw (e, left) at (so .whole) in
+      record { most = omega arith; whole = k ∙ rw (lt-ltb i n more) (omega arith) }
+  more-by false false e more left =
+      let k : beforeExclusive (take n codes) ≡ i + suc (beforeExclusive (drop (suc i) (take n codes))) = rw (e, left) at (so .whole) in
+      record { most = so .most; whole = k ∙ rw (e, add-one i) (omega arith) }
+
+  pub looked-more : (c more : ℕ) → c ≡ getD codes i 0 → i < n → n ≤ 2048 → length codes ≡ 2048 → more ≡ firstOne found n c i → Looked codes n more (i + 1)
+  unfolding beforeExclusive
+  looked-more c more is below few sized e =
+      let long : length (take n codes) ≡ n = length-take-le n codes (omega arith) in
+      let here : getD (take n codes) i 0 ≡ c = getD-take n codes i 0 below ∙ sym is in
+      let left : drop i (take n codes) ≡ c ∷ drop (suc i) (take n codes) = drop-cons (take n codes) i 0 (omega (arith, long)) ∙ ap (λ (x : ℕ). x ∷ drop (suc i) (take n codes)) here in
+      rw e (more-by (ltb found n) (eqb c (code exclusive)) refl below (ap beforeExclusive left))
+
+  all-by : (b : Bool) → ltb found n ≡ b → n ≤ i → i ≤ n → length (take n codes) ≤ i → found ≡ beforeExclusive (take n codes)
+  unfolding beforeExclusive
+  all-by true e h l long = sym (rw e at (so .whole))
+  all-by false e h l long =
+      let k : beforeExclusive (take n codes) ≡ i + 0 = rw (e, drop-of-length-le (take n codes) long) at (so .whole) in
+      let full : n ≤ found = ltb-false found n e in
+      omega (arith, k, full, so .most)
+
+  pub looked-all : n ≤ i → i ≤ n → n ≤ 2048 → length codes ≡ 2048 → found ≡ beforeExclusive (take n codes)
+  looked-all h l few sized = all-by (ltb found n) refl h l (omega (arith, length-take-le n codes (omega arith)))
