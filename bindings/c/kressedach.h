@@ -11,8 +11,9 @@
  * true, an empty fittings sheet is refused as any other that ends too soon.
  *
  * Each function answers a struct. Where `number` is 0, the job is done: `sheet` and `place` are 0 (but kressedach_name says in `sheet`
- * which sheet holds the name), and the rest is the answer. Else `number` and `place` are the refusal's, as documents 01 and 02 have them,
- * `sheet` says which sheet the place is in, and the rest is 0. The crossing makers, which take no sheet, answer no `sheet`.
+ * which sheet holds the name), and the rest is the answer. Else `number` and `place` are the refusal's, `sheet` says which sheet the place
+ * is in, and the rest is 0. The page docs/SHEET.md says what a sheet is, byte by byte, and has all refusals with their places, the order in
+ * which each job asks, and what the numbers of a tree's records mean. The crossing makers, which take no sheet, answer no `sheet`.
  *
  * A refusal writes nothing to any list. Entries of a list past the last one given stay as they were.
  *

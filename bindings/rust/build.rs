@@ -2,12 +2,15 @@
 //!
 //! 1. Where `KRESSEDACH_LIB_DIR` is set, the archive is taken from that folder.
 //! 2. Else it is taken from `target/staticlib` at the top of the repository, if it is younger than all of the library's sources.
-//! 3. Else `rt staticlib host` proves and compiles it there: from nothing that takes as long as the proofs do, afterwards seconds.
+//! 3. Else `rt staticlib host` proves and compiles it there: from nothing that takes as long as the proofs do, afterwards seconds. Cargo
+//!    hides what a build script prints, so what is proved is said on the terminal, where there is one.
 //!
 //! The archive is copied to `OUT_DIR`, since `rt ci` removes `target/`.
 
+use std::fs::OpenOptions;
+use std::io::{BufRead, BufReader, Write};
 use std::path::{Path, PathBuf};
-use std::process::Command;
+use std::process::{Command, Stdio};
 use std::time::SystemTime;
 use std::{env, fs};
 
@@ -75,13 +78,31 @@ fn youngest(path: &Path) -> Option<SystemTime> {
     }
 }
 
+/// Says something on the terminal, if there is one.
+fn tell(what: &str) {
+    if let Ok(mut terminal) = OpenOptions::new().write(true).open("/dev/tty") {
+        let _ = writeln!(terminal, "{what}");
+    }
+}
+
 fn prove(root: &Path) {
-    match Command::new("rt").args(["staticlib", "host"]).current_dir(root).output() {
-        Err(e) => missing(&format!("There is none in target/staticlib, and rt cannot be run: {e}.")),
-        Ok(said) if !said.status.success() => {
-            eprint!("{}{}", String::from_utf8_lossy(&said.stdout), String::from_utf8_lossy(&said.stderr));
-            missing("'rt staticlib host' failed, as shown above.");
+    if let Err(e) = Command::new("rt").arg("version").output() {
+        missing(&format!("There is none in target/staticlib, and rt cannot be run: {e}."));
+    }
+    tell("kressedach: proving the library with 'rt staticlib host'; from nothing that takes minutes");
+    // what rt says goes one way, in its order
+    let mut command = Command::new("sh");
+    let started = command.args(["-c", "exec rt staticlib host 2>&1"]).current_dir(root).stdout(Stdio::piped()).spawn();
+    let mut child = started.unwrap_or_else(|e| missing(&format!("'rt staticlib host' cannot be run: {e}.")));
+    let mut said = String::new();
+    for line in child.stdout.take().into_iter().flat_map(|out| BufReader::new(out).lines()).map_while(Result::ok) {
+        if let Some(proved) = line.strip_prefix("rt: ").filter(|line| line.contains("proved")) {
+            tell(&format!("kressedach: {proved}"));
         }
-        Ok(_) => {}
+        said += &(line + "\n");
+    }
+    if !child.wait().is_ok_and(|status| status.success()) {
+        eprint!("{said}");
+        missing("'rt staticlib host' failed, as shown above.");
     }
 }

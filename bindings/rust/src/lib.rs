@@ -2,11 +2,15 @@
 #![warn(missing_docs)]
 
 mod cross;
+mod encode;
 mod ffi;
+mod formula;
 mod lines;
 mod refusal;
 
 pub use cross::{cross, cross_balls, cross_balls_into, cross_into, Axis, Ball, Counts, Crossed, LineLists, Probe, Shape, BOX};
+pub use encode::{encode, encode_beside, encode_fittings, formula, read_fittings, Edition};
+pub use formula::{Formula, Operation};
 pub use lines::{classify, classify_from, classify_into, Crossing, Start, Wall, WallLists, OPEN_END, OPEN_SHAPE, OPEN_START};
 pub use refusal::{Refusal, Which};
 use std::ops::Range;
@@ -150,7 +154,8 @@ fn unless_refused<T>(number: u8, sheet: u8, place: usize, answer: T) -> Result<T
 ///
 /// # Errors
 ///
-/// 1 to 7 and 17, the first that is met in document 01's order of reading, in the fittings sheet first.
+/// 1 to 7 and 17, the first that is met in the order of reading, in the fittings sheet first. The repository's page `docs/SHEET.md` has that
+/// order, the sheet byte by byte, and every refusal.
 #[inline]
 pub fn read<'a>(sheets: impl Into<Sheets<'a>>) -> Result<Read, Refusal> {
     let (fitted, fittings, sheet) = sheets.into().parts();

@@ -113,7 +113,7 @@ pub fn classify_from<'a>(sheets: impl Into<Sheets<'a>>, starts: &[Start], crossi
     let sheets = sheets.into();
     let numbers = Numbers::of(starts, crossings);
     let rows = numbers.rows(starts, read(sheets)?.names);
-    let lines: Vec<u32> = crossings.iter().map(|crossing| numbers.row(crossing.line) as u32).collect();
+    let lines = numbers.rows_of(crossings);
     let positions: Vec<i32> = crossings.iter().map(|crossing| crossing.position).collect();
     let shapes: Vec<u16> = crossings.iter().map(|crossing| crossing.shape).collect();
     let room = crossings.len() / 2 + numbers.0.len();
@@ -140,8 +140,7 @@ struct Numbers(Vec<u32>);
 
 impl Numbers {
     fn of(starts: &[Start], crossings: &[Crossing]) -> Numbers {
-        let mut numbers: Vec<u32> = crossings.iter().map(|crossing| crossing.line).collect();
-        numbers.dedup();
+        let mut numbers: Vec<u32> = crossings.chunk_by(|before, here| before.line == here.line).map(|one| one[0].line).collect();
         numbers.extend(starts.iter().map(|start| start.line));
         numbers.sort_unstable();
         numbers.dedup();
@@ -150,6 +149,17 @@ impl Numbers {
 
     fn row(&self, line: u32) -> usize {
         self.0.partition_point(|number| *number < line)
+    }
+
+    /// The row of each crossing's line. Lines come by rising number, so it is mostly the row of the crossing before, or the next.
+    fn rows_of(&self, crossings: &[Crossing]) -> Vec<u32> {
+        let mut row = 0;
+        let here = |crossing: &Crossing| {
+            let is_its = |row: usize| self.0.get(row) == Some(&crossing.line);
+            row = if is_its(row) { row } else { Some(row + 1).filter(|next| is_its(*next)).unwrap_or_else(|| self.row(crossing.line)) };
+            row as u32
+        };
+        crossings.iter().map(here).collect()
     }
 
     /// A byte a shape, a row a line. A shape that no name has makes a byte that is neither 0 nor 1, for the library to refuse.

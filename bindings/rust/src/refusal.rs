@@ -10,7 +10,8 @@ pub enum Which {
     Customers,
 }
 
-/// Why a job gave no answer: a number of documents 01 and 02, and the place that it fixes.
+/// Why a job gave no answer: a number, and the place that it fixes. The repository's page `docs/SHEET.md` has the table, and the order in
+/// which each job asks.
 ///
 /// A refusal prints as a sentence that a person can act on:
 ///

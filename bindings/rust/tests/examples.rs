@@ -1,15 +1,17 @@
-//! What `examples/README.md` says is so: its sheets are the files, and its commands print what stands under them.
+//! What the pages of `examples/` say is so: the sheets are made of the texts beside them, and the commands print what stands under them.
 
-use kressedach::Sheets;
+mod said;
+
+use said::WALLCHECK;
 use std::io::Write;
 use std::path::Path;
 use std::process::{Command, Stdio};
 
 const EXAMPLES: &str = concat!(env!("CARGO_MANIFEST_DIR"), "/../../examples");
 
-/// The blocks of the page whose heading begins with a word: the rest of the heading, and the lines.
-fn blocks(word: &str) -> Vec<(String, Vec<String>)> {
-    let page = std::fs::read_to_string(Path::new(EXAMPLES).join("README.md")).unwrap();
+/// The blocks of a page whose heading begins with a word: the rest of the heading, and the lines.
+fn blocks(page: &str, word: &str) -> Vec<(String, Vec<String>)> {
+    let page = std::fs::read_to_string(Path::new(EXAMPLES).join(page)).unwrap();
     let mut blocks = Vec::new();
     let mut lines = page.lines();
     while let Some(line) = lines.next() {
@@ -22,50 +24,11 @@ fn blocks(word: &str) -> Vec<(String, Vec<String>)> {
     blocks
 }
 
-/// The bytes of a line's left side, which two spaces end.
-fn bytes(line: &str) -> Vec<u8> {
-    let digits: String = line.split("  ").next().unwrap().split(' ').collect();
-    (0..digits.len()).step_by(2).map(|k| u8::from_str_radix(&digits[k..k + 2], 16).unwrap()).collect()
-}
-
-/// The bytes of a sheet that the page writes out, and the file that has them.
-fn sheet_file(name: &str, lines: &[String]) -> Vec<u8> {
-    let due: Vec<u8> = lines.iter().flat_map(|line| bytes(line)).collect();
-    let path = Path::new(EXAMPLES).join(name);
-    if std::env::var_os("KRESSEDACH_WRITE_EXAMPLES").is_some() {
-        std::fs::write(&path, &due).unwrap();
-    }
-    assert_eq!(std::fs::read(&path).unwrap(), due, "{name}");
-    due
-}
-
-#[test]
-fn the_sheets_are_as_written() {
-    let sheets = blocks("sheet");
-    assert_eq!(sheets.len(), 7);
-    for (heading, lines) in &sheets {
-        let (name, fittings) = heading.split_once(" beside ").unwrap_or((heading, ""));
-        let own = sheet_file(name, lines);
-        let named: Vec<&String> = lines.iter().filter(|line| line.contains("shape ")).collect();
-        let beside = sheets.iter().find(|(heading, _)| heading == fittings).map(|(name, lines)| (sheet_file(name, lines), lines));
-        // a fittings sheet is read beside the sheet that names it
-        if heading == "fittings.sheet" {
-            continue;
-        }
-        let fitted: Vec<&String> = beside.iter().flat_map(|(_, lines)| lines.iter().filter(|line| line.contains("shape "))).collect();
-        let names = kressedach::names(Sheets { fittings: beside.as_ref().map(|(bytes, _)| &bytes[..]), customers: &own }).unwrap();
-        assert_eq!(names.len(), fitted.len() + named.len());
-        for (shape, (text, line)) in names.iter().zip(fitted.into_iter().chain(named)).enumerate() {
-            assert!(line.ends_with(&format!("shape {shape}: {text}")), "{name}: {text}");
-        }
-    }
-}
-
-/// What a command says that is given this on standard input.
-fn said_to(given: &[u8], command: &str) -> Vec<u8> {
+/// What a command gives on standard output that is given this on standard input, and what it says on standard error.
+fn said_to(given: &[u8], command: &str) -> (Vec<u8>, Vec<u8>) {
     let mut words = command.split(' ');
     assert_eq!(words.next(), Some("wallcheck"));
-    let mut child = Command::new(env!("CARGO_BIN_EXE_wallcheck"))
+    let mut child = Command::new(WALLCHECK)
         .args(words)
         .current_dir(EXAMPLES)
         .stdin(Stdio::piped())
@@ -73,28 +36,79 @@ fn said_to(given: &[u8], command: &str) -> Vec<u8> {
         .stderr(Stdio::piped())
         .spawn()
         .unwrap();
-    child.stdin.take().unwrap().write_all(given).unwrap();
+    // a command that reads nothing may have ended: that is no failure
+    let _ = child.stdin.take().unwrap().write_all(given);
     let output = child.wait_with_output().unwrap();
-    [output.stdout, output.stderr].concat()
+    (output.stdout, output.stderr)
+}
+
+/// All that a row of commands prints: what each says, and what the last one gives.
+fn printed(commands: &str) -> String {
+    let (mut given, mut said) = (vec![], vec![]);
+    for command in commands.split(" | ") {
+        let (out, err) = said_to(&given, command);
+        (given, _) = (out, said.extend(err));
+    }
+    // a command that is refused or in error gives nothing, so that the order does not show
+    String::from_utf8_lossy(&[said, given].concat()).into_owned()
+}
+
+/// The file names of the sheets, and the words that name the fittings sheet of each: its text's first remark does. Those with none first.
+fn sheets() -> Vec<(String, String)> {
+    let files = std::fs::read_dir(EXAMPLES).unwrap().map(|entry| entry.unwrap().file_name().into_string().unwrap());
+    let beside = |sheet: String| {
+        let text = sheet.replace(".sheet", ".txt");
+        let page = std::fs::read_to_string(Path::new(EXAMPLES).join(&text)).unwrap_or_else(|e| panic!("{text}: {e}"));
+        let fittings = page.lines().next().and_then(|line| line.strip_prefix("# beside ")).map(|file| format!("--fittings {file} "));
+        (fittings.unwrap_or_default(), sheet)
+    };
+    let mut sheets: Vec<(String, String)> = files.filter(|name| name.ends_with(".sheet")).map(beside).collect();
+    sheets.sort();
+    sheets
+}
+
+/// Every sheet has a text beside it, and is what is made of it; and shown, it makes the same again.
+#[test]
+fn the_sheets_are_made_of_the_texts() {
+    let sheets = sheets();
+    assert_eq!(sheets.len(), 7);
+    for (beside, sheet) in sheets {
+        let text = sheet.replace(".sheet", ".txt");
+        let (made, said) = said_to(b"", &format!("wallcheck make {beside}{text}"));
+        assert_eq!(String::from_utf8_lossy(&said), "", "{text}");
+        let path = Path::new(EXAMPLES).join(&sheet);
+        if std::env::var_os("KRESSEDACH_WRITE_EXAMPLES").is_some() {
+            std::fs::write(&path, &made).unwrap();
+        }
+        assert!(std::fs::read(&path).unwrap() == made, "{sheet} is not what is made of {text}");
+        let (page, _) = said_to(b"", &format!("wallcheck show {beside}{sheet}"));
+        assert_eq!(said_to(&page, &format!("wallcheck make {beside}-")).0, made, "{sheet}");
+    }
 }
 
 #[test]
 fn the_commands_print_as_written() {
-    let mut commands = 0;
-    for (_, lines) in blocks("console") {
-        for said in lines.join("\n").split("$ ").skip(1) {
-            let (command, due) = said.split_once('\n').unwrap_or((said, ""));
-            let got = command.split(" | ").fold(vec![], |given, command| said_to(&given, command));
-            assert_eq!(String::from_utf8_lossy(&got).trim_end(), due.trim_end(), "{command}");
-            commands += 1;
+    for (page, due) in [("README.md", 26), ("NEWCOMERS.md", 8)] {
+        let mut commands = 0;
+        for (_, lines) in blocks(page, "console") {
+            for said in format!("\n{}", lines.join("\n")).split("\n$ ").skip(1) {
+                let (command, due) = said.split_once('\n').unwrap_or((said, ""));
+                assert_eq!(printed(command).trim_end(), due.trim_end(), "{page}: {command}");
+                commands += 1;
+            }
         }
+        assert_eq!(commands, due, "{page}");
     }
-    assert_eq!(commands, 23);
 }
 
-/// What a page says that a file has is what the command prints.
+/// What a page says that a file has is what the file has, or what the command prints.
 #[test]
-fn the_starts_are_those_of_the_drawing() {
+fn the_files_are_as_written() {
+    let texts = blocks("NEWCOMERS.md", "text");
+    assert_eq!(texts.len(), 1);
+    for (name, lines) in texts {
+        assert_eq!(std::fs::read_to_string(Path::new(EXAMPLES).join(&name)).unwrap().trim_end(), lines.join("\n"), "{name}");
+    }
     let starts = std::fs::read(Path::new(EXAMPLES).join("cut-starts.csv")).unwrap();
-    assert_eq!(said_to(b"", "wallcheck cross --starts cut-shapes.csv cut-lines.csv"), starts);
+    assert_eq!(said_to(b"", "wallcheck cross --starts cut-shapes.csv cut-lines.csv").0, starts);
 }

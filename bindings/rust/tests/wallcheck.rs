@@ -1,46 +1,10 @@
 //! The command's answers, words and exit status.
 
+mod said;
+
 use peer::make::{fittings, sheet};
-use std::io::Write;
-use std::path::PathBuf;
-use std::process::{Command, Stdio};
-
-/// Exit status, standard output, standard error.
-type Said = (Option<i32>, String, String);
-
-fn wallcheck(args: &[&str], stdin: &[u8]) -> Said {
-    let mut child = Command::new(env!("CARGO_BIN_EXE_wallcheck"))
-        .args(args)
-        .stdin(Stdio::piped())
-        .stdout(Stdio::piped())
-        .stderr(Stdio::piped())
-        .spawn()
-        .unwrap();
-    // a command that reads nothing may have ended: that is no failure
-    let _ = child.stdin.take().unwrap().write_all(stdin);
-    let output = child.wait_with_output().unwrap();
-    let text = |bytes: &[u8]| String::from_utf8_lossy(bytes).into_owned();
-    (output.status.code(), text(&output.stdout), text(&output.stderr))
-}
-
-fn answered(text: &str) -> Said {
-    (Some(0), text.into(), String::new())
-}
-
-fn refused(text: &str) -> Said {
-    (Some(1), String::new(), format!("wallcheck: {text}\n"))
-}
-
-fn unreadable(text: &str) -> Said {
-    (Some(2), String::new(), format!("wallcheck: {text}\n"))
-}
-
-/// A file with these bytes, and its path.
-fn file(name: &str, bytes: &[u8]) -> String {
-    let path = PathBuf::from(env!("CARGO_TARGET_TMPDIR")).join(name);
-    std::fs::write(&path, bytes).unwrap();
-    path.to_str().unwrap().into()
-}
+use said::{answered, file, refused, refused_of, unreadable, wallcheck, WALLCHECK};
+use std::process::Command;
 
 fn worked() -> Vec<u8> {
     sheet(&["A", "B", "C"], &[0, 1, 2, 0xFFF0, 0xFFF2])
@@ -72,16 +36,15 @@ fn two_foundries() {
     assert_eq!(both(&first, b"foundry\n0\n1\n0\n"), answered(&format!("{heading}{rows}")));
     // one foundry's fault is its own
     let stranger = file("stranger.csv", b"name\nA\nb\n");
-    let about = "row 3 of standard input".replace("standard input", &stranger);
-    let refusal = "wallcheck: foundry 0: refused 10 at entry 1: a shape number that no name has";
-    let words = format!("{refusal}\n  {about}: the sheet has no name \"b\"; names are compared letter by letter\n");
+    let refusal = format!("wallcheck: foundry 0: {stranger}: refused 10 at entry 1: a shape number that no name has");
+    let words = format!("{refusal}\n  row 3: the sheet has no name \"b\"; there is B; names are compared letter by letter\n");
     assert_eq!(both(&stranger, b"foundry\n0\n1\n0\n"), (Some(1), format!("{heading}1,1,0,1,B,0,2\n"), words));
     // an order that does not mix the lists goes to both, before 10
     let order = "refused 13: the three crossing lists differ in length, or an order does not mix the lists of two foundries";
     let turns = "1 turns for 2 toggles of foundry 0, 1 turns for 1 of foundry 1";
     assert_eq!(both(&stranger, b"foundry\n0\n1\n"), refused(&format!("{order}\n  {turns}")));
     assert_eq!(both(&first, b"foundry\n0\n1\n2\n"), refused(&format!("{order}\n  turn 2 is foundry 2's, and there are 0 and 1")));
-    assert_eq!(both(&first, b"turn\n0\n"), unreadable("standard input: row 1: the heading is to be foundry"));
+    assert_eq!(both(&first, b"turn\n0\n"), unreadable("standard input: row 1: the heading is to be foundry, and it is \"turn\""));
     let range = "standard input: row 2: foundry \"256\" is no whole number from 0 to 255";
     assert_eq!(both(&first, b"foundry\n256\n"), unreadable(range));
 }
@@ -128,12 +91,12 @@ fn refused_sheets() {
     assert_eq!(wallcheck(&["read", "-"], &sheet(&["a b"], &[0])), refused(spaced));
     let long = wallcheck(&["read", "-"], &sheet(&["N".repeat(33)], &[0])).2;
     assert!(long.ends_with("the name there has 33 bytes; 1 to 32 are allowed\n"), "{long}");
-    let code = "refused 7 at byte 12 of the customer's sheet: the formula is wrong\n  the code there is 0xFFF4";
+    let code = "refused 7 at byte 12 of the customer's sheet: the formula is wrong\n  there is no such code as 0xFFF4";
     assert_eq!(wallcheck(&["read", "-"], &sheet(&["A"], &[0xFFF4])), refused(code));
-    let end = "refused 7 at byte 9 of the customer's sheet: the formula is wrong\n  its end leaves more than one operand";
+    let end = "refused 7 at byte 9 of the customer's sheet: the formula is wrong\n  its end leaves 2 operands, and not one: an operation is missing";
     assert_eq!(wallcheck(&["list", "-"], &sheet(&["A"], &[0, 0])), refused(end));
     assert_eq!(wallcheck(&["read", "-"], b""), refused("refused 1 at byte 0 of the customer's sheet: the sheet ends too soon"));
-    let tag = "refused 2 at byte 0 of the customer's sheet: a tag that is unknown or out of place\n  the tag there is 35";
+    let tag = "refused 2 at byte 0 of the customer's sheet: a tag that is unknown or out of place\n  the tag there is 35; is it a text? 'wallcheck make' makes a sheet of one";
     assert_eq!(wallcheck(&["read", "-"], b"# a text"), refused(tag));
 }
 
@@ -167,26 +130,26 @@ fn refused_lists() {
     let path = file("lists.sheet", &sheet(&["Port", "PORT"], &[0, 1, 0xFFF2]));
     let stranger = wallcheck(&["run", &path, "-"], b"name\nPort\nport\n");
     let unknown = "refused 10 at entry 1: a shape number that no name has";
-    let letters = "the sheet has no name \"port\"; names are compared letter by letter";
-    assert_eq!(stranger, refused(&format!("{unknown}\n  row 3 of standard input: {letters}")));
+    let letters = "the sheet has no name \"port\"; there is Port; names are compared letter by letter";
+    assert_eq!(stranger, refused(&format!("{unknown}\n  row 3: {letters}")));
     let number = wallcheck(&["walls", &path, "-"], b"line,position,shape\n1,5,0\n\n1,5,2\n");
-    assert_eq!(number, refused(&format!("{unknown}\n  row 4 of standard input: shape 2, and the last one is 1")));
+    assert_eq!(number, refused(&format!("{unknown}\n  row 4: shape 2, and the last one is 1")));
     let walls = |rows: &str| wallcheck(&["walls", &path, "-"], format!("line,position,name\n{rows}").as_bytes());
     let falls = "refused 11 at entry 1: a line number falls, or a position falls within its line";
-    let about = "row 3 of standard input: line 1 comes after line 2";
+    let about = "row 3: line 1 comes after line 2";
     assert_eq!(walls("2,0,Port\n1,0,Port\n"), refused(&format!("{falls}\n  {about}")));
-    let about = "row 3 of standard input: position 4 comes after 5 on line 2";
+    let about = "row 3: position 4 comes after 5 on line 2";
     assert_eq!(walls("2,5,Port\n2,4,Port\n"), refused(&format!("{falls}\n  {about}")));
     let astray = "refused 15 at entry 1: a position at an end mark, -2147483648 or 2147483647, or a line with no start row";
     for (position, open) in [("-2147483648", "start"), ("2147483647", "end")] {
-        let about = format!("row 3 of standard input: position {position} is the mark of a wall's open {open}; no crossing stands there");
+        let about = format!("row 3: position {position} is the mark of a wall's open {open}; no crossing stands there");
         assert_eq!(walls(&format!("2,5,Port\n2,{position},Port\n")), refused(&format!("{astray}\n  {about}")));
     }
     // the sheet comes first, whatever the list holds
     let damaged = file("damaged.sheet", &worked()[..29]);
     assert_eq!(
         wallcheck(&["run", &damaged, "-"], b"nonsense"),
-        refused("refused 1 at byte 29 of the customer's sheet: the sheet ends too soon")
+        refused_of(&damaged, "refused 1 at byte 29 of the customer's sheet: the sheet ends too soon")
     );
 }
 
@@ -205,11 +168,14 @@ fn lines_that_start_in_metal() {
     assert_eq!(from("line,name\n7,Body\n9,Body\n9,Bore\n0,Body\n7,Body\n"), answered(&due));
     assert_eq!(from("shape,line\n0,7\n0,0\n"), answered(&due));
     let rows = "refused 14: the start rows' length is no multiple of the number of names, they are more than 4294967296, or a byte is neither 0 nor 1";
-    let letters = "row 3 of standard input: the sheet has no name \"body\"; names are compared letter by letter";
+    let letters = "row 3: the sheet has no name \"body\"; there is Body; names are compared letter by letter";
     assert_eq!(from("line,name\n7,Body\n7,body\n"), refused(&format!("{rows}\n  {letters}")));
-    let number = "row 2 of standard input: shape 2, and the last one is 1";
+    let number = "row 2: shape 2, and the last one is 1";
     assert_eq!(from("line,shape\n7,2\n"), refused(&format!("{rows}\n  {number}")));
-    assert_eq!(from("line,position,name\n"), unreadable("standard input: row 1: the heading is to be line,name or line,shape"));
+    assert_eq!(
+        from("line,position,name\n"),
+        unreadable("standard input: row 1: the heading is to be line,name or line,shape, and it is \"line,position,name\"")
+    );
     for both in [["walls", "--starts", "-", "-", &crossings], ["walls", "--starts", "-", &path, "-"]] {
         assert_eq!(wallcheck(&both, b"").0, Some(2));
     }
@@ -220,7 +186,7 @@ fn lines_that_start_in_metal() {
 fn a_sheet_moved_there_and_back() {
     let moved = |sheet: &[u8]| {
         let path = file("moved.sheet", sheet);
-        let output = Command::new(env!("CARGO_BIN_EXE_wallcheck")).args(["move", &path]).output().unwrap();
+        let output = Command::new(WALLCHECK).args(["move", &path]).output().unwrap();
         assert!(output.status.success());
         output.stdout
     };
@@ -244,8 +210,9 @@ fn unreadable_files() {
     let said = |list: &[u8]| wallcheck(&["walls", &path, "-"], list);
     let heading = "the heading is to be line,position,name or line,position,shape";
     assert_eq!(said(b""), unreadable("standard input: is empty; its heading is line,position,name or line,position,shape"));
-    assert_eq!(said(b"1,2,3\n"), unreadable(&format!("standard input: row 1: {heading}")));
-    assert_eq!(said(b"line,position,name,shape\n"), unreadable(&format!("standard input: row 1: {heading}")));
+    for wrong in ["1,2,3", "line,position,name,shape", "line,line,name", "name,shape,line", "line,position"] {
+        assert_eq!(said(wrong.as_bytes()), unreadable(&format!("standard input: row 1: {heading}, and it is \"{wrong}\"")));
+    }
     assert_eq!(said(b"line,position,name\n1,2\n"), unreadable("standard input: row 2: 2 fields, and the heading has 3"));
     let range = "is no whole number from -2147483648 to 2147483647";
     assert_eq!(said(b"line,position,name\n1,2.5,A\n"), unreadable(&format!("standard input: row 2: position \"2.5\" {range}")));
@@ -257,7 +224,7 @@ fn unreadable_files() {
     assert_eq!(said(b"line,position,name\n-1,0,A\n"), unreadable(line));
     let shape = "standard input: row 2: shape \"A\" is no whole number from 0 to 65535; names stand below the heading 'name'";
     assert_eq!(said(b"line,position,shape\n1,0,A\n"), unreadable(shape));
-    assert_eq!(said(b"line,position,name\n\xFF"), unreadable("standard input: is not text"));
+    assert_eq!(said(b"line,position,name\n1,2,A\n\n1,\xFF,A\n"), unreadable("standard input: row 4: is not text in UTF-8"));
 }
 
 /// Half-spaces, boxes and balls of a drawing, by name or by number, on lines.
@@ -280,14 +247,15 @@ fn refused_drawings() {
     let shapes = file("ball.csv", b"name,high_z,x,y,z,radius\nface,1,,,,\nball,,5,0,0,2\nlarge,,5,0,0,1000.001\n");
     let lines = |rows: &str| wallcheck(&["cross", &shapes, "-"], format!("line,x,y,z,dx,dy,dz\n{rows}").as_bytes());
     let radius = "refused 18 at ball 1: an offset, a radius or a centre out of its range";
-    assert_eq!(lines("1,0,0,0,1,0,0\n"), refused(&format!("{radius}\n  line 1, row 2 of standard input; \"large\", row 4 of {shapes}")));
-    let still =
-        "refused 16 for the line: a number of the line is not finite, or its direction is all zero\n  line 1, row 2 of standard input";
+    let large = format!("{radius}\n  row 4: \"large\", on line 1, row 2 of standard input");
+    assert_eq!(lines("1,0,0,0,1,0,0\n"), refused_of(&shapes, &large));
+    let still = "refused 16 for the line: a number of the line is not finite, or its direction is all zero\n  row 2: line 1";
     let faces = file("faces.csv", b"name,high_z\nface,1\nfar,1e300\n");
     assert_eq!(wallcheck(&["cross", &faces, "-"], b"line,x,y,z,dx,dy,dz\n1,0,0,0,0,0,-0.0\n"), refused(still));
     let (status, _, said) = wallcheck(&["cross", &faces, "-"], b"line,x,y,z,dx,dy,dz\n1,0,0,0,0,0,1\n");
     assert_eq!(status, Some(1));
-    assert!(said.starts_with("wallcheck: refused 16 at shape 1: ") && said.ends_with(&format!("; \"far\", row 3 of {faces}\n")), "{said}");
+    let about = "\n  row 3: \"far\", on line 1, row 2 of standard input\n";
+    assert!(said.starts_with(&format!("wallcheck: {faces}: refused 16 at shape 1: ")) && said.ends_with(about), "{said}");
 
     let parallel = "row 2: where there are balls, a line has 1 or -1 in one of dx, dy, dz and 0 in the others";
     assert_eq!(lines("1,0,0,0,0.6,0.8,0\n"), unreadable(&format!("standard input: {parallel}")));
@@ -306,28 +274,48 @@ fn refused_drawings() {
     assert_eq!(shapes("name,high_x\na,1\na,2\n"), unreadable("standard input: row 3: \"a\" stands at row 2 already"));
     let heading = "standard input: row 1: the heading is to be name or shape, and of low_x,low_y,low_z,high_x,high_y,high_z,x,y,z,radius those that are needed";
     for wrong in ["high_x\n", "name,shape\n", "name,width\n", "name,x,x\n"] {
-        assert_eq!(shapes(wrong), unreadable(heading), "{wrong}");
+        assert_eq!(shapes(wrong), unreadable(&format!("{heading}, and it is \"{}\"", wrong.trim_end())), "{wrong}");
     }
 }
 
 #[test]
 fn usage() {
     let said = |args: &[&str]| wallcheck(args, b"");
-    let usage = |text: &str| (Some(2), String::new(), format!("wallcheck: {text}\nTry 'wallcheck --help'.\n"));
-    assert_eq!(said(&[]), usage("a command is missing"));
-    assert_eq!(said(&["raed", "-"]), usage("there is no command 'raed'"));
-    assert_eq!(said(&["read"]), usage("'read' takes one file: SHEET"));
-    assert_eq!(said(&["move", "a", "b"]), usage("'move' takes one file: SHEET"));
-    assert_eq!(said(&["run", "a"]), usage("'run' takes two files: SHEET TOGGLES"));
-    assert_eq!(said(&["both", "a", "b"]), usage("'both' takes four files: SHEET TOGGLES TOGGLES ORDER"));
-    assert_eq!(said(&["both", "a", "-", "-", "b"]), usage("only one of the files can be standard input"));
-    assert_eq!(said(&["walls", "a", "b", "c"]), usage("'walls' takes two files: SHEET CROSSINGS"));
-    assert_eq!(said(&["cross", "a"]), usage("'cross' takes two files: SHAPES LINES"));
-    assert_eq!(said(&["cross", "a", "b", "--fittings", "c"]), usage("'cross' takes no sheet"));
-    assert_eq!(said(&["cross", "-", "-"]), usage("only one of the files can be standard input"));
-    assert_eq!(said(&["walls", "-", "-"]), usage("only one of the files can be standard input"));
-    let (status, help, _) = said(&["--help"]);
-    assert_eq!(status, Some(0));
-    assert!(help.lines().all(|line| line.len() <= 80), "a line of the help is longer than a terminal");
+    let usage = |text: &str, help: &str| (Some(2), String::new(), format!("wallcheck: {text}\nTry 'wallcheck {help}'.\n"));
+    assert_eq!(said(&[]), usage("a command is missing", "--help"));
+    assert_eq!(said(&["raed", "-"]), usage("there is no command 'raed'", "--help"));
+    assert_eq!(said(&["read"]), usage("'read' takes one file: SHEET", "help read"));
+    assert_eq!(said(&["move", "a", "b"]), usage("'move' takes one file: SHEET", "help move"));
+    assert_eq!(said(&["make"]), usage("'make' takes one file: TEXT", "help make"));
+    assert_eq!(said(&["make", "--edition", "3", "a"]), usage("there is no edition '3'", "help make"));
+    assert_eq!(said(&["show", "a", "b"]), usage("'show' takes one file: SHEET", "help show"));
+    assert_eq!(said(&["run", "a"]), usage("'run' takes two files: SHEET TOGGLES", "help run"));
+    assert_eq!(said(&["both", "a", "b"]), usage("'both' takes four files: SHEET TOGGLES TOGGLES ORDER", "help both"));
+    assert_eq!(said(&["both", "a", "-", "-", "b"]), usage("only one of the files can be standard input", "help both"));
+    assert_eq!(said(&["walls", "a", "b", "c"]), usage("'walls' takes two files: SHEET CROSSINGS", "help walls"));
+    assert_eq!(said(&["cross", "a"]), usage("'cross' takes two files: SHAPES LINES", "help cross"));
+    assert_eq!(said(&["cross", "a", "b", "--fittings", "c"]), usage("'cross' takes no sheet", "help cross"));
+    assert_eq!(said(&["cross", "-", "-"]), usage("only one of the files can be standard input", "help cross"));
+    assert_eq!(said(&["walls", "-", "-"]), usage("only one of the files can be standard input", "help walls"));
     assert_eq!(said(&["--version"]).1, concat!("wallcheck ", env!("CARGO_PKG_VERSION"), "\n"));
+}
+
+/// A page of all commands, and one for each, which two ways ask for.
+#[test]
+fn help() {
+    let said = |args: &[&str]| wallcheck(args, b"");
+    let (status, overview, _) = said(&["--help"]);
+    assert_eq!(status, Some(0));
+    assert!(overview.lines().count() <= 60 && overview.lines().all(|line| line.len() <= 80), "{overview}");
+    assert_eq!(said(&["help"]), answered(&overview));
+    let commands: Vec<&str> = overview.lines().filter_map(|line| line.strip_prefix("  wallcheck ")?.split(' ').next()).collect();
+    assert!(commands.len() > 10, "{commands:?}");
+    for command in commands.into_iter().filter(|command| !["help", "--help"].contains(command)) {
+        let (status, help, _) = said(&["help", command]);
+        assert_eq!(status, Some(0), "{command}");
+        assert!(help.starts_with(&format!("wallcheck {command} ")) && help != overview, "{command}");
+        assert_eq!(said(&[command, "--help"]), answered(&help));
+        assert_eq!(said(&[command, "a", "-h"]), answered(&help));
+    }
+    assert_eq!(said(&["help", "raed"]).0, Some(2));
 }

@@ -1,10 +1,10 @@
 //! Shapes and lines of a drawing from CSV, and what the lines have of the shapes.
 
-use crate::csv::{self, rows, Row};
+use crate::csv::{self, Heading, Rows};
+use crate::shown;
 use kressedach::{Axis, Ball, Probe, Refusal, Shape};
 use std::borrow::Cow;
 use std::collections::HashMap;
-use std::fmt::Write as _;
 
 const LIMITS: [&str; 6] = ["low_x", "low_y", "low_z", "high_x", "high_y", "high_z"];
 const CENTRE: [&str; 4] = ["x", "y", "z", "radius"];
@@ -45,71 +45,82 @@ struct OnLine {
     crossings: Vec<(i32, usize)>,
 }
 
-/// The fields of a table by their column; a column that is not there is empty.
+/// A table, row after row: the fields of a row by their column; a column that is not there is empty.
 struct Table<'a> {
-    columns: Vec<String>,
-    rows: Vec<Row<'a>>,
+    heading: Heading<'a>,
+    rows: Rows<'a>,
+    fields: Vec<Cow<'a, str>>,
 }
 
 impl<'a> Table<'a> {
-    fn of(text: &'a str, due: &str, known: impl Fn(&[String]) -> bool) -> Result<Table<'a>, String> {
-        let mut all = rows(text);
-        let heading = all.next().transpose()?.ok_or_else(|| format!("is empty; its heading is {due}"))?;
-        let columns: Vec<String> = heading.fields.iter().map(|field| field.to_string()).collect();
+    fn of(text: &'a str, due: &str, known: impl Fn(&[Cow<str>]) -> bool) -> Result<Table<'a>, String> {
+        let (heading, rows) = csv::headed(text, due)?;
+        let columns = &heading.fields;
         let twice = (1..columns.len()).any(|k| columns[..k].contains(&columns[k]));
-        if twice || !known(&columns) {
-            return Err(format!("row {}: the heading is to be {due}", heading.number));
-        }
-        let rows = all.collect::<Result<Vec<Row>, String>>()?;
-        match rows.iter().find(|row| row.fields.len() != columns.len()) {
-            Some(row) => Err(format!("row {}: {} fields, and the heading has {}", row.number, row.fields.len(), columns.len())),
-            None => Ok(Table { columns, rows }),
+        match twice || !known(columns) {
+            true => Err(heading.wrong(due)),
+            false => Ok(Table { heading, rows, fields: vec![] }),
         }
     }
 
-    fn field<'r>(&self, row: &'r Row<'a>, column: &str) -> &'r str {
-        self.columns.iter().position(|name| name == column).map_or("", |at| row.fields[at].as_ref())
+    /// Goes to the next row, and gives its number.
+    fn next(&mut self) -> Result<Option<usize>, String> {
+        let row = self.rows.next(&mut self.fields)?;
+        row.map_or(Ok(()), |row| self.heading.judged(row, &self.fields))?;
+        Ok(row)
+    }
+
+    fn field(&self, column: &str) -> &str {
+        self.heading.place(column).map_or("", |at| self.fields[at].as_ref())
     }
 }
 
 impl Drawing {
     pub fn of(text: &str) -> Result<Drawing, String> {
         let due = format!("name or shape, and of {} those that are needed", [&LIMITS[..], &CENTRE].concat().join(","));
-        let known = |columns: &[String]| {
-            let is = |column: &String, names: &[&str]| names.contains(&column.as_str());
+        let known = |columns: &[Cow<str>]| {
+            let is = |column: &Cow<str>, names: &[&str]| names.contains(&column.as_ref());
             columns.iter().filter(|column| is(column, &["name", "shape"])).count() == 1
                 && columns.iter().all(|column| is(column, &["name", "shape"]) || is(column, &LIMITS) || is(column, &CENTRE))
         };
-        let table = Table::of(text, &due, known)?;
-        let by = if table.columns.iter().any(|column| column == "name") { "name" } else { "shape" };
+        let mut table = Table::of(text, &due, known)?;
+        let by = if table.heading.place("name").is_some() { "name" } else { "shape" };
         let mut drawing = Drawing { by, labels: vec![], rows: vec![], solids: vec![] };
         let mut taken = HashMap::new();
-        for row in &table.rows {
-            let at_row = |wrong: String| format!("row {}: {wrong}", row.number);
-            let label = table.field(row, by);
+        while let Some(row) = table.next()? {
+            let at_row = |wrong: String| format!("row {row}: {wrong}");
+            let label = table.field(by);
+            let shown = shown::quoted(label);
             if by == "shape" && label.parse::<u16>().is_err() {
-                return Err(at_row(format!("shape {label:?} is no whole number from 0 to 65535; names stand below the heading 'name'")));
+                return Err(at_row(format!("shape {shown} is no whole number from 0 to 65535; names stand below the heading 'name'")));
             }
-            if let Some(before) = taken.insert(label.to_string(), row.number) {
-                return Err(at_row(format!("{label:?} stands at row {before} already")));
+            if let Some(before) = taken.insert(label.to_string(), row) {
+                return Err(at_row(format!("{shown} stands at row {before} already")));
             }
             drawing.labels.push(label.into());
-            drawing.rows.push(row.number);
-            drawing.solids.push(solid(&table, row).map_err(at_row)?);
+            drawing.rows.push(row);
+            drawing.solids.push(solid(&table).map_err(at_row)?);
         }
         Ok(drawing)
     }
 
     /// What the lines have of the shapes, as CSV: the crossings, or the shapes in which a line starts.
-    pub fn crossed(&self, lines: &[Line], starts: bool) -> Result<String, Fault> {
-        let mut text = if starts { format!("line,{}\n", self.by) } else { format!("line,position,{}\n", self.by) };
+    pub fn crossed(&self, lines: &[Line], starts: bool) -> Result<Vec<u8>, Fault> {
+        let heading = if starts { format!("line,{}\n", self.by) } else { format!("line,position,{}\n", self.by) };
+        let mut text = heading.into_bytes();
         for line in lines {
             let OnLine { inside, crossings } = self.on(line)?;
-            for shape in inside.into_iter().filter(|_| starts) {
-                let _ = writeln!(text, "{},{}", line.number, self.label(shape));
-            }
-            for (position, shape) in crossings.into_iter().filter(|_| !starts) {
-                let _ = writeln!(text, "{},{position},{}", line.number, self.label(shape));
+            let inside = inside.into_iter().filter(|_| starts).map(|shape| (None, shape));
+            let crossings = crossings.into_iter().filter(|_| !starts).map(|(position, shape)| (Some(position), shape));
+            for (position, shape) in inside.chain(crossings) {
+                csv::put(&mut text, line.number.into());
+                text.push(b',');
+                if let Some(position) = position {
+                    csv::put(&mut text, position.into());
+                    text.push(b',');
+                }
+                text.extend_from_slice(self.label(shape).as_bytes());
+                text.push(b'\n');
             }
         }
         Ok(text)
@@ -155,15 +166,15 @@ impl Drawing {
 }
 
 /// A row's shape: six limits are a box, one high alone is a half-space, a centre and a radius are a ball.
-fn solid(table: &Table, row: &Row) -> Result<Solid, String> {
-    let given = |columns: &[&str]| columns.iter().map(|column| !table.field(row, column).is_empty()).collect::<Vec<bool>>();
+fn solid(table: &Table) -> Result<Solid, String> {
+    let given = |columns: &[&str]| columns.iter().map(|column| !table.field(column).is_empty()).collect::<Vec<bool>>();
     let (limits, ball) = (given(&LIMITS), given(&CENTRE));
     let none = |fields: &[bool]| fields.iter().all(|field| !field);
     let all = |fields: &[bool]| fields.iter().all(|field| *field);
     if all(&limits) && none(&ball) {
         let mut numbers = [0.0; 6];
         for (number, column) in numbers.iter_mut().zip(LIMITS) {
-            *number = real(table.field(row, column), column)?;
+            *number = real(table.field(column), column)?;
         }
         let [a, b, c, d, e, f] = numbers;
         return Ok(Solid::Plain(Shape::Box { lows: [a, b, c], highs: [d, e, f] }));
@@ -171,8 +182,8 @@ fn solid(table: &Table, row: &Row) -> Result<Solid, String> {
     if none(&limits) && all(&ball) {
         let mut numbers = [0; 4];
         for (number, column) in numbers.iter_mut().zip(CENTRE) {
-            let text = table.field(row, column);
-            *number = micrometres(text).ok_or_else(|| format!("{column} {text:?} of a ball is not in whole micrometres"))?;
+            let text = table.field(column);
+            *number = micrometres(text).ok_or_else(|| format!("{column} {} of a ball is not in whole micrometres", shown::quoted(text)))?;
         }
         let [x, y, z, radius] = numbers;
         return Ok(Solid::Ball { centre: [x, y, z], radius });
@@ -180,7 +191,7 @@ fn solid(table: &Table, row: &Row) -> Result<Solid, String> {
     let axes = [Axis::X, Axis::Y, Axis::Z];
     match (0..3).filter(|axis| limits[3 + axis]).collect::<Vec<usize>>()[..] {
         [axis] if none(&limits[..3]) && none(&ball) => {
-            let face = real(table.field(row, LIMITS[3 + axis]), LIMITS[3 + axis])?;
+            let face = real(table.field(LIMITS[3 + axis]), LIMITS[3 + axis])?;
             Ok(Solid::Plain(Shape::HalfSpace { axis: axes[axis], face }))
         }
         _ => Err("a box has three lows and three highs, a half-space one high alone, a ball x, y, z and radius".into()),
@@ -189,23 +200,24 @@ fn solid(table: &Table, row: &Row) -> Result<Solid, String> {
 
 pub fn lines(text: &str) -> Result<Vec<Line>, String> {
     let due = LINE.join(",");
-    let known = |columns: &[String]| columns.len() == LINE.len() && LINE.iter().all(|name| columns.iter().any(|column| column == name));
-    let table = Table::of(text, &due, known)?;
+    let known = |columns: &[Cow<str>]| columns.len() == LINE.len() && LINE.iter().all(|name| columns.iter().any(|column| column == name));
+    let mut table = Table::of(text, &due, known)?;
     let mut lines: Vec<Line> = Vec::new();
-    for row in &table.rows {
-        let at_row = |wrong: String| format!("row {}: {wrong}", row.number);
-        let text = table.field(row, "line");
-        let number = text.parse().map_err(|_| at_row(format!("line {text:?} is no whole number from 0 to 4294967295")))?;
+    while let Some(row) = table.next()? {
+        let at_row = |wrong: String| format!("row {row}: {wrong}");
+        let text = table.field("line");
+        let wrong = |_| at_row(format!("line {} is no whole number from 0 to 4294967295", shown::quoted(text)));
+        let number = text.parse().map_err(wrong)?;
         if let Some(before) = lines.last().filter(|before| before.number >= number) {
             return Err(at_row(format!("line {number} comes after line {}", before.number)));
         }
         let mut six = [0.0; 6];
         for (field, column) in six.iter_mut().zip(&LINE[1..]) {
-            *field = real(table.field(row, column), column).map_err(at_row)?;
+            *field = real(table.field(column), column).map_err(at_row)?;
         }
         let [x, y, z, dx, dy, dz] = six;
-        let origin = ["x", "y", "z"].map(|column| micrometres(table.field(row, column)));
-        lines.push(Line { number, row: row.number, probe: Probe { origin: [x, y, z], direction: [dx, dy, dz] }, origin });
+        let origin = ["x", "y", "z"].map(|column| micrometres(table.field(column)));
+        lines.push(Line { number, row, probe: Probe { origin: [x, y, z], direction: [dx, dy, dz] }, origin });
     }
     Ok(lines)
 }
@@ -232,7 +244,7 @@ impl Line {
 }
 
 fn real(text: &str, column: &str) -> Result<f64, String> {
-    text.parse().map_err(|_| format!("{column} {text:?} is no number"))
+    text.parse().map_err(|_| format!("{column} {} is no number", shown::quoted(text)))
 }
 
 /// Millimetres with three decimals at most, as micrometres.

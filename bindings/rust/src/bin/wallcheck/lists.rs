@@ -1,15 +1,35 @@
 //! Toggle, crossing and start lists, and the order of two toggle lists, from CSV.
 
-use crate::csv::{rows, Row};
+use crate::csv::{self, Heading};
+use crate::shown;
 use kressedach::{Crossing, Start};
+use std::borrow::Cow;
 use std::collections::HashMap;
+use std::hash::{BuildHasherDefault, Hasher};
 use std::str::FromStr;
 
 /// The number that stands for a name the sheet does not have: no sheet has so many names, so the library refuses it in its turn.
 const NO_SHAPE: u16 = u16::MAX;
 
+/// Names of at most 32 letters, 256 of them at most: what is mixed quickly is looked up quickly, and no choice of names makes it slow.
+#[derive(Default)]
+struct Mixed(u64);
+
+impl Hasher for Mixed {
+    fn write(&mut self, letters: &[u8]) {
+        for eight in letters.chunks(8) {
+            let number = eight.iter().fold(0, |number, letter| number << 8 | u64::from(*letter));
+            self.0 = (self.0 ^ number).wrapping_mul(0x9E37_79B9_7F4A_7C15).rotate_left(29);
+        }
+    }
+
+    fn finish(&self) -> u64 {
+        self.0.wrapping_mul(0x9E37_79B9_7F4A_7C15)
+    }
+}
+
 /// The numbers of a sheet's names.
-pub struct Shapes<'a>(HashMap<&'a str, u16>);
+pub struct Shapes<'a>(HashMap<&'a str, u16, BuildHasherDefault<Mixed>>);
 
 impl<'a> Shapes<'a> {
     pub fn of(names: &[&'a str]) -> Shapes<'a> {
@@ -18,93 +38,98 @@ impl<'a> Shapes<'a> {
 }
 
 /// A list, with what is needed to say where an entry comes from.
-pub struct List<T> {
+pub struct List<'a, T> {
     pub entries: Vec<T>,
-    /// The row of each entry in the file, from 1.
-    pub rows: Vec<usize>,
     /// The first name that the sheet does not have.
     pub stranger: Option<String>,
+    text: &'a str,
 }
 
-impl<T> List<T> {
-    pub fn none() -> List<T> {
-        List { entries: vec![], rows: vec![], stranger: None }
+impl<'a, T> List<'a, T> {
+    pub fn none(text: &'a str) -> List<'a, T> {
+        List { entries: vec![], stranger: None, text }
+    }
+
+    /// The row of an entry in the file, from 1.
+    pub fn row(&self, index: usize) -> usize {
+        csv::row_of_entry(self.text, index)
     }
 }
 
-pub fn toggles(text: &str, shapes: &Shapes) -> Result<List<u16>, String> {
-    list(text, &[], shapes, |_, shape| Ok(shape))
+pub fn toggles<'a>(text: &'a str, shapes: &Shapes) -> Result<List<'a, u16>, String> {
+    list(text, [], shapes, |_, shape| Ok(shape))
 }
 
-pub fn crossings(text: &str, shapes: &Shapes) -> Result<List<Crossing>, String> {
-    list(text, &["line", "position"], shapes, |fields, shape| {
-        Ok(Crossing { line: number(fields[0], "line")?, position: number(fields[1], "position")?, shape })
+pub fn crossings<'a>(text: &'a str, shapes: &Shapes) -> Result<List<'a, Crossing>, String> {
+    list(text, ["line", "position"], shapes, |[line, position], shape| {
+        Ok(Crossing { line: number(line, "line")?, position: number(position, "position")?, shape })
     })
+}
+
+/// The shapes in which lines start.
+pub fn starts<'a>(text: &'a str, shapes: &Shapes) -> Result<List<'a, Start>, String> {
+    list(text, ["line"], shapes, |[line], shape| Ok(Start { line: number(line, "line")?, shape }))
 }
 
 /// An order: one column, `foundry`, with an entry a turn.
 pub fn order(text: &str) -> Result<Vec<u8>, String> {
-    let mut rows = rows(text);
-    let heading = rows.next().transpose()?.ok_or("is empty; its heading is foundry")?;
+    let (heading, mut rows) = csv::headed(text, "foundry")?;
     if heading.fields != ["foundry"] {
-        return Err(format!("row {}: the heading is to be foundry", heading.number));
+        return Err(heading.wrong("foundry"));
     }
-    rows.map(|row| {
-        let Row { number: row, fields } = row?;
-        match &fields[..] {
-            [turn] => number(turn, "foundry").map_err(|wrong| format!("row {row}: {wrong}")),
-            _ => Err(format!("row {row}: {} fields, and the heading has 1", fields.len())),
-        }
-    })
-    .collect()
-}
-
-/// The shapes in which lines start.
-pub fn starts(text: &str, shapes: &Shapes) -> Result<List<Start>, String> {
-    list(text, &["line"], shapes, |fields, shape| Ok(Start { line: number(fields[0], "line")?, shape }))
+    let (mut fields, mut order) = (Vec::new(), Vec::new());
+    while let Some(row) = rows.next(&mut fields)? {
+        heading.judged(row, &fields)?;
+        order.push(number(&fields[0], "foundry").map_err(|wrong| format!("row {row}: {wrong}"))?);
+    }
+    Ok(order)
 }
 
 /// A list whose heading has these columns and one for the shape, in any order. The fields of an entry come in the order of `columns`.
-fn list<T>(text: &str, columns: &[&str], shapes: &Shapes, entry: impl Fn(&[&str], u16) -> Result<T, String>) -> Result<List<T>, String> {
-    let mut rows = rows(text);
-    let heading = rows.next().transpose()?.ok_or_else(|| format!("is empty; its heading is {}", due(columns)))?;
-    let (places, shape_at, by_name) = judged(&heading, columns)?;
-    let mut list = List::none();
-    for row in rows {
-        let Row { number: row, fields } = row?;
+fn list<'a, T, const N: usize>(
+    text: &'a str,
+    columns: [&str; N],
+    shapes: &Shapes,
+    entry: impl Fn([&str; N], u16) -> Result<T, String>,
+) -> Result<List<'a, T>, String> {
+    let (heading, mut rows) = csv::headed(text, &due(&columns))?;
+    let Columns { places, shape, by_name } = judged(&heading, columns)?;
+    let (mut fields, mut list): (Vec<Cow<str>>, _) = (Vec::new(), List::none(text));
+    while let Some(row) = rows.next(&mut fields)? {
+        heading.judged(row, &fields)?;
         let at_row = |wrong| format!("row {row}: {wrong}");
-        if fields.len() != heading.fields.len() {
-            return Err(at_row(format!("{} fields, and the heading has {}", fields.len(), heading.fields.len())));
-        }
-        let text = fields[shape_at].as_ref();
+        let text = fields[shape].as_ref();
         let shape = match by_name {
             true => shapes.0.get(text).copied().unwrap_or(NO_SHAPE),
             false => number(text, "shape").map_err(|wrong| at_row(format!("{wrong}; names stand below the heading 'name'")))?,
         };
         if by_name && shape == NO_SHAPE {
-            list.stranger.get_or_insert(text.into());
+            list.stranger.get_or_insert_with(|| text.into());
         }
-        let others: Vec<&str> = places.iter().map(|at| fields[*at].as_ref()).collect();
-        list.entries.push(entry(&others, shape).map_err(at_row)?);
-        list.rows.push(row);
+        list.entries.push(entry(places.map(|at| fields[at].as_ref()), shape).map_err(at_row)?);
     }
     Ok(list)
 }
 
 /// Where each column stands, where the shape does, and whether shapes are given by name.
-fn judged(heading: &Row, columns: &[&str]) -> Result<(Vec<usize>, usize, bool), String> {
-    let place = |name: &str| heading.fields.iter().position(|field| field == name);
-    let wrong = || format!("row {}: the heading is to be {}", heading.number, due(columns));
-    let places: Vec<usize> = columns.iter().map(|column| place(column).ok_or_else(wrong)).collect::<Result<_, _>>()?;
-    let shape = match (place("name"), place("shape")) {
+struct Columns<const N: usize> {
+    places: [usize; N],
+    shape: usize,
+    by_name: bool,
+}
+
+fn judged<const N: usize>(heading: &Heading, columns: [&str; N]) -> Result<Columns<N>, String> {
+    let wrong = || heading.wrong(&due(&columns));
+    let places = columns.map(|column| heading.place(column));
+    let (shape, by_name) = match (heading.place("name"), heading.place("shape")) {
         (Some(at), None) => (at, true),
         (None, Some(at)) => (at, false),
         _ => return Err(wrong()),
     };
-    if heading.fields.len() != columns.len() + 1 {
+    if heading.fields.len() != N + 1 || places.contains(&None) {
         return Err(wrong());
     }
-    Ok((places, shape.0, shape.1))
+    Ok(Columns { places: places.map(Option::unwrap_or_default), shape, by_name })
 }
 
 fn due(columns: &[&str]) -> String {
@@ -120,6 +145,6 @@ fn number<T: FromStr>(text: &str, column: &str) -> Result<T, String> {
             "position" => "-2147483648 to 2147483647",
             _ => "0 to 65535",
         };
-        format!("{column} {text:?} is no whole number from {range}")
+        format!("{column} {} is no whole number from {range}", shown::quoted(text))
     })
 }

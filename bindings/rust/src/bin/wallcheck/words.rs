@@ -1,7 +1,8 @@
 //! What stands at the place of a refusal, for the person who has to mend it; and what a node is.
 
 use crate::lists::List;
-use kressedach::{Crossing, Node, Refusal, Sheets, Start, Which, OPEN_START};
+use crate::shown;
+use kressedach::{Crossing, Node, Operation, Refusal, Sheets, Start, Which, OPEN_START};
 
 const OPERATIONS: [&str; 4] = ["union", "intersection", "difference", "exclusive union"];
 
@@ -26,37 +27,74 @@ pub fn of_sheet(sheets: Sheets, refusal: Refusal) -> Option<String> {
         Which::Customers => sheets.customers,
     };
     match refusal.number {
-        2 => Some(format!("the tag there is {}", sheet.get(place)?)),
+        2 => Some(of_tag(*sheet.get(place)?, place)),
         4 | 5 | 17 => Some(match (two(sheet, place + 1)?, name(sheet, place)) {
             (1..=32, Some(name)) => format!("the name there is {name}"),
             (length, _) => format!("the name there has {length} bytes; 1 to 32 are allowed"),
         }),
-        6 if sheet.get(place) == Some(&3) => Some(format!("the formula there has {} bytes", two(sheet, place + 1)?)),
-        7 => of_formula(sheet, place),
+        6 if matches!(sheet.get(place), Some(3 | 4)) => Some(format!("the formula there has {} bytes", two(sheet, place + 1)?)),
+        7 => of_formula(sheets, place),
         _ => None,
     }
 }
 
-/// About refusal 7: all before the formula is good, so its tag is found by going from name to name.
-fn of_formula(sheet: &[u8], place: usize) -> Option<String> {
-    let mut tag = 5;
-    while *sheet.get(tag)? == 2 {
-        tag += 3 + two(sheet, tag + 1)?;
+/// About a tag that is out of place. A file that begins with letters is text, and no sheet.
+fn of_tag(tag: u8, place: usize) -> String {
+    match (tag, place) {
+        (b' '..=b'~', 0) => format!("the tag there is {tag}; is it a text? 'wallcheck make' makes a sheet of one"),
+        _ => format!("the tag there is {tag}"),
     }
-    let length = two(sheet, tag + 1)?;
-    Some(match place == tag {
-        false => format!("the code there is 0x{:04X}", two(sheet, place)?),
-        true if length == 0 || length % 2 == 1 => format!("it has {length} bytes; each code has two"),
-        true => "its end leaves more than one operand".into(),
+}
+
+/// About refusal 7: all before the formula is good, so its tag is found by going from name to name.
+fn of_formula(sheets: Sheets, place: usize) -> Option<String> {
+    let sheet = sheets.customers;
+    let (tag, own) = after_names(sheet)?;
+    let names = own + sheets.fittings.map_or(Some(0), |fittings| after_names(fittings).map(|(_, names)| names))?;
+    let (length, postfix) = (two(sheet, tag + 1)?, sheet.get(tag) == Some(&3));
+    if place != tag {
+        return Some(of_code(two(sheet, place)?, names, postfix, waiting(sheet.get(tag + 3..place)?)));
+    }
+    Some(match (length, postfix) {
+        (0, _) => "it has no code; each has two bytes".into(),
+        (length, _) if length % 2 == 1 => format!("it has {length} bytes, and each code has two"),
+        (_, true) => format!("its end leaves {} operands, and not one: an operation is missing", waiting(sheet.get(tag + 3..)?)),
+        (_, false) => "it ends before its operations have two operands each (in edition 2 they stand after it)".into(),
     })
 }
 
-/// About a refusal of a run.
-pub fn of_toggles(sheets: Sheets, names: &[&str], list: &List<u16>, refusal: Refusal, file: &str) -> Option<String> {
-    match refusal.number {
-        10 => Some(unknown_shape(names, list, refusal.place, list.entries[refusal.place], file)),
-        _ => of_sheet(sheets, refusal),
+/// About a code that is refused. In postfix order so many operands wait before it.
+fn of_code(code: u16, names: usize, postfix: bool, waiting: usize) -> String {
+    match Operation::of_code(code) {
+        None if code >= 256 => format!("there is no such code as 0x{code:04X}"),
+        None if usize::from(code) >= names => format!("the code there is shape {code}, and the last is {}", names - 1),
+        Some(operation) if postfix => {
+            let operation = OPERATIONS[operation as usize];
+            format!("the code there is {operation}, with fewer than two operands before it: {waiting} (formulas are postfix)")
+        }
+        _ => "the formula is complete before the code there".into(),
     }
+}
+
+/// How many operands wait after codes in postfix order.
+fn waiting(codes: &[u8]) -> usize {
+    let codes = codes.chunks_exact(2).map(|two| u16::from_be_bytes([two[0], two[1]]));
+    codes.fold(0, |waiting: usize, code| if Operation::of_code(code).is_some() { waiting.saturating_sub(1) } else { waiting + 1 })
+}
+
+/// The offset after a good header and good names, and how many names.
+fn after_names(sheet: &[u8]) -> Option<(usize, usize)> {
+    let (mut tag, mut names) = (5, 0);
+    while sheet.get(tag) == Some(&2) {
+        tag += 3 + usize::from(two(sheet, tag + 1)?);
+        names += 1;
+    }
+    Some((tag, names))
+}
+
+/// About a refusal of toggles.
+pub fn of_toggles(names: &[&str], list: &List<u16>, refusal: Refusal) -> Option<String> {
+    (refusal.number == 10).then(|| unknown_shape(names, list, refusal.place, list.entries[refusal.place]))
 }
 
 /// About an order that does not mix lists of these lengths.
@@ -69,46 +107,50 @@ pub fn of_order(order: &[u8], lengths: [usize; 2]) -> String {
 }
 
 /// About a refusal of start rows: they are made of this list, so what is wrong is a shape in it.
-pub fn of_starts(names: &[&str], list: &List<Start>, refusal: Refusal, file: &str) -> Option<String> {
+pub fn of_starts(names: &[&str], list: &List<Start>) -> Option<String> {
     let at = list.entries.iter().position(|start| usize::from(start.shape) >= names.len())?;
-    (refusal.number == 14).then(|| unknown_shape(names, list, at, list.entries[at].shape, file))
+    Some(unknown_shape(names, list, at, list.entries[at].shape))
 }
 
 /// About a refusal of crossings. Every line has a start row, so 15 is for a position.
-pub fn of_crossings(sheets: Sheets, names: &[&str], list: &List<Crossing>, refusal: Refusal, file: &str) -> Option<String> {
+pub fn of_crossings(names: &[&str], list: &List<Crossing>, refusal: Refusal) -> Option<String> {
     let at = refusal.place;
-    match refusal.number {
-        10 => Some(unknown_shape(names, list, at, list.entries[at].shape, file)),
+    let about = match refusal.number {
+        10 => return Some(unknown_shape(names, list, at, list.entries[at].shape)),
         11 => {
             let (before, here) = (list.entries[at - 1], list.entries[at]);
-            Some(match here.line < before.line {
-                true => format!("row {} of {file}: line {} comes after line {}", list.rows[at], here.line, before.line),
-                false => {
-                    let (row, line) = (list.rows[at], here.line);
-                    format!("row {row} of {file}: position {} comes after {} on line {line}", here.position, before.position)
-                }
-            })
+            match here.line < before.line {
+                true => format!("line {} comes after line {}", here.line, before.line),
+                false => format!("position {} comes after {} on line {}", here.position, before.position, here.line),
+            }
         }
         15 => {
-            let (row, here) = (list.rows[at], list.entries[at]);
-            let open = if here.position == OPEN_START { "start" } else { "end" };
-            Some(format!("row {row} of {file}: position {} is the mark of a wall's open {open}; no crossing stands there", here.position))
+            let position = list.entries[at].position;
+            let open = if position == OPEN_START { "start" } else { "end" };
+            format!("position {position} is the mark of a wall's open {open}; no crossing stands there")
         }
-        _ => of_sheet(sheets, refusal),
+        _ => return None,
+    };
+    Some(format!("row {}: {about}", list.row(at)))
+}
+
+fn unknown_shape<T>(names: &[&str], list: &List<T>, at: usize, shape: u16) -> String {
+    let row = list.row(at);
+    match &list.stranger {
+        Some(name) => format!("row {row}: the sheet has no name {}; {}", shown::quoted(name), letter_by_letter(names, name)),
+        None => format!("row {row}: shape {shape}, and the last one is {}", names.len() - 1),
     }
 }
 
-fn unknown_shape<T>(names: &[&str], list: &List<T>, at: usize, shape: u16, file: &str) -> String {
-    let row = list.rows[at];
-    match &list.stranger {
-        Some(name) => format!("row {row} of {file}: the sheet has no name {name:?}; names are compared letter by letter"),
-        None => format!("row {row} of {file}: shape {shape}, and the last one is {}", names.len() - 1),
-    }
+/// About a name that is not there: the one that differs from it only in case, if there is one.
+pub fn letter_by_letter(names: &[&str], name: &str) -> String {
+    let like = names.iter().find(|other| other.eq_ignore_ascii_case(name));
+    like.map_or(String::new(), |other| format!("there is {other}; ")) + "names are compared letter by letter"
 }
 
 /// The name whose tag is at an offset, in quotation marks; bytes that no name may have are shown escaped.
 fn name(sheet: &[u8], tag: usize) -> Option<String> {
-    let letters = sheet.get(tag + 3..)?.get(..two(sheet, tag + 1)?)?;
+    let letters = sheet.get(tag + 3..)?.get(..two(sheet, tag + 1)?.into())?;
     let shown = |letter: &u8| match letter {
         0x21..=0x7E => char::from(*letter).to_string(),
         _ => format!("\\x{letter:02X}"),
@@ -116,6 +158,6 @@ fn name(sheet: &[u8], tag: usize) -> Option<String> {
     Some(format!("\"{}\"", letters.iter().map(shown).collect::<String>()))
 }
 
-fn two(sheet: &[u8], at: usize) -> Option<usize> {
-    Some(usize::from(*sheet.get(at)?) << 8 | usize::from(*sheet.get(at + 1)?))
+fn two(sheet: &[u8], at: usize) -> Option<u16> {
+    Some(u16::from_be_bytes([*sheet.get(at)?, *sheet.get(at + 1)?]))
 }
