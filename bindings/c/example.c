@@ -241,6 +241,29 @@ static void read_pair(void) {
     expect(r.number == KRESSEDACH_ENDS_TOO_SOON && r.sheet == KRESSEDACH_FITTINGS_SHEET, "an empty fittings sheet is an input");
 }
 
+/* Their lists of the lines that are classified above: three entries are right, and the fourth is one too many. */
+static void judge_theirs(void) {
+    static const uint8_t in_air[2 * 2];
+    static const uint32_t their_lines[] = {1, 1, 1, 1};
+    static const int32_t their_starts[] = {0, 25, 60, 120}, their_ends[] = {25, 40, 100, 130}, through[] = {25, 100, 100, 130};
+    struct kressedach_judge_report r = kressedach_judge(ALONE(sheet), LIST(in_air), LIST(lines), LIST(positions), LIST(shapes),
+                                                        their_lines, 3, their_starts, 3, their_ends, 3);
+    expect(r.number == KRESSEDACH_GIVEN && r.right && r.index == 3, "the first wall in two parts that touch");
+    r = kressedach_judge(ALONE(sheet), LIST(in_air), LIST(lines), LIST(positions), LIST(shapes), LIST(their_lines), LIST(their_starts),
+                         LIST(through));
+    printf("their list: wrong at %zu\n", r.index);
+    expect(r.number == KRESSEDACH_GIVEN && !r.right && r.index == 1, "metal where the bore is");
+    r = kressedach_judge(ALONE(sheet), LIST(in_air), LIST(lines), LIST(positions), LIST(shapes), LIST(their_lines), LIST(their_starts),
+                         LIST(their_ends));
+    expect(r.number == KRESSEDACH_GIVEN && !r.right && r.index == 3, "one too many");
+    r = kressedach_judge(ALONE(sheet), LIST(in_air), LIST(lines), LIST(positions), LIST(shapes), their_lines, 2, their_starts, 2,
+                         their_ends, 2);
+    expect(r.number == KRESSEDACH_GIVEN && !r.right && r.index == 2, "the second wall is lacking");
+    r = kressedach_judge(ALONE(sheet), LIST(in_air), LIST(lines), LIST(positions), LIST(shapes), LIST(their_lines), LIST(their_starts),
+                         their_ends, 3);
+    expect(r.number == KRESSEDACH_LENGTHS_DIFFER && r.place == 0 && !r.right && r.index == 0, "an end is missing");
+}
+
 int main(void) {
     read_sheet();
     move();
@@ -250,6 +273,7 @@ int main(void) {
     run_for_two();
     classify_lines();
     classify_cut();
+    judge_theirs();
     cross_drawing();
     cross_vent();
     return failures == 0 ? 0 : 1;

@@ -55,7 +55,7 @@ enum kressedach_number {
     KRESSEDACH_NO_SUCH_SHAPE = 10, /* the index in the list */
     KRESSEDACH_FALLS = 11,         /* the index */
     KRESSEDACH_ODD = 12,           /* given no more: a line may end in metal */
-    KRESSEDACH_LENGTHS_DIFFER = 13, /* 0; of two foundries: the order does not mix their lists */
+    KRESSEDACH_LENGTHS_DIFFER = 13, /* 0: lists that go together; of two foundries: the order does not mix their lists */
     KRESSEDACH_ROWS_WRONG = 14,    /* 0: start rows of a length that is no multiple of the names, more than 4294967296 of them, or a byte above 1 */
     KRESSEDACH_ASTRAY = 15,        /* the index: a position at either end mark, or a line with no start row */
     KRESSEDACH_SHAPE_WRONG = 16,   /* 256 for more than 256 shapes, 65535 for the line, else the first shape at fault */
@@ -278,6 +278,36 @@ struct kressedach_classify_report kressedach_classify(bool fitted,
                                                       int32_t *ends, size_t ends_length,
                                                       uint16_t *start_shapes, size_t start_shapes_length,
                                                       uint16_t *end_shapes, size_t end_shapes_length);
+
+struct kressedach_judge_report {
+    uint8_t number;
+    uint8_t sheet;
+    bool right; /* whether their list is right */
+    size_t place;
+    size_t index; /* their list's length where it is right or only lacks entries, else the index of the first wrong entry */
+};
+
+/* Judges another ray caster's wall list: line, start and end at one index of their three lists. Start rows and crossings are those of
+ * kressedach_classify. Their list is right exactly if lines never fall, each start is below its end, no entry begins before the one before
+ * it on that line has ended, and joining entries that touch gives the walls of kressedach_classify. Otherwise `index` is that of the first
+ * entry after which no right list could begin that way, or the list's length if it only lacks entries.
+ *
+ * Refusals: 1 to 7 and 17, 8, 13 for the crossings' lists or theirs, 14, then 10, 15 and 11 crossing by crossing. There is no 9.
+ *
+ * The caller keeps: fittings_length bytes at fittings, sheet_length bytes at sheet, rows_length bytes at rows; lines_length,
+ * positions_length and shapes_length entries at lines, positions and shapes; their_lines_length, their_starts_length and their_ends_length
+ * entries at their_lines, their_starts and their_ends. Nothing is written.
+ */
+struct kressedach_judge_report kressedach_judge(bool fitted,
+                                                const uint8_t *fittings, size_t fittings_length,
+                                                const uint8_t *sheet, size_t sheet_length,
+                                                const uint8_t *rows, size_t rows_length,
+                                                const uint32_t *lines, size_t lines_length,
+                                                const int32_t *positions, size_t positions_length,
+                                                const uint16_t *shapes, size_t shapes_length,
+                                                const uint32_t *their_lines, size_t their_lines_length,
+                                                const int32_t *their_starts, size_t their_starts_length,
+                                                const int32_t *their_ends, size_t their_ends_length);
 
 struct kressedach_cross_report {
     uint8_t number;

@@ -84,6 +84,16 @@ pub struct ClassifyReport {
     pub walls: usize,
 }
 
+/// What judging another ray caster's list answers.
+#[repr(C)]
+pub struct JudgeReport {
+    pub number: u8,
+    pub sheet: u8,
+    pub right: bool,
+    pub place: usize,
+    pub index: usize,
+}
+
 /// What a crossing maker answers.
 #[repr(C)]
 pub struct CrossReport {
@@ -210,6 +220,28 @@ extern "C" {
         end_shapes: *mut u16,
         end_shapes_length: usize,
     ) -> ClassifyReport;
+
+    pub fn kressedach_judge(
+        fitted: bool,
+        fittings: *const u8,
+        fittings_length: usize,
+        sheet: *const u8,
+        sheet_length: usize,
+        rows: *const u8,
+        rows_length: usize,
+        lines: *const u32,
+        lines_length: usize,
+        positions: *const i32,
+        positions_length: usize,
+        shapes: *const u16,
+        shapes_length: usize,
+        their_lines: *const u32,
+        their_lines_length: usize,
+        their_starts: *const i32,
+        their_starts_length: usize,
+        their_ends: *const i32,
+        their_ends_length: usize,
+    ) -> JudgeReport;
 
     pub fn kressedach_cross(
         ox: f64,

@@ -5,12 +5,14 @@ mod cross;
 mod encode;
 mod ffi;
 mod formula;
+mod judging;
 mod lines;
 mod refusal;
 
 pub use cross::{cross, cross_balls, cross_balls_into, cross_into, Axis, Ball, Counts, Crossed, LineLists, Probe, Shape, BOX};
 pub use encode::{encode, encode_beside, encode_fittings, formula, read_fittings, Edition};
 pub use formula::{Formula, Operation};
+pub use judging::{judge, judge_lists, Entry, Opinion, TheirLists};
 pub use lines::{classify, classify_from, classify_into, Crossing, Start, Wall, WallLists, OPEN_END, OPEN_SHAPE, OPEN_START};
 pub use refusal::{Refusal, Which};
 use std::ops::Range;

@@ -113,7 +113,7 @@ pub fn classify_from<'a>(sheets: impl Into<Sheets<'a>>, starts: &[Start], crossi
     let sheets = sheets.into();
     let numbers = Numbers::of(starts, crossings);
     let rows = numbers.rows(starts, read(sheets)?.names);
-    let lines = numbers.rows_of(crossings);
+    let lines = numbers.rows_of(crossings.iter().map(|crossing| crossing.line));
     let positions: Vec<i32> = crossings.iter().map(|crossing| crossing.position).collect();
     let shapes: Vec<u16> = crossings.iter().map(|crossing| crossing.shape).collect();
     let room = crossings.len() / 2 + numbers.0.len();
@@ -136,10 +136,10 @@ pub fn classify_from<'a>(sheets: impl Into<Sheets<'a>>, starts: &[Start], crossi
 }
 
 /// The numbers of some lines, each once, rising. The library numbers lines by their rows: a line's row is where its number stands here.
-struct Numbers(Vec<u32>);
+pub(crate) struct Numbers(Vec<u32>);
 
 impl Numbers {
-    fn of(starts: &[Start], crossings: &[Crossing]) -> Numbers {
+    pub(crate) fn of(starts: &[Start], crossings: &[Crossing]) -> Numbers {
         let mut numbers: Vec<u32> = crossings.chunk_by(|before, here| before.line == here.line).map(|one| one[0].line).collect();
         numbers.extend(starts.iter().map(|start| start.line));
         numbers.sort_unstable();
@@ -147,23 +147,32 @@ impl Numbers {
         Numbers(numbers)
     }
 
+    pub(crate) fn has(&self, line: u32) -> bool {
+        self.0.binary_search(&line).is_ok()
+    }
+
+    /// One line more, which is not there yet.
+    pub(crate) fn add(&mut self, line: u32) {
+        self.0.insert(self.row(line), line);
+    }
+
     fn row(&self, line: u32) -> usize {
         self.0.partition_point(|number| *number < line)
     }
 
-    /// The row of each crossing's line. Lines come by rising number, so it is mostly the row of the crossing before, or the next.
-    fn rows_of(&self, crossings: &[Crossing]) -> Vec<u32> {
+    /// The row of each of these lines. They mostly come by rising number, so it is mostly the row of the one before, or the next.
+    pub(crate) fn rows_of(&self, lines: impl Iterator<Item = u32>) -> Vec<u32> {
         let mut row = 0;
-        let here = |crossing: &Crossing| {
-            let is_its = |row: usize| self.0.get(row) == Some(&crossing.line);
-            row = if is_its(row) { row } else { Some(row + 1).filter(|next| is_its(*next)).unwrap_or_else(|| self.row(crossing.line)) };
+        let here = |line: u32| {
+            let is_its = |row: usize| self.0.get(row) == Some(&line);
+            row = if is_its(row) { row } else { Some(row + 1).filter(|next| is_its(*next)).unwrap_or_else(|| self.row(line)) };
             row as u32
         };
-        crossings.iter().map(here).collect()
+        lines.map(here).collect()
     }
 
     /// A byte a shape, a row a line. A shape that no name has makes a byte that is neither 0 nor 1, for the library to refuse.
-    fn rows(&self, starts: &[Start], names: usize) -> Vec<u8> {
+    pub(crate) fn rows(&self, starts: &[Start], names: usize) -> Vec<u8> {
         let mut rows = vec![0; self.0.len() * names];
         for start in starts {
             let (row, shape) = (self.row(start.line) * names, usize::from(start.shape));

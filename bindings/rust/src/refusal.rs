@@ -52,7 +52,7 @@ impl Refusal {
             10 => "a shape number that no name has",
             11 => "a line number falls, or a position falls within its line",
             12 => "given no more: a shape crossed an odd number of times on a line",
-            13 => "the three crossing lists differ in length, or an order does not mix the lists of two foundries",
+            13 => "lists that go together differ in length, or an order does not mix the lists of two foundries",
             14 => {
                 "the start rows' length is no multiple of the number of names, they are more than 4294967296, or a byte is neither 0 nor 1"
             }

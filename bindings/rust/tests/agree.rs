@@ -3,38 +3,19 @@
 //! Answers and refusals are compared, and every answer list from end to end, with entries before and after it that were not lent.
 //! `KRESSEDACH_CASES` and `KRESSEDACH_SEED` say how many cases and from which seed. A difference prints its case whole.
 
+mod given;
 mod lent;
 
-use kressedach::{NameLists, RunLists, WallLists, Which};
-use lent::{from_env, rooms, Lent};
+use given::{any_given, mostly_good, same, Given};
+use kressedach::{NameLists, RunLists, WallLists};
+use lent::{rooms, Lent};
 use peer::lines::{Crossing, Crossings};
 use peer::make::{self, Dice, Form};
 use peer::toggles::Ran;
-use peer::{say, Refused};
+use peer::{from_env, say, Refused};
 use std::collections::HashMap;
 use std::fmt::{self, Debug};
 use std::time::Instant;
-
-/// The sheets of a call: a customer's, and a fittings sheet where there is one.
-#[derive(Clone)]
-struct Given {
-    fittings: Option<Vec<u8>>,
-    own: Vec<u8>,
-}
-
-impl Given {
-    fn alone(own: Vec<u8>) -> Given {
-        Given { fittings: None, own }
-    }
-
-    fn ours(&self) -> kressedach::Sheets<'_> {
-        kressedach::Sheets { fittings: self.fittings.as_deref(), customers: &self.own }
-    }
-
-    fn theirs(&self) -> peer::sheet::Sheets<'_> {
-        peer::sheet::Sheets { fittings: self.fittings.as_deref(), own: &self.own }
-    }
-}
 
 /// One call of the library. A room is the length of an answer list.
 enum Case {
@@ -47,34 +28,19 @@ enum Case {
 
 impl Debug for Case {
     fn fmt(&self, f: &mut fmt::Formatter) -> fmt::Result {
-        let digits = |sheet: &[u8]| sheet.iter().map(|byte| format!("{byte:02X}")).collect::<String>();
-        let hex = |sheet: &Given| match &sheet.fittings {
-            Some(fittings) => format!("{} beside {}", digits(&sheet.own), digits(fittings)),
-            None => digits(&sheet.own),
-        };
         match self {
-            Case::Read { sheet } => write!(f, "read, sheet {}", hex(sheet)),
-            Case::Build { sheet, rooms } => write!(f, "build, rooms {rooms:?}, sheet {}", hex(sheet)),
-            Case::Run { sheet, toggles, rooms } => write!(f, "run, rooms {rooms:?}, sheet {}, toggles {toggles:?}", hex(sheet)),
+            Case::Read { sheet } => write!(f, "read, sheet {sheet:?}"),
+            Case::Build { sheet, rooms } => write!(f, "build, rooms {rooms:?}, sheet {sheet:?}"),
+            Case::Run { sheet, toggles, rooms } => write!(f, "run, rooms {rooms:?}, sheet {sheet:?}, toggles {toggles:?}"),
             Case::Both { sheet, order, toggles, rooms } => {
-                write!(f, "both, rooms {rooms:?}, sheet {}, order {order:?}, toggles {toggles:?}", hex(sheet))
+                write!(f, "both, rooms {rooms:?}, sheet {sheet:?}, order {order:?}, toggles {toggles:?}")
             }
             Case::Classify { sheet, rows, lines, positions, shapes, rooms } => {
-                write!(f, "classify, rooms {rooms:?}, sheet {}, rows {rows:?}, ", hex(sheet))?;
+                write!(f, "classify, rooms {rooms:?}, sheet {sheet:?}, rows {rows:?}, ")?;
                 write!(f, "lines {lines:?}, positions {positions:?}, shapes {shapes:?}")
             }
         }
     }
-}
-
-fn same<T: PartialEq + Debug>(got: Result<T, kressedach::Refusal>, due: Result<T, &Refused>) -> Result<u8, String> {
-    let which = |sheet: Option<Which>| sheet.map_or(0, |which| if which == Which::Fittings { 1 } else { 2 });
-    let got = got.map_err(|refusal| (refusal.number, which(refusal.sheet), refusal.place));
-    let due = due.map_err(|refused| (refused.number, refused.sheet, refused.place));
-    if got != due {
-        return Err(format!("the answer is {got:?}, due is {due:?}"));
-    }
-    Ok(due.map_or_else(|(number, _, _)| number, |_| 0))
 }
 
 /// The lists of one foundry, as they are lent.
@@ -223,30 +189,6 @@ fn compare_names(sheet: &Given, rooms: [usize; 3]) -> Result<u8, String> {
     Ok(number)
 }
 
-/// The sheets of a call, one time in three with a fittings sheet.
-fn any_given(dice: &mut Dice) -> Given {
-    if dice.once_in(3) {
-        let (fittings, own) = make::any_pair(dice);
-        return Given { fittings: Some(fittings), own };
-    }
-    Given::alone(make::any_sheet(dice))
-}
-
-/// Mostly good sheets, and their number of names.
-fn mostly_good(dice: &mut Dice) -> (Given, usize) {
-    if dice.once_in(6) {
-        let sheet = any_given(dice);
-        let names = peer::read(sheet.theirs()).map_or(1, |sheet| sheet.names.len());
-        return (sheet, names);
-    }
-    if dice.once_in(3) {
-        let (fittings, own, names) = make::good_pair(dice);
-        return (Given { fittings: Some(fittings), own }, names);
-    }
-    let (own, names) = make::good_sheet(dice);
-    (Given::alone(own), names)
-}
-
 /// How many dwarf nodes the sheets have; of refused ones, anything.
 fn nodes(sheet: &Given) -> usize {
     peer::build(sheet.theirs(), [usize::MAX; 3]).map_or(5, |dwarf| dwarf.records.len())
@@ -315,27 +257,7 @@ fn make_case(dice: &mut Dice, job: u64) -> Case {
             Case::Both { sheet, order, toggles, rooms }
         }
         _ => {
-            let (most_lines, most_a_line) = dice.of_these(&[(0, 0), (12, 40), (12, 40), (60, 4), (2, 700), (600, 2)]);
-            let count = if most_lines == 0 { 0 } else { dice.size(most_lines) };
-            let mut all = make::crossings(dice, names, count, most_a_line);
-            // rows after the last line too
-            let more = dice.of_these(&[0, 0, 0, 1, 70]);
-            let mut rows = make::rows(dice, names, count + more);
-            for _ in 0..dice.of_these(&[0, 0, 1, 1, 2]) {
-                make::damage_crossings(dice, names, count + more, &mut all);
-            }
-            if dice.once_in(6) {
-                make::damage_rows(dice, names, &mut rows);
-            }
-            let (mut lines, mut positions, mut shapes) = lists(&all);
-            if dice.once_in(12) {
-                match dice.below(4) {
-                    0 => drop(lines.pop()),
-                    1 => drop(positions.pop()),
-                    2 => drop(shapes.pop()),
-                    _ => shapes.push(65535),
-                }
-            }
+            let make::Lines { rows, lines, positions, shapes } = make::any_lines(dice, names);
             let rooms = rooms(dice, [lines.len() / 2 + rows.len() / names; 5]);
             Case::Classify { sheet, rows, lines, positions, shapes, rooms }
         }

@@ -7,11 +7,11 @@
 mod lent;
 
 use kressedach::{Counts, LineLists, Refusal};
-use lent::{from_env, rooms, Lent};
+use lent::{rooms, Lent};
 use peer::crossings::{Crossed, Probe, Shapes};
 use peer::drawings::{self, EXTREME};
 use peer::make::{self, Dice};
-use peer::{say, Refused};
+use peer::{from_env, say, Refused};
 use std::fmt::Debug;
 use std::time::Instant;
 

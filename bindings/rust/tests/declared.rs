@@ -83,7 +83,7 @@ fn the_declarations_agree() {
     }
     // nothing is declared that is not exported
     let count = |s: &str, of: &str| s.matches(of).count();
-    assert_eq!((structs.len(), functions.len()), (9, 10), "structs and functions of the host");
-    assert_eq!((count(&header, "_report {"), count(&header, "_report kressedach_")), (9, 10), "of the header");
-    assert_eq!((count(&ffi, "pub struct "), count(&ffi, "pub fn ")), (9, 10), "of ffi.rs");
+    assert_eq!((structs.len(), functions.len()), (10, 11), "structs and functions of the host");
+    assert_eq!((count(&header, "_report {"), count(&header, "_report kressedach_")), (10, 11), "of the header");
+    assert_eq!((count(&ffi, "pub struct "), count(&ffi, "pub fn ")), (10, 11), "of ffi.rs");
 }

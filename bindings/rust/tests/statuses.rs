@@ -45,6 +45,26 @@ fn standard_error_that_cannot_be_written() {
     assert_eq!(shell(">/dev/full 2>/dev/full", &["both", &good, &toggles[0], &toggles[1], &order]).0, Some(1));
 }
 
+/// That a list is not right is an answer: who cannot get it gets status 2, as with any other.
+#[test]
+fn an_opinion_that_cannot_be_written() {
+    let good = file("statuses-judged.sheet", &sheet(&["A"], &[0]));
+    let crossings = file("statuses-judged.csv", b"line,position,name\n1,0,A\n1,9,A\n");
+    let theirs = ["1,0,9", "1,0,8"].map(|entry| file(&format!("statuses-{entry}.csv"), format!("line,start,end\n{entry}\n").as_bytes()));
+    for (theirs, status) in theirs.iter().zip([0, 3]) {
+        let judge = ["judge", &good, &crossings, theirs];
+        assert_eq!(shell(">/dev/null", &judge), (Some(status), String::new()));
+        for turned in ["2>/dev/full", "2>&-"] {
+            assert_eq!(shell(turned, &judge).0, Some(status), "{turned}");
+            assert_eq!(shell(&format!("{turned} >&-"), &judge).0, Some(2), "{turned}");
+        }
+        assert_eq!(shell(">&-", &judge), (Some(2), "wallcheck: standard output: is closed\n".into()));
+        let (status, said) = shell(">/dev/full", &judge);
+        assert_eq!(status, Some(2));
+        assert!(said.starts_with("wallcheck: standard output: No space left on device"), "{said}");
+    }
+}
+
 /// A reader that has enough is no reason for words, and its going is no answer.
 #[test]
 fn a_reader_that_goes() {

@@ -40,7 +40,7 @@ fn two_foundries() {
     let words = format!("{refusal}\n  row 3: the sheet has no name \"b\"; there is B; names are compared letter by letter\n");
     assert_eq!(both(&stranger, b"foundry\n0\n1\n0\n"), (Some(1), format!("{heading}1,1,0,1,B,0,2\n"), words));
     // an order that does not mix the lists goes to both, before 10
-    let order = "refused 13: the three crossing lists differ in length, or an order does not mix the lists of two foundries";
+    let order = "refused 13: lists that go together differ in length, or an order does not mix the lists of two foundries";
     let turns = "1 turns for 2 toggles of foundry 0, 1 turns for 1 of foundry 1";
     assert_eq!(both(&stranger, b"foundry\n0\n1\n"), refused(&format!("{order}\n  {turns}")));
     assert_eq!(both(&first, b"foundry\n0\n1\n2\n"), refused(&format!("{order}\n  turn 2 is foundry 2's, and there are 0 and 1")));
@@ -182,6 +182,69 @@ fn lines_that_start_in_metal() {
     assert_eq!(wallcheck(&["walls", "--starts", "-", "--fittings", "-", &path, &crossings], b"").0, Some(2));
 }
 
+/// Right, or the row of their file with what was expected there and exit status 3.
+#[test]
+fn another_list_judged() {
+    let path = file("judged.sheet", &sheet(&["Body", "Bore"], &[0, 1, 0xFFF2]));
+    let crossings = file("judged.csv", b"line,position,name\n7,0,Body\n7,40,Bore\n7,60,Bore\n7,100,Body\n9,5,Body\n");
+    let judge = |theirs: &str| wallcheck(&["judge", &path, &crossings, "-"], theirs.as_bytes());
+    let wrong = |text: &str| (Some(3), format!("{text}\n"), String::new());
+    let right = answered("right\n");
+    assert_eq!(judge("line,start,end\n7,0,40\n7,60,100\n9,5,2147483647\n"), right);
+    // columns in any order, others beside them, empty rows, a wall in parts that touch
+    assert_eq!(judge("end,by,line,start\n25,x,7,0\n\n40,,7,25\n100,,7,60\n2147483647,y,9,5\n"), right);
+    assert_eq!(judge(&wallcheck(&["walls", &path, &crossings], b"").1), right);
+
+    let at = |row: usize, entry: &str, due: &str| wrong(&format!("wrong at row {row} of standard input: {entry}\n  expected there: {due}"));
+    let first = "line 7 from 0, to 40 at most";
+    assert_eq!(judge("line,start,end\n7,0,100\n9,5,2147483647\n"), at(2, "line 7 from 0 to 100", first));
+    assert_eq!(judge("line,start,end\n7,1,40\n"), at(2, "line 7 from 1 to 40", first));
+    // the row is that of the file, and what is expected goes on from the entry before it
+    assert_eq!(judge("line,start,end\n7,0,25\n\n7,60,100\n"), at(4, "line 7 from 60 to 100", "line 7 from 25, to 40 at most"));
+    assert_eq!(judge("line,start,end\n7,0,40\n7,40,40\n"), at(3, "line 7 from 40 to 40", "line 7 from 60, to 100 at most"));
+    assert_eq!(judge("line,start,end\n7,0,40\n8,60,100\n"), at(3, "line 8 from 60 to 100", "line 7 from 60, to 100 at most"));
+    let whole = "line,start,end\n7,0,40\n7,60,100\n9,5,2147483647\n";
+    assert_eq!(judge(&format!("{whole}9,5,6\n")), at(5, "line 9 from 5 to 6", "the end of the list"));
+    let soon = |due: &str| wrong(&format!("standard input ends too soon\n  expected there: {due}"));
+    assert_eq!(judge("line,start,end\n"), soon(first));
+    assert_eq!(judge("line,start,end\n7,0,40\n7,60,100\n"), soon("line 9 from 5, to 2147483647 at most"));
+
+    // a line that starts in metal; their line has no crossing
+    let starts = file("judged-starts.csv", b"line,name\n3,Body\n");
+    let from = |theirs: &[u8]| wallcheck(&["judge", "--starts", &starts, &path, &crossings, "-"], theirs);
+    let open = "3,-2147483648,2147483647\n7,0,40\n7,60,100\n9,5,2147483647\n";
+    assert_eq!(from(format!("line,start,end\n{open}").as_bytes()), right);
+    let due = "line 3 from -2147483648, to 2147483647 at most";
+    assert_eq!(from(b"line,start,end\n7,0,40\n"), at(2, "line 7 from 0 to 40", due));
+}
+
+#[test]
+fn another_list_refused_or_unreadable() {
+    let path = file("unjudged.sheet", &sheet(&["Body", "Bore"], &[0, 1, 0xFFF2]));
+    let crossings = file("unjudged.csv", b"line,position,name\n7,5,Body\n7,4,Body\n");
+    let judge = |theirs: &str| wallcheck(&["judge", &path, &crossings, "-"], theirs.as_bytes());
+    let falls = "refused 11 at entry 1: a line number falls, or a position falls within its line";
+    assert_eq!(judge("line,start,end\n"), refused_of(&crossings, &format!("{falls}\n  row 3: position 4 comes after 5 on line 7")));
+    let starts = file("unjudged-starts.csv", b"line,shape\n7,2\n");
+    let (status, out, said) = wallcheck(&["judge", "--starts", &starts, &path, &crossings, "-"], b"line,start,end\n");
+    assert!((status, &out[..]) == (Some(1), "") && said.starts_with(&format!("wallcheck: {starts}: refused 14: ")), "{said}");
+    assert!(said.ends_with("\n  row 2: shape 2, and the last one is 1\n"), "{said}");
+    let bad = file("unjudged-bad.sheet", b"\x01");
+    let soon = "refused 1 at byte 1 of the customer's sheet: the sheet ends too soon";
+    assert_eq!(wallcheck(&["judge", &bad, &crossings, "-"], b""), refused_of(&bad, soon));
+    let heading = "standard input: row 1: the heading is to be line,start,end, each once among any others, and it is";
+    assert_eq!(judge("line,start\n"), unreadable(&format!("{heading} \"line,start\"")));
+    assert_eq!(judge("line,start,end,end\n"), unreadable(&format!("{heading} \"line,start,end,end\"")));
+    let divided = "fields are divided by commas, not by ;";
+    assert_eq!(judge("line;start;end\n"), unreadable(&format!("{heading} \"line;start;end\"; {divided}")));
+    assert_eq!(judge(""), unreadable("standard input: is empty; its heading is line,start,end"));
+    assert_eq!(judge("line,start,end\n7,0\n"), unreadable("standard input: row 2: 2 fields, and the heading has 3"));
+    let range = "is no whole number from -2147483648 to 2147483647";
+    assert_eq!(judge("line,start,end\n7,0,4.5\n"), unreadable(&format!("standard input: row 2: end \"4.5\" {range}")));
+    assert_eq!(wallcheck(&["judge", &path, "-", "-"], b"").0, Some(2));
+    assert_eq!(wallcheck(&["judge", "--starts", "-", &path, &crossings, "-"], b"").0, Some(2));
+}
+
 #[test]
 fn a_sheet_moved_there_and_back() {
     let moved = |sheet: &[u8]| {
@@ -293,6 +356,8 @@ fn usage() {
     assert_eq!(said(&["both", "a", "b"]), usage("'both' takes four files: SHEET TOGGLES TOGGLES ORDER", "help both"));
     assert_eq!(said(&["both", "a", "-", "-", "b"]), usage("only one of the files can be standard input", "help both"));
     assert_eq!(said(&["walls", "a", "b", "c"]), usage("'walls' takes two files: SHEET CROSSINGS", "help walls"));
+    assert_eq!(said(&["judge", "a", "b"]), usage("'judge' takes three files: SHEET CROSSINGS THEIRS", "help judge"));
+    assert_eq!(said(&["judge", "-", "a", "-"]), usage("only one of the files can be standard input", "help judge"));
     assert_eq!(said(&["cross", "a"]), usage("'cross' takes two files: SHAPES LINES", "help cross"));
     assert_eq!(said(&["cross", "a", "b", "--fittings", "c"]), usage("'cross' takes no sheet", "help cross"));
     assert_eq!(said(&["cross", "-", "-"]), usage("only one of the files can be standard input", "help cross"));

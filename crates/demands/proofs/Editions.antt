@@ -1,4 +1,4 @@
--- Dwarf listings, toggles and walls of a moved sheet are unchanged: document 02, K10.
+-- Dwarf listings, toggles, walls and judgements of a moved sheet are unchanged: document 02, K10.
 use Prim.Native.Nat.{ℕ}
 use mathlib.Core.Path.{_≡_}
 use mathlib.Core.List.{List}
@@ -10,6 +10,8 @@ use Rattle.lines.specs.Lines.{LineLists, AnswerLists}
 use Rattle.job_build.specs.Building.{building}
 use Rattle.job_run.specs.Running.{running}
 use Rattle.job_classify.specs.Classifying.{classifying}
+use Rattle.line_judging.specs.Judging.{TheirLists}
+use Rattle.job_judge.specs.Judging.{judging}
 use Rattle.job_move.specs.Moving.{other}
 use Rattle.job_move.proofs.Journey.{inEdition, movedIn, reading-moves}
 
@@ -29,3 +31,7 @@ module _ (c : Sheets) (r : Sheet) (read : reading c ≡ given r) where
   pub classify-moved : (lines : LineLists) (lent : AnswerLists) → classifying (movedIn c r) lines lent ≡ classifying c lines lent
   unfolding classifying
   classify-moved lines lent = rw (moved-accepted, accepted-given c r read)
+
+  pub judge-moved : (lines : LineLists) (theirs : TheirLists) → judging (movedIn c r) lines theirs ≡ judging c lines theirs
+  unfolding judging
+  judge-moved lines theirs = rw (moved-accepted, accepted-given c r read)

@@ -1,4 +1,5 @@
 pub mod Demands
+pub mod Judgements
 pub mod Table
 pub mod Foundries
 pub mod Editions

@@ -16,6 +16,8 @@ use Rattle.lines.specs.Lines.{crossed, bits, ordered, lowestFrom, shapeAt, wall
 use Rattle.job_build.specs.Building.{giving, building, Summary, summary, summaryOf}
 use Rattle.job_run.specs.Running.{toggling, running}
 use Rattle.job_classify.specs.Classifying.{classifying}
+use Rattle.line_judging.specs.Judging.{theirLists, Opinion, right, wrongAt, opinionFrom, judgement}
+use Rattle.job_judge.specs.Judging.{judging}
 
 -- ---- A sheet of n names A, B, C, .. and a formula, as bytes
 
@@ -76,6 +78,8 @@ pub data Case : Type 0 where
   runs : List ℕ → List ℕ → Answers → Case
   -- of a sheet, the start row of line 0 and its crossings, by position and shape: walls by start and end, with the shape at each
   walls : List ℕ → List ℕ → List (ℤ × ℕ) → List ((ℤ × ℕ) × (ℤ × ℕ)) → Case
+  -- of the same and another's walls on that line, by start and end: the opinion
+  judges : List ℕ → List ℕ → List (ℤ × ℕ) → List (ℤ × ℤ) → Opinion → Case
 
 abbrev pub Holds : Case → Type 0
 Holds (bytes s b) = s ≡ b
@@ -85,10 +89,22 @@ Holds (runs s ts a) = running (alone s) ts room room room ≡ given a
 Holds (walls s row xs ws) =
     classifying (alone s) (lineLists row (map (λ x. 0) xs) (map (λ x. x .0) xs) (map (λ x. x .1) xs)) (answerLists lentNumbers lentPlaces lentPlaces lentNumbers lentNumbers)
     ≡ given (map (λ w. record { line = 0; start = w .0 .0; end = w .1 .0; startShape = w .0 .1; endShape = w .1 .1 }) ws)
+Holds (judges s row xs es o) =
+    judging (alone s) (lineLists row (map (λ x. 0) xs) (map (λ x. x .0) xs) (map (λ x. x .1) xs)) (theirLists (map (λ e. 0) es) (map (λ e. e .0) es) (map (λ e. e .1) es)) ≡ given o
 
 abbrev pub All : List Case → Type 0
 All [] = Unit {0}
 All (c ∷ cs) = Holds c × All cs
+
+-- A less B on one line.
+abbrev cut : List ℕ
+cut = sheet 2 (node difference A B)
+
+abbrev noMetal : List ℕ
+noMetal = 0 ∷ 0 ∷ []
+
+abbrev cutAt : List (ℤ × ℕ)
+cutAt = (pos 0, 0) ∷ (pos 40, 1) ∷ (pos 60, 1) ∷ (pos 100, 0) ∷ []
 
 -- ---- The table
 
@@ -122,8 +138,16 @@ table =
     -- Document 02: A crossed at 5 only, from outside, is one wall from 5 to 2147483647; from inside, one that ends at 5.
     ∷ walls (sheet 1 A) (0 ∷ []) ((pos 5, 0) ∷ []) (((pos 5, 0), (pos 2147483647, 65535)) ∷ [])
     ∷ walls (sheet 1 A) (1 ∷ []) ((pos 5, 0) ∷ []) (((negsuc 2147483647, 65535), (pos 5, 0)) ∷ [])
+    -- Document 02: of A less B as above, walls 0 to 40 and 60 to 100, another's list. The same, and in parts that touch: right.
+    ∷ judges cut noMetal cutAt ((pos 0, pos 40) ∷ (pos 60, pos 100) ∷ []) right
+    ∷ judges cut noMetal cutAt ((pos 0, pos 10) ∷ (pos 10, pos 40) ∷ (pos 60, pos 100) ∷ []) right
+    -- It lacks entries: its length. An entry of no length, one that overlaps the one before it, one too many: that entry.
+    ∷ judges cut noMetal cutAt ((pos 0, pos 40) ∷ []) (wrongAt 1)
+    ∷ judges cut noMetal cutAt ((pos 0, pos 40) ∷ (pos 60, pos 60) ∷ (pos 60, pos 100) ∷ []) (wrongAt 1)
+    ∷ judges cut noMetal cutAt ((pos 0, pos 40) ∷ (pos 30, pos 100) ∷ []) (wrongAt 1)
+    ∷ judges cut noMetal cutAt ((pos 0, pos 40) ∷ (pos 60, pos 100) ∷ (pos 200, pos 210) ∷ []) (wrongAt 2)
     ∷ []
 
 pub table-holds : All table
-unfolding building giving running toggling classifying accepted reading own fields fieldAt header nameAt formulaAt formulaOf formulaIn allCodes codesOf taken same allGood bytesAt pastAt lengthAt times classified lines.judged bits ordered crossed lowestFrom shapeAt wallsOn crossingsOn wallsFrom
-table-holds = (refl, (refl, (refl, (refl, (refl, (refl, (refl, (refl, (refl, (refl, (refl, (refl, (refl, (refl, (refl, (refl, (refl, tt)))))))))))))))))
+unfolding building giving running toggling classifying judging judgement opinionFrom accepted reading own fields fieldAt header nameAt formulaAt formulaOf formulaIn allCodes codesOf taken same allGood bytesAt pastAt lengthAt times classified lines.judged bits ordered crossed lowestFrom shapeAt wallsOn crossingsOn wallsFrom
+table-holds = (refl, (refl, (refl, (refl, (refl, (refl, (refl, (refl, (refl, (refl, (refl, (refl, (refl, (refl, (refl, (refl, (refl, (refl, (refl, (refl, (refl, (refl, (refl, tt)))))))))))))))))))))))

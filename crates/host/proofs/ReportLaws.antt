@@ -1,6 +1,7 @@
 -- What is reported of an answer, by its case; and that the promises settle the reports.
 use Prim.Native.Nat.{ℕ, _≤_, _<_}
 use mathlib.Core.Path.{_≡_, sym, ap, _∙_}
+use mathlib.Core.Bool.{false}
 use mathlib.Core.List.{List}
 use borrow.Author.Tests.{le-leb, lt-leb, eq-eqb, ne-eqb}
 use Rattle.outcome.specs.Outcome.{Outcome, given, refused, unfit}
@@ -32,10 +33,14 @@ use Rattle.job_run.specs.declared.RunAnswer.{RunAnswer}
 use Rattle.job_run.specs.declared.RunAnswer.the-variants as run
 use Rattle.job_classify.specs.declared.ClassifyAnswer.{ClassifyAnswer}
 use Rattle.job_classify.specs.declared.ClassifyAnswer.the-variants as classify
+use Rattle.line_judging.specs.Judging.{Opinion, right, wrongAt}
+use Rattle.job_judge.specs.Judged.{judgedOf}
+use Rattle.job_judge.specs.declared.JudgeAnswer.{JudgeAnswer}
+use Rattle.job_judge.specs.declared.JudgeAnswer.the-variants as judge
 use Rattle.cross_cuts.specs.Cuts.{Cut}
 use Rattle.cross_answer.specs.Answer.{crossedOf, MadeLists, Crossed}
 use Rattle.cross_answer.specs.declared.CrossAnswer.{CrossAnswer}
-use Rattle.host.specs.Report.{sheetOf, readReport, nameReport, namesReport, moveReport, buildReport, runReport, classifyReport, crossReport, NamesReported, MoveReported, BuildReported, RunReported, BothReported, ClassifyReported, CrossReported}
+use Rattle.host.specs.Report.{sheetOf, readReport, nameReport, namesReport, moveReport, buildReport, runReport, classifyReport, judgeReport, crossReport, NamesReported, MoveReported, BuildReported, RunReported, BothReported, ClassifyReported, CrossReported}
 use Rattle.host.specs.declared.CrossReport.{CrossReport}
 use Rattle.host.specs.declared.RunReport.{RunReport}
 
@@ -159,6 +164,20 @@ module _ {o : Outcome (List Wall)} {lent : AnswerLists} {a : ClassifyAnswer} {af
 
   pub classify-unfit : {k p : ℕ} → a ≡ classify.Unfit k p → ClassifyReported o lent (classifyReport (unfit k p)) after
   classify-unfit {k} {p} is = classify-as (unfit k p) (ap classifiedOf is)
+
+-- of their list's n entries
+module _ (n : ℕ) {o : Outcome Opinion} {a : JudgeAnswer} (said : judgedOf a ≡ o) where
+  pub judge-right : a ≡ judge.Right → judgeReport n (given right) ≡ judgeReport n o
+  judge-right is = ap (judgeReport n) (sym (ap judgedOf is) ∙ said)
+
+  pub judge-wrong : {k : ℕ} → a ≡ judge.Wrong k → judgeReport n (given (wrongAt k)) ≡ judgeReport n o
+  judge-wrong is = ap (judgeReport n) (sym (ap judgedOf is) ∙ said)
+
+  pub judge-refused : {k p v : ℕ} → v ≡ sheetOf k → a ≡ judge.Refused k p → record { number = k; sheet = v; right = false; place = p; index = 0 } ≡ judgeReport n o
+  judge-refused in-sheet is = rw in-sheet (ap (judgeReport n) (sym (ap judgedOf is) ∙ said))
+
+  pub judge-unfit : {k p : ℕ} → a ≡ judge.Unfit k p → judgeReport n (unfit k p) ≡ judgeReport n o
+  judge-unfit is = ap (judgeReport n) (sym (ap judgedOf is) ∙ said)
 
 -- a case of the answer, told as it is reported
 pub cross-case : {a b : CrossAnswer} → a ≡ b → crossReport (crossedOf b) ≡ crossReport (crossedOf a)

@@ -30,6 +30,9 @@ use Rattle.job_both.specs.Shared.{Lists}
 use Rattle.job_both.proofs.Settled.{lists-same, served-numbered}
 use Rattle.job_classify.specs.Classifying.{classifying}
 use Rattle.job_classify.proofs.Settled.{classify-numbered}
+use Rattle.line_judging.specs.Judging.{TheirLists, Opinion}
+use Rattle.job_judge.specs.Judging.{judging}
+use Rattle.job_judge.proofs.Settled.{judge-numbered}
 use Rattle.cross_cuts.specs.Cuts.{Cut}
 use Rattle.cross_answer.specs.Answer.{Counts, countsOf, MadeLists}
 use Rattle.cross_answer.proofs.Settled.{made-lists-unique}
@@ -38,7 +41,7 @@ use Rattle.cross_line.specs.Crossing.{crossingShapes}
 use Rattle.cross_line.proofs.Settled.{shapes-numbered}
 use Rattle.cross_balls.specs.Balls.{crossingBalls}
 use Rattle.cross_balls.proofs.Settled.{balls-numbered}
-use Rattle.host.specs.Report.{readReport, nameReport, namesReport, moveReport, buildReport, runReport, classifyReport, crossReport, NamesReported, MoveReported, BuildReported, RunReported, BothReported, ClassifyReported, CrossReported}
+use Rattle.host.specs.Report.{readReport, nameReport, namesReport, moveReport, buildReport, runReport, classifyReport, judgeReport, crossReport, NamesReported, MoveReported, BuildReported, RunReported, BothReported, ClassifyReported, CrossReported}
 use Rattle.host.specs.declared.ReadReport.{ReadReport}
 use Rattle.host.specs.declared.NameReport.{NameReport}
 use Rattle.host.specs.declared.NamesReport.{NamesReport}
@@ -47,6 +50,7 @@ use Rattle.host.specs.declared.BuildReport.{BuildReport}
 use Rattle.host.specs.declared.RunReport.{RunReport}
 use Rattle.host.specs.declared.BothReport.{BothReport}
 use Rattle.host.specs.declared.ClassifyReport.{ClassifyReport}
+use Rattle.host.specs.declared.JudgeReport.{JudgeReport}
 use Rattle.host.specs.declared.CrossReport.{CrossReport}
 
 -- ---- Two results that meet a promise are equal
@@ -100,6 +104,9 @@ both-report-unique c order first second lent₁ lent₂ r q after₁ after₂ ot
 pub classify-report-unique : (o : Outcome (List Wall)) (lent : AnswerLists) (r q : ClassifyReport) (after other : AnswerLists) → ClassifyReported o lent r after → ClassifyReported o lent q other → (r ≡ q) × (after ≡ other)
 classify-report-unique o lent r q after other a b = (a .report ∙ sym (b .report), lists-unique (a .lists) (b .lists))
 
+pub judge-report-unique : (s : Sheets) (c : LineLists) (t : TheirLists) (n : ℕ) (r q : JudgeReport) → r ≡ judgeReport n (judging s c t) → q ≡ judgeReport n (judging s c t) → r ≡ q
+judge-report-unique s c t n r q a b = a ∙ sym b
+
 -- of shapes and of balls
 pub cross-report-unique : (o : Outcome (List Cut)) (lent : MadeLists) (r q : CrossReport) (after other : MadeLists) → CrossReported o lent r after → CrossReported o lent q other → (r ≡ q) × (after ≡ other)
 cross-report-unique o lent r q after other a b = (a .report ∙ sym (b .report), made-lists-unique o lent after other (a .lists) (b .lists))
@@ -146,6 +153,9 @@ pub classify-given : (s : Sheets) (c : LineLists) (lent : AnswerLists) → class
 classify-given s c lent =
     let job = classifying s c lent in
     told-given (λ o. classifyReport o .number) (λ k p. refl) (λ k p. refl) (part length job) (part-numbered length job (classify-numbered s c lent))
+
+pub judge-given : (s : Sheets) (c : LineLists) (t : TheirLists) (n : ℕ) → judgeReport n (judging s c t) .number ≡ 0 → (v : Opinion) × (judging s c t ≡ given v)
+judge-given s c t n = told-given (λ o. judgeReport n o .number) (λ k p. refl) (λ k p. refl) (judging s c t) (judge-numbered s c t)
 
 pub cross-given : (probe : Probe) (kinds : List ℕ) (numbers : List Float) (a b c : ℕ) → crossReport (part countsOf (crossingShapes probe kinds numbers a b c)) .number ≡ 0
     → (v : Counts) × (part countsOf (crossingShapes probe kinds numbers a b c) ≡ given v)

@@ -3,7 +3,7 @@
 use Prim.Native.Nat.{ℕ}
 use mathlib.Core.Path.{_≡_}
 use mathlib.Core.List.{List}
-use mathlib.Core.Bool.{cond}
+use mathlib.Core.Bool.{true, false, cond}
 use lib.Dec.{leb, eqb}
 use lib.Ieee.{Float}
 use lib.IntN.{ℤ}
@@ -22,6 +22,7 @@ use Rattle.toggles.specs.Toggles.{Answers}
 use Rattle.job_run.specs.Ran.{RanLists}
 use Rattle.job_both.specs.Sharing.{sharing, serving}
 use Rattle.job_both.specs.Shared.{Lists}
+use Rattle.line_judging.specs.Judging.{Opinion, right, wrongAt}
 use Rattle.cross_cuts.specs.Cuts.{Cut}
 use Rattle.cross_answer.specs.Answer.{Counts, counts, countsOf, MadeLists, CrossedLists}
 use Rattle.cross_shapes.specs.declared.Probe.{Probe}
@@ -33,6 +34,7 @@ use Rattle.host.specs.declared.BuildReport.{BuildReport}
 use Rattle.host.specs.declared.RunReport.{RunReport}
 use Rattle.host.specs.declared.BothReport.{BothReport}
 use Rattle.host.specs.declared.ClassifyReport.{ClassifyReport}
+use Rattle.host.specs.declared.JudgeReport.{JudgeReport}
 use Rattle.host.specs.declared.CrossReport.{CrossReport}
 
 -- A place in 1 to 7 or 17 says which sheet: 1 the fittings sheet, 2 the customer's, also where it is alone; 0 where it is in none.
@@ -84,6 +86,15 @@ classifyReport (given walls) = record { number = 0; sheet = 0; place = 0; walls 
 classifyReport (refused number place) = record { number = number; sheet = sheetOf number; place = place; walls = 0 }
 classifyReport (unfit number place) =
     record { number = number; sheet = 1; place = place; walls = 0 }
+
+-- Whether their list, of n entries, is right; and the index of the first entry after which no right list could begin that way, or n if it only lacks entries or is right.
+abbrev pub judgeReport : ℕ → Outcome Opinion → JudgeReport
+judgeReport n (given right) = record { number = 0; sheet = 0; right = true; place = 0; index = n }
+judgeReport n (given (wrongAt k)) = record { number = 0; sheet = 0; right = false; place = 0; index = k }
+judgeReport n (refused number place) =
+    record { number = number; sheet = sheetOf number; right = false; place = place; index = 0 }
+judgeReport n (unfit number place) =
+    record { number = number; sheet = 1; right = false; place = place; index = 0 }
 
 -- The crossing makers take no sheet: their report has none.
 abbrev pub crossReport : Outcome Counts → CrossReport

@@ -13,14 +13,17 @@ ghost use Rattle.job_run.specs.Ran.{ranOf};
 ghost use Rattle.job_both.specs.Shared.{lists};
 ghost use Rattle.lines.specs.Lines.{lineLists, answerLists};
 ghost use Rattle.job_classify.specs.Classifying.{classifying};
+ghost use Rattle.line_judging.specs.Judging.{theirLists};
+ghost use Rattle.job_judge.specs.Judging.{judging};
 ghost use Rattle.cross_answer.specs.Answer.{crossedOf, madeLists};
 ghost use Rattle.cross_line.specs.Crossing.{crossingShapes};
 ghost use Rattle.cross_balls.specs.Balls.{crossingBalls};
-ghost use Rattle.host.specs.Report.{sheetOf, readReport, nameReport, runReport, probeOf, crossReport, NamesReported, MoveReported, BuildReported, RunReported, BothReported, ClassifyReported, CrossReported};
+ghost use Rattle.host.specs.Report.{sheetOf, readReport, nameReport, runReport, judgeReport, probeOf, crossReport, NamesReported, MoveReported, BuildReported, RunReported, BothReported, ClassifyReported, CrossReported};
 use cross_answer::CrossAnswer;
 use cross_shapes::Probe;
 use job_build::BuildAnswer;
 use job_classify::ClassifyAnswer;
+use job_judge::JudgeAnswer;
 use job_move::MoveAnswer;
 use job_name::NameAnswer;
 use job_names::NamesAnswer;
@@ -69,6 +72,15 @@ pub struct ClassifyReport {
     pub sheet: u8,
     pub place: usize,
     pub walls: usize,
+}
+
+#[repr(C)]
+pub struct JudgeReport {
+    pub number: u8,
+    pub sheet: u8,
+    pub right: bool,
+    pub place: usize,
+    pub index: usize,
 }
 
 #[repr(C)]
@@ -451,6 +463,65 @@ pub extern "C" fn kressedach_classify(
             sheet: 1,
             place,
             walls: 0,
+        },
+    }
+}
+
+// Judges another ray caster's wall list.
+#[no_mangle]
+pub extern "C" fn kressedach_judge(
+    fitted: bool,
+    fittings: &[u8],
+    sheet: &[u8],
+    rows: &[u8],
+    lines: &[u32],
+    positions: &[i32],
+    shapes: &[u16],
+    their_lines: &[u32],
+    their_starts: &[i32],
+    their_ends: &[i32],
+) -> JudgeReport
+    ensures { λ r. ⌜ r ≡ judgeReport (length (now («their_lines» .entry))) (judging (sheetsOf fitted (now (fittings .entry)) (now (sheet .entry))) (lineLists (now (rows .entry)) (now (lines .entry)) (now (positions .entry)) (now (shapes .entry))) (theirLists (now («their_lines» .entry)) (now («their_starts» .entry)) (now («their_ends» .entry)))) ⌝ }
+{
+    match job_judge::judge(
+        fitted,
+        fittings,
+        sheet,
+        rows,
+        lines,
+        positions,
+        shapes,
+        their_lines,
+        their_starts,
+        their_ends,
+    ) {
+        JudgeAnswer::Right => JudgeReport {
+            number: 0,
+            sheet: 0,
+            right: true,
+            place: 0,
+            index: their_lines.len(),
+        },
+        JudgeAnswer::Wrong { index } => JudgeReport {
+            number: 0,
+            sheet: 0,
+            right: false,
+            place: 0,
+            index,
+        },
+        JudgeAnswer::Refused { number, place } => JudgeReport {
+            number,
+            sheet: sheet_of(number),
+            right: false,
+            place,
+            index: 0,
+        },
+        JudgeAnswer::Unfit { number, place } => JudgeReport {
+            number,
+            sheet: 1,
+            right: false,
+            place,
+            index: 0,
         },
     }
 }

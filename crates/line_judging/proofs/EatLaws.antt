@@ -11,10 +11,10 @@ use lib.IntN.{ℤ, pos}
 use lib.ListN.{length, drop, getD, drop-of-length-le}
 use lib.Signed.{leZ}
 use Rattle.lines.proofs.Keys.{ltZ-not}
-use Rattle.line_judging.specs.Judging.{Entry, entries, TheirLists, theirLists, theirs, samePlace, fits, beyond, opinionFrom}
+use Rattle.line_judging.specs.Judging.{Entry, entries, TheirLists, theirLists, theirs, samePlace, right, wrongAt, fits, beyond, opinionFrom}
 use Rattle.line_judging.specs.Eating.{SameLength, entryAt, EntryThere, Ate}
 use Rattle.line_judging.specs.declared.Eaten.the-variants.{Whole, Wrong}
-use Rattle.line_judging.proofs.Opinions.{opinion-lack, opinion-on, opinion-off}
+use Rattle.line_judging.proofs.Opinions.{opinion-none, opinion-lack, opinion-more, opinion-on, opinion-off}
 
 length-theirs : (ls : List ℕ) (ps qs : List ℤ) → length ps ≡ length ls → length qs ≡ length ls → length (entries ls ps qs) ≡ length ls
 length-theirs [] ps qs e f = refl
@@ -85,3 +85,12 @@ module _ (t : TheirLists) (i : ℕ) (v : Entry) where
 
         pub eat-part : (l : ℕ) → l ≡ u .line → x ≡ false → Going t i v (j + 1) (record { line = l; start = b; end = e })
         eat-part l is-l k = record { rest = λ vs. on q vs ∙ rw (← is-b, ← is-e, is-l, sym to-end ∙ k) }
+
+-- ---- after our last wall
+
+module _ (t : TheirLists) (sl : SameLength t) (j : ℕ) where
+  pub opinion-over : j < length (t .lines) → opinionFrom j [] (drop j (theirs t)) ≡ wrongAt j
+  opinion-over h = ap (opinionFrom j []) (left (t .lines) (t .starts) (t .ends) j (sl .starts) (sl .ends) h) ∙ opinion-more j (entryAt t j) (drop (suc j) (theirs t))
+
+  pub opinion-done : length (t .lines) ≤ j → opinionFrom j [] (drop j (theirs t)) ≡ right
+  opinion-done h = ap (opinionFrom j []) (drop-of-length-le (theirs t) {i = j} (omega (arith, length-theirs (t .lines) (t .starts) (t .ends) (sl .starts) (sl .ends)))) ∙ opinion-none j

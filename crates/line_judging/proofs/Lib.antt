@@ -1,2 +1,3 @@
 pub mod Opinions
-mod EatLaws
+pub mod EatLaws
+pub mod Numbered

@@ -5,8 +5,11 @@ use mathlib.Core.Bool.{Bool, true, false, _&&_, _||_, cond}
 use mathlib.Core.List.{List, [], _∷_, map}
 use lib.Dec.{ltb, eqb}
 use lib.IntN.{ℤ}
+use lib.ListN.{length}
 use lib.Signed.{ltZ, leZ}
-use Rattle.lines.specs.Lines.{Wall}
+use Rattle.outcome.specs.Outcome.{Outcome, given, need, _>>_}
+use Rattle.formula.specs.Formula.{Formula}
+use Rattle.lines.specs.Lines.{LineLists, judged, Wall, walls}
 
 -- Their list has line, start and end.
 pub record Entry : Type 0 where
@@ -95,3 +98,12 @@ opinionFrom i (v ∷ vs) (w ∷ ws) = elim (fits v w) [ true ↦ opinionFrom (i 
 
 abbrev pub opinion : List Wall → List Entry → Opinion
 opinion ours theirs = opinionFrom 0 (map bare ours) theirs
+
+-- ---- the line job of judging
+
+-- The opinion, or the first reason met: 13, for their three lists of unequal length too; then as for lines. No list is lent, so there is no 9.
+unfoldable pub judgement : Formula → ℕ → LineLists → TheirLists → Outcome Opinion
+judgement f names c t = do
+  need (eqb (length (t .starts)) (length (t .lines)) && eqb (length (t .ends)) (length (t .lines))) 13 0
+  judged names c
+  given (opinion (walls f names c) (theirs t))

@@ -1,8 +1,1 @@
-mod ListLaws
-mod EventWalls
-mod TurnLaws
-mod HeldLaws
-mod RowLaws
-mod BlockLaws
-mod PassBlocks
 mod JobLaws

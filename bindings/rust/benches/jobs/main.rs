@@ -23,6 +23,7 @@ fn main() {
     let said: Vec<Said> = rows.into_iter().map(|mut row| line(&mut row)).collect();
     verdict(&said, "above 1.5 times the plain one", |row| row.plain > 1.5);
     verdict(&said, "at 256 leaves or more less than 5 times faster than walking", |row| row.walk.is_some_and(|walk| walk < 5.0));
+    verdict(&said, "above 1.2 times classify where a right list is judged", |row| row.judge.is_some_and(|judge| judge > 1.2));
     let [mut pair, mut one] = rows::pair_and_one();
     let times = best(&mut [&mut pair, &mut one]);
     println!("\nReading 128 names beside 128 fittings takes {:.2} of the time of 256 in one sheet.\n", times[0] / times[1]);
@@ -46,6 +47,8 @@ struct Said {
     plain: f64,
     /// The walk's time, in times of the library's; where the formula has 256 leaves or more.
     walk: Option<f64>,
+    /// The time of judging the walls of the same lines, in times of the library's.
+    judge: Option<f64>,
 }
 
 fn verdict(said: &[Said], what: &str, is_so: fn(&Said) -> bool) {
@@ -75,13 +78,14 @@ fn heading() {
     println!("- `plain`: safe Rust of the same method.");
     println!("- `walk`: plain Rust that flips leaves and walks up the contracted tree at each crossing.");
     println!("- `pass`: one plain pass over the start rows, a byte a name and line: what a call in air has to look at, and nothing more.");
+    println!("- `judge`: the proved library's opinion on a right list, on the same lines: their walls.");
     println!("- `copy`: a plain copy of the call's lists, those read and those written.\n");
     println!("For classify, lines start in air where nothing else is said.");
     println!("All lists are made before and lent again at each turn; none is cleared.\n");
     println!(
-        "| job | formula | leaves | lists | library | plain | walk | pass | copy | library / plain | walk / library | library / copy |"
+        "| job | formula | leaves | lists | library | plain | walk | pass | judge | copy | library / plain | walk / library | judge / library | library / copy |"
     );
-    println!("|---|---|--:|---|--:|--:|--:|--:|--:|--:|--:|--:|");
+    println!("|---|---|--:|---|--:|--:|--:|--:|--:|--:|--:|--:|--:|--:|");
 }
 
 /// Times and prints a row.
@@ -89,17 +93,21 @@ fn line(row: &mut Row) -> Said {
     let mut functions: Vec<&mut dyn FnMut()> = vec![&mut row.library, &mut row.plain, &mut row.copy];
     functions.extend(row.walk.as_mut().map(|walk| walk as &mut dyn FnMut()));
     functions.extend(row.pass.as_mut().map(|pass| pass as &mut dyn FnMut()));
+    functions.extend(row.judge.as_mut().map(|judge| judge as &mut dyn FnMut()));
     let mut times = best(&mut functions).into_iter().map(|time| time / row.items as f64);
     let mut next = || times.next().unwrap_or_default();
     let (library, plain, copy) = (next(), next(), next());
     let (walk, pass) = (row.walk.as_ref().map(|_| next()), row.pass.as_ref().map(|_| next()));
+    let judge = row.judge.as_ref().map(|_| next());
     let shown = |time: Option<f64>| time.map_or(String::new(), |time| format!("{time:.2}"));
     let faster = walk.map_or(String::new(), |time| format!("{:.1}", time / library));
+    let judging = shown(judge.map(|time| time / library));
     let what = format!("{} | {} | {} | {}", row.job, row.formula, row.leaves, row.lists);
     println!(
-        "| {what} | {library:.2} | {plain:.2} | {} | {} | {copy:.2} | {:.2} | {faster} | {:.0} |",
+        "| {what} | {library:.2} | {plain:.2} | {} | {} | {} | {copy:.2} | {:.2} | {faster} | {judging} | {:.0} |",
         shown(walk),
         shown(pass),
+        shown(judge),
         library / plain,
         library / copy
     );
@@ -108,6 +116,7 @@ fn line(row: &mut Row) -> Said {
         leaves: row.leaves,
         plain: library / plain,
         walk: walk.filter(|_| row.leaves >= 256).map(|time| time / library),
+        judge: judge.map(|time| time / library),
     }
 }
 

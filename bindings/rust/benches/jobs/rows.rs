@@ -1,7 +1,7 @@
 //! What is timed: each row is one job on one sheet with its lists.
 
 use crate::plain;
-use kressedach::{LineLists, Probe, WallLists, BOX};
+use kressedach::{LineLists, Opinion, Probe, TheirLists, WallLists, BOX};
 use peer::lines::{Crossing, Crossings};
 use peer::make::{self, Dice, Form};
 use peer::sheet::Sheets;
@@ -20,6 +20,8 @@ pub struct Row {
     pub copy: Box<dyn FnMut()>,
     /// One plain pass over the start rows.
     pub pass: Option<Box<dyn FnMut()>>,
+    /// The library's opinion on the walls of the same lines, which is a right list.
+    pub judge: Option<Box<dyn FnMut()>>,
     /// Compares the answers.
     pub check: Box<dyn Fn()>,
 }
@@ -103,6 +105,7 @@ fn read(formula: &'static str, leaves: usize) -> Row {
         walk: None,
         copy: Box::new(copying(c)),
         pass: None,
+        judge: None,
         check: Box::new(move || {
             let read = kressedach::read(&sheet).unwrap();
             assert_eq!(plain::read(&sheet), Ok((read.names, read.leaves, read.formula.start, read.formula.end)));
@@ -134,6 +137,7 @@ fn read_pair(formula: &'static str, fitted: usize, leaves: usize) -> Row {
         walk: None,
         copy: Box::new(copying(c)),
         pass: None,
+        judge: None,
         check: Box::new(move || {
             let read = kressedach::read(kressedach::Sheets::beside(&fittings, &own)).unwrap();
             assert_eq!(plain::read_pair(&fittings, &own), Ok((read.names, read.leaves, read.formula.start, read.formula.end)));
@@ -182,6 +186,7 @@ fn moved(formula: &'static str, leaves: usize) -> Row {
             copy_moved();
         }),
         pass: None,
+        judge: None,
         check: Box::new(move || {
             let due = peer::move_sheet(Sheets::alone(&sheet), sheet.len()).unwrap();
             let [mut moved, mut plain_moved] = [vec![0; sheet.len()], vec![0; sheet.len()]];
@@ -230,6 +235,7 @@ fn build(formula: &'static str, leaves: usize) -> Row {
             copy_lists();
         }),
         pass: None,
+        judge: None,
         check: Box::new(move || {
             let size = [due.leaves, nodes, due.rounds, due.height()];
             let lists = |list: fn(&peer::dwarf::Record) -> u16| due.records.iter().map(list).collect::<Vec<u16>>();
@@ -281,6 +287,7 @@ fn run(formula: &'static str, leaves: usize, count: usize) -> Row {
             copy_counts();
         }),
         pass: None,
+        judge: None,
         check: Box::new(move || {
             let due = peer::run(Sheets::alone(&sheet), &toggles, [usize::MAX; 3]).unwrap();
             let (mut roots, mut counts, mut labels) = (vec![0; toggles.len()], vec![0; toggles.len()], vec![0; NODES]);
@@ -393,6 +400,18 @@ impl Lines {
     }
 }
 
+/// The opinion on so many walls, as another ray caster's list.
+fn judged(lines: &Lines, walls: &Room, count: usize) -> Opinion {
+    let theirs = TheirLists { lines: &walls.lines[..count], starts: &walls.starts[..count], ends: &walls.ends[..count] };
+    kressedach::judge_lists(&lines.sheet, &lines.rows, &lines.lines, &lines.positions, &lines.shapes, theirs).unwrap()
+}
+
+fn judging(lines: std::rc::Rc<Lines>, room: usize) -> Box<dyn FnMut()> {
+    let mut walls = Room::of(room);
+    let count = WORDS(&lines, &mut walls.lent());
+    Box::new(move || _ = black_box(judged(black_box(&lines), &walls, count)))
+}
+
 /// Random crossings, so many a line.
 fn classify(formula: &'static str, leaves: usize, a_line: usize, starts: Starts, count: usize) -> Row {
     let (sheet, names) = sheet(formula, leaves);
@@ -454,9 +473,13 @@ fn lines_row(formula: &'static str, leaves: usize, sheet: Vec<u8>, rows: Vec<u8>
             copy_walls();
         }),
         pass: Some(Box::new(move || _ = black_box(plain::over(black_box(&rows))))),
+        judge: Some(judging(lines.clone(), room)),
         check: Box::new(move || {
             let crossings = Crossings { rows: &lines.rows, lines: &lines.lines, positions: &lines.positions, shapes: &lines.shapes };
             let due = peer::classify(Sheets::alone(&lines.sheet), crossings, [room; 5]).unwrap();
+            let mut walls = Room::of(room);
+            WORDS(&lines, &mut walls.lent());
+            assert_eq!(judged(&lines, &walls, due.len()), Opinion::Right);
             for way in [LIBRARY, WORDS, WALK] {
                 let mut room = Room::of(room);
                 assert_eq!(way(&lines, &mut room.lent()), due.len());
@@ -575,6 +598,7 @@ fn cross(shapes: &'static str, count: usize) -> Row {
             }
         }),
         pass: None,
+        judge: None,
         check: Box::new(move || {
             for way in [PROVED, BY_BITS] {
                 let (mut starts, mut positions, mut numbers) = room();

@@ -2,7 +2,8 @@
 //!
 //! Nothing here is proved or tuned, and nothing is shared with the library: the formula is a tree of boxes, the contraction works on
 //! nodes that point to each other, and a line is evaluated position by position. Each module follows one section of the document.
-//! [`make`] makes sheets and lists, good and damaged, from a seed, and [`drawings`] probe lines, shapes and balls.
+//! [`make`] makes sheets and lists, good and damaged, from a seed, [`drawings`] probe lines, shapes and balls, and [`theirs`] the wall
+//! lists of others.
 //!
 //! Each job takes the lengths of the answer lists (`rooms`), in the order in which the document names them, and gives what the first
 //! entries of those lists become.
@@ -12,12 +13,15 @@ pub mod crossings;
 pub mod drawings;
 pub mod dwarf;
 pub mod formula;
+pub mod judging;
 pub mod lines;
 pub mod make;
 pub mod sheet;
+pub mod theirs;
 pub mod toggles;
 
 use dwarf::Dwarf;
+use judging::{Opinion, TheirLists};
 use lines::{Crossings, Wall};
 use sheet::{Sheet, Sheets};
 use toggles::Ran;
@@ -88,6 +92,18 @@ pub fn classify(sheets: Sheets, crossings: Crossings, rooms: [usize; 5]) -> Resu
     Ok(lines::walls(&sheet.formula, sheet.names.len(), crossings.rows, &judged))
 }
 
+/// Judging another ray caster's list. "Refusals: as for lines", "their three lists of unequal length is 13"; no list is answered, so there
+/// is no 9.
+pub fn judge(sheets: Sheets, crossings: Crossings, theirs: TheirLists) -> Result<Opinion, Refused> {
+    let (sheet, _) = contracted(sheets)?;
+    if !theirs.same_length() {
+        return refuse(13, 0);
+    }
+    let judged = lines::judge(sheet.names.len(), crossings)?;
+    let walls = lines::walls(&sheet.formula, sheet.names.len(), crossings.rows, &judged);
+    Ok(judging::opinion(&walls, &theirs.entries()))
+}
+
 /// Asking for a shape's name: its bytes; "past the joined names is 10, place 0".
 pub fn name(sheets: Sheets, shape: usize) -> Result<Vec<u8>, Refused> {
     sheet::read(sheets)?.names.get(shape).cloned().map_or_else(|| refuse(10, 0), Ok)
@@ -155,4 +171,9 @@ pub fn say(text: impl std::fmt::Display) {
     use std::io::Write;
     let mut stderr = std::io::stderr().lock();
     let _ = writeln!(stderr, "{text}");
+}
+
+/// A number from the environment.
+pub fn from_env(name: &str, otherwise: u64) -> u64 {
+    std::env::var(name).map_or(otherwise, |value| value.parse().unwrap_or_else(|_| panic!("{name} is no number: {value}")))
 }

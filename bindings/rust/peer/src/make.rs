@@ -1,6 +1,6 @@
 //! Sheets, toggle lists, start rows and crossing lists made from a seed: good, damaged, extreme and long ones.
 
-use crate::lines::Crossing;
+use crate::lines::{Crossing, Crossings};
 use crate::sheet::Sheets;
 
 /// Numbers from a seed (splitmix64).
@@ -388,6 +388,52 @@ pub fn crossings(dice: &mut Dice, names: usize, lines: usize, most_a_line: usize
         all.extend(here);
     }
     all
+}
+
+/// Start rows and crossings, their three lists not always of one length.
+#[derive(Debug, Clone, Default)]
+pub struct Lines {
+    pub rows: Vec<u8>,
+    pub lines: Vec<u32>,
+    pub positions: Vec<i32>,
+    pub shapes: Vec<u16>,
+}
+
+impl Lines {
+    pub fn of(rows: Vec<u8>, all: &[Crossing]) -> Lines {
+        let (lines, positions) = (all.iter().map(|c| c.line), all.iter().map(|c| c.position));
+        Lines { rows, lines: lines.collect(), positions: positions.collect(), shapes: all.iter().map(|c| c.shape).collect() }
+    }
+
+    pub fn lists(&self) -> Crossings<'_> {
+        Crossings { rows: &self.rows, lines: &self.lines, positions: &self.positions, shapes: &self.shapes }
+    }
+}
+
+/// Start rows and crossings of any kind: good, damaged in a place or two, of unequal lengths.
+pub fn any_lines(dice: &mut Dice, names: usize) -> Lines {
+    let (most_lines, most_a_line) = dice.of_these(&[(0, 0), (12, 40), (12, 40), (60, 4), (2, 700), (600, 2)]);
+    let count = if most_lines == 0 { 0 } else { dice.size(most_lines) };
+    let mut all = crossings(dice, names, count, most_a_line);
+    // rows after the last line too
+    let more = dice.of_these(&[0, 0, 0, 1, 70]);
+    let mut rows = rows(dice, names, count + more);
+    for _ in 0..dice.of_these(&[0, 0, 1, 1, 2]) {
+        damage_crossings(dice, names, count + more, &mut all);
+    }
+    if dice.once_in(6) {
+        damage_rows(dice, names, &mut rows);
+    }
+    let mut given = Lines::of(rows, &all);
+    if dice.once_in(12) {
+        match dice.below(4) {
+            0 => drop(given.lines.pop()),
+            1 => drop(given.positions.pop()),
+            2 => drop(given.shapes.pop()),
+            _ => given.shapes.push(65535),
+        }
+    }
+    given
 }
 
 /// Changes crossings in one place. There are so many start rows.

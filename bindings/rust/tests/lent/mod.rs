@@ -1,4 +1,4 @@
-//! Answer lists as the comparisons lend them, and what the environment asks for.
+//! Answer lists as the comparisons lend them.
 
 use peer::make::Dice;
 use std::fmt::Debug;
@@ -45,9 +45,4 @@ pub fn rooms<const LISTS: usize>(dice: &mut Dice, needed: [usize; LISTS]) -> [us
         4 => 0,
         _ => dice.below(need + 1),
     })
-}
-
-/// A number from the environment.
-pub fn from_env(name: &str, otherwise: u64) -> u64 {
-    std::env::var(name).map_or(otherwise, |value| value.parse().unwrap_or_else(|_| panic!("{name} is no number: {value}")))
 }

@@ -1,4 +1,6 @@
-use Rattle.line_walls.proofs.JobLaws.{job-refused, job-good}
+-- The judgement refuses, or the lists are good.
+use Rattle.line_blocks.proofs.PassLaws.{lists-good}
+use Rattle.line_walls.proofs.JobLaws.{job-refused}
 use borrow.Author.Needs.{needs}
 use Rattle.line_walls.proofs.classify.Statement.{statement}
 use Rattle.line_walls.proofs.classify.Tie as tie
@@ -13,7 +15,7 @@ enum-known-v-2 : tie.Need-enum-known-v-2
 enum-known-v-2 c = search needs
 
 classify-good-requires : tie.Need-classify-good-requires
-classify-good-requires c κs = (search needs, search job-good)
+classify-good-requires c κs = (search needs, search lists-good)
 
 returns : tie.Need-returns
 returns c = search job-refused

@@ -1,4 +1,5 @@
-use Rattle.line_walls.proofs.JobLaws.{room-refused, room-accepted, good-said, job-given}
+-- 9 for the five lists; then the walls.
+use Rattle.line_walls.proofs.JobLaws.{room-there, room-refused, job-given}
 use borrow.Author.Needs.{needs}
 use Rattle.line_walls.proofs.classify_good.Statement.{statement}
 use Rattle.line_walls.proofs.classify_good.Tie as tie
@@ -22,7 +23,7 @@ enum-told : tie.Need-enum-told
 enum-told c = search needs
 
 write-requires : tie.Need-write-requires
-write-requires c κs = let s = c .before .before .before .before .before .before .before .before .before .before .before .before .before .before in (s .pre .0, good-said (s .pre .1), room-accepted (s .pre .1) (c .before .before .before .before .before .before .before .room .ensures) (c .before .before .before .before .before .enum-told .given .1) (s .pre .0))
+write-requires c κs = (search needs, search needs, room-there _ (c .before .before .before .before .before .before .before .room .ensures) (c .before .before .before .before .before .enum-told .given .1))
 
 same-length : tie.Need-same-length
 same-length c = search needs

@@ -1,4 +1,6 @@
-use Rattle.line_walls.proofs.JobLaws.{few-rows, all-rows, walls-given}
+-- The formula arranged, in few rows or in as many as there can be, and the walls of the whole pass.
+use Rattle.line_blocks.proofs.PassLaws.{few-rows, all-rows}
+use Rattle.line_walls.proofs.JobLaws.{walls-given}
 use borrow.Author.Needs.{needs}
 use Rattle.line_walls.proofs.write.Statement.{statement}
 use Rattle.line_walls.proofs.write.Tie as tie
@@ -13,7 +15,7 @@ slice-aggregate-blocks-2 : tie.Need-slice-aggregate-blocks-2
 slice-aggregate-blocks-2 c = search needs
 
 blocks-requires : tie.Need-blocks-requires
-blocks-requires c κs = search few-rows
+blocks-requires c κs = (search few-rows, search needs)
 
 same-length : tie.Need-same-length
 same-length c = search needs
@@ -40,7 +42,7 @@ slice-aggregate-blocks-4 : tie.Need-slice-aggregate-blocks-4
 slice-aggregate-blocks-4 c = search needs
 
 blocks-requires-2 : tie.Need-blocks-requires-2
-blocks-requires-2 c κs = search all-rows
+blocks-requires-2 c κs = (search all-rows, search needs)
 
 same-length-6 : tie.Need-same-length-6
 same-length-6 c = search needs

@@ -16,6 +16,11 @@ const FITTINGS: &str = include_str!("help/part-fittings.txt");
 
 const COMMANDS: &[Command] = &[
     Command { name: "walls", takes: "two files: SHEET CROSSINGS", parts: &[include_str!("help/walls.txt"), CROSSINGS, LISTS, FITTINGS] },
+    Command {
+        name: "judge",
+        takes: "three files: SHEET CROSSINGS THEIRS",
+        parts: &[include_str!("help/judge.txt"), CROSSINGS, LISTS, FITTINGS],
+    },
     Command { name: "make", takes: "one file: TEXT", parts: &[include_str!("help/make.txt")] },
     Command { name: "show", takes: "one file: SHEET", parts: &[include_str!("help/show.txt")] },
     Command { name: "read", takes: "one file: SHEET", parts: &[include_str!("help/read.txt"), FITTINGS] },

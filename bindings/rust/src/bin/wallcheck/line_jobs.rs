@@ -7,25 +7,52 @@ use crate::lists::{self, List, Shapes};
 use crate::shown;
 use crate::stop::Stop;
 use crate::words;
-use kressedach::Wall;
+use kressedach::{Crossing, Refusal, Start, Wall};
+
+/// Where lines start, and their crossings: the files and what they list. Lines that all start in air need no file of starts.
+pub struct Lines<'a> {
+    starts: (Option<Source<'a>>, List<'a, Start>),
+    crossings: (Source<'a>, List<'a, Crossing>),
+}
+
+impl<'a> Lines<'a> {
+    /// Of files and their texts.
+    pub fn of(names: &[&str], starts: Option<(Source<'a>, &'a str)>, crossings: (Source<'a>, &'a str)) -> Result<Lines<'a>, Stop> {
+        let shapes = Shapes::of(names);
+        let starting = match starts {
+            Some((starts, text)) => lists::starts(text, &shapes).map_err(|wrong| starts.wrong(wrong))?,
+            None => List::none(""),
+        };
+        let list = lists::crossings(crossings.1, &shapes).map_err(|wrong| crossings.0.wrong(wrong))?;
+        Ok(Lines { starts: (starts.map(|(starts, _)| starts), starting), crossings: (crossings.0, list) })
+    }
+
+    pub fn starts(&self) -> &[Start] {
+        &self.starts.1.entries
+    }
+
+    pub fn crossings(&self) -> &[Crossing] {
+        &self.crossings.1.entries
+    }
+
+    /// A refusal of the sheets, the starts or the crossings.
+    pub fn refused(&self, files: &Files, names: &[&str], refusal: Refusal) -> Stop {
+        match (refusal.number, &self.starts) {
+            (14, (Some(starts), starting)) => starts.refused(refusal, words::of_starts(names, starting)),
+            _ => files.refused_or(self.crossings.0, refusal, words::of_crossings(names, &self.crossings.1, refusal)),
+        }
+    }
+}
 
 pub fn walls(fittings: Option<Source>, starts: Option<Source>, sheet: Source, crossings: Source) -> Result<Vec<u8>, Stop> {
     one_stdin(&[fittings, starts, Some(sheet), Some(crossings)])?;
     let files = Files::of(fittings, sheet)?;
     let text = crossings.text()?;
     let names = files.names()?;
-    let shapes = Shapes::of(&names);
     let starts_text = starts.map_or(Ok(String::new()), Source::text)?;
-    let starting = match starts {
-        Some(starts) => lists::starts(&starts_text, &shapes).map_err(|wrong| starts.wrong(wrong))?,
-        None => List::none(""),
-    };
-    let list = lists::crossings(&text, &shapes).map_err(|wrong| crossings.wrong(wrong))?;
-    let walls =
-        kressedach::classify_from(files.sheets(), &starting.entries, &list.entries).map_err(|refusal| match (refusal.number, starts) {
-            (14, Some(starts)) => starts.refused(refusal, words::of_starts(&names, &starting)),
-            _ => files.refused_or(crossings, refusal, words::of_crossings(&names, &list, refusal)),
-        })?;
+    let lines = Lines::of(&names, starts.map(|starts| (starts, &starts_text[..])), (crossings, &text))?;
+    let walls = kressedach::classify_from(files.sheets(), lines.starts(), lines.crossings())
+        .map_err(|refusal| lines.refused(&files, &names, refusal))?;
     Ok(walls_of(&walls, &names))
 }
 

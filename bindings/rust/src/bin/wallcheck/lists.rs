@@ -137,12 +137,12 @@ fn due(columns: &[&str]) -> String {
     format!("{} or {}", with("name"), with("shape"))
 }
 
-fn number<T: FromStr>(text: &str, column: &str) -> Result<T, String> {
+pub fn number<T: FromStr>(text: &str, column: &str) -> Result<T, String> {
     text.parse().map_err(|_| {
         let range = match column {
             "foundry" => "0 to 255",
             "line" => "0 to 4294967295",
-            "position" => "-2147483648 to 2147483647",
+            "position" | "start" | "end" => "-2147483648 to 2147483647",
             _ => "0 to 65535",
         };
         format!("{column} {} is no whole number from {range}", shown::quoted(text))

@@ -5,6 +5,7 @@ mod csv;
 mod drawing;
 mod files;
 mod help;
+mod judging;
 mod line_jobs;
 mod lists;
 mod page;
@@ -68,6 +69,10 @@ fn told(fittings: Option<Source>, args: &[&[u8]]) -> Result<String, Stop> {
         [b"both", sheet, first, second, order] => {
             toggle_jobs::both(fittings, Source(sheet), [Source(first), Source(second)], Source(order))
         }
+        [b"judge", b"--starts", starts, sheet, crossings, theirs] => {
+            judging::judge(fittings, Some(Source(starts)), Source(sheet), Source(crossings), Source(theirs))
+        }
+        [b"judge", sheet, crossings, theirs] => judging::judge(fittings, None, Source(sheet), Source(crossings), Source(theirs)),
         [] => Err(Stop::Usage("a command is missing".into())),
         [word, ..] => Err(help::named(word).map_or_else(|| no_such("command", word), help::Command::usage)),
     }

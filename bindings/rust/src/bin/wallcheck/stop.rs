@@ -17,6 +17,8 @@ pub enum Stop {
     Refused(Refused),
     /// Of two foundries: the rows of the one that is not refused, and each that is.
     Foundries(String, Vec<(usize, Refused)>),
+    /// Another ray caster's list is not right: where, and what was expected there. That is an answer, and goes to standard output.
+    Wrong(String),
     Usage(String),
     /// A file that cannot be read or is not what its command takes, or standard output that cannot be written.
     File(String, String),
@@ -46,6 +48,10 @@ impl Stop {
                 let _ = out(text.as_bytes());
                 (1, refused.iter().map(|(foundry, refused)| refused.words(&format!("foundry {foundry}: "))).collect())
             }
+            Stop::Wrong(text) => match out(text.as_bytes()) {
+                Ok(()) => (3, String::new()),
+                Err(stop) => return stop.report(command),
+            },
             Stop::Usage(what) => (2, format!("wallcheck: {what}\nTry 'wallcheck {help}'.\n")),
             Stop::File(name, what) => (2, format!("wallcheck: {name}: {what}\n")),
             Stop::Gone => (2, String::new()),

@@ -1,0 +1,63 @@
+-- What the promise of judging settles: two answers that meet it are equal, and it refuses exactly when the rules say.
+use Prim.Native.Nat.{ℕ}
+use mathlib.Core.Path.{_≡_, refl, sym, ap, _∙_}
+use lib.ListN.{length}
+use Rattle.outcome.specs.Outcome.{Outcome, given, refused, unfit, _>>_}
+use Rattle.outcome.specs.Numbered.{Numbered}
+use Rattle.outcome.proofs.Questions.{bind-given}
+use Rattle.outcome.proofs.NumberedLaws.{bind-numbered}
+use Rattle.outcome.proofs.Known.{known-by}
+use Rattle.sheet.specs.Sheet.{Sheets, Sheet}
+use Rattle.accepting.specs.Accepting.{accepted}
+use Rattle.accepting.proofs.Accepted.{accepted-numbered}
+use Rattle.lines.specs.Lines.{LineLists}
+use Rattle.line_judging.specs.Judging.{TheirLists, Opinion, right, wrongAt, judgement}
+use Rattle.line_judging.proofs.Numbered.{judgement-numbered}
+use Rattle.job_judge.specs.Judging.{judging}
+use Rattle.job_judge.specs.Judged.{judgedOf}
+use Rattle.job_judge.specs.declared.JudgeAnswer.{JudgeAnswer}
+use Rattle.job_judge.specs.declared.JudgeAnswer.the-variants as answer
+
+judgedOf-same : (r q : JudgeAnswer) → judgedOf r ≡ judgedOf q → r ≡ q
+judgedOf-same = known-by judgedOf back same
+  where
+    back : Outcome Opinion → JudgeAnswer
+    back (given right) = answer.Right
+    back (given (wrongAt index)) = answer.Wrong index
+    back (refused number place) = answer.Refused number place
+    back (unfit number place) = answer.Unfit number place
+
+    same : (r : JudgeAnswer) → back (judgedOf r) ≡ r
+    same answer.Right = refl
+    same (answer.Wrong index) = refl
+    same (answer.Refused number place) = refl
+    same (answer.Unfit number place) = refl
+
+module _ (o : Outcome Opinion) where
+  pub judge-unique : (r q : JudgeAnswer) → judgedOf r ≡ o → judgedOf q ≡ o → r ≡ q
+  judge-unique r q a b = judgedOf-same r q (a ∙ sym b)
+
+  module _ (number place : ℕ) (r : JudgeAnswer) (says : judgedOf r ≡ o) where
+    pub judge-refusal : r ≡ answer.Refused number place → o ≡ refused number place
+    judge-refusal is = sym says ∙ ap judgedOf is
+
+    pub judge-refuses : o ≡ refused number place → r ≡ answer.Refused number place
+    judge-refuses is = judgedOf-same r (answer.Refused number place) (says ∙ is)
+
+    -- and of the fittings sheet
+    pub judge-unfit : r ≡ answer.Unfit number place → o ≡ unfit number place
+    judge-unfit is = sym says ∙ ap judgedOf is
+
+    pub judge-unfits : o ≡ unfit number place → r ≡ answer.Unfit number place
+    judge-unfits is = judgedOf-same r (answer.Unfit number place) (says ∙ is)
+
+-- No refusal has number 0.
+pub judge-numbered : (s : Sheets) (c : LineLists) (t : TheirLists) → Numbered (judging s c t)
+unfolding judging
+judge-numbered s c t = bind-numbered (accepted s) _ (accepted-numbered s) (λ (x : Sheet). judgement-numbered (x .formula) (length (x .names)) c t)
+
+-- A job that answers has accepted the sheet, and it is against the walls of the sheet's formula that their list is judged.
+pub judged-accepted : (s : Sheets) (c : LineLists) (t : TheirLists) (o : Opinion) → judging s c t ≡ given o
+    → (x : Sheet) × (accepted s ≡ given x) × (judgement (x .formula) (length (x .names)) c t ≡ given o)
+unfolding judging
+judged-accepted s c t o is = bind-given (accepted s) (λ (y : Sheet). judgement (y .formula) (length (y .names)) c t) o is

@@ -1,0 +1,182 @@
+-- A block of the pass: what it is made of, its room, and the pass after it.
+use Prim.Native.Nat.{ℕ, suc, _+_, _-_, _*_, _<_, _≤_}
+use native.Mathlib.Decide.{decLt}
+use native.Mathlib.Nat.{mul-le-mul-right}
+use native.Mathlib.Omega.{arith}
+use mathlib.Core.Path.{_≡_, refl, sym, ap, _∙_, fun-ext, subst}
+use mathlib.Core.Bool.{Bool, true, false, not, true≢false, false≢true}
+use mathlib.Core.List.{List, _++_}
+use mathlib.Core.Option.{Option, none, some}
+use borrow.Author.Tests.{ne-eqb, lt-ltb, le-ltb}
+use lib.IntN.{ℤ}
+use lib.ListN.{length, getD, take}
+use Rattle.formula.specs.Formula.{Formula, inside, postfix, Over}
+use Rattle.formula.specs.States.{State, outside}
+use Rattle.lines.specs.Lines.{LineLists, lineLists, startState, Wall, Edge}
+use Rattle.lines.specs.Columns.{Column, turned}
+use Rattle.lines.specs.Marked.{Marked, stateAfter, openAfter, wallsAfter, Passed, Lit}
+use Rattle.lines.specs.Steps.{groupEndsAt}
+use Rattle.lines.proofs.BlockWalls.{state-more}
+use Rattle.lines.proofs.PassLaws.{pass-block}
+use Rattle.line_strips.specs.Strips.{wide, columns, cell, on, Plan, planned, turnsAt, lastAt, Filled}
+use Rattle.line_strips.specs.Steps.{Turnable, Fillable, Entered}
+use Rattle.line_words.specs.Stretches.{StandFor}
+use Rattle.line_words.specs.declared.Arranged.{Arranged}
+use Rattle.line_columns.specs.Planned.{leftAt, heldAt, BlockPlanned}
+use Rattle.line_columns.specs.Steps.{Plannable}
+use Rattle.line_sweeping.specs.Events.{endsIn, eventsAfter}
+use Rattle.line_sweeping.specs.Steps.{ColumnThere, Listed}
+use Rattle.line_sweeping.proofs.ListedLaws.{EventOf, listed-each}
+use Rattle.line_shapes.specs.Groups.{GroupEnd}
+use Rattle.line_shapes.proofs.GroupLaws.{group-end}
+use Rattle.line_turns.specs.Turns.{Held, held, columnOf, eventLine, eventEdge, wallsBy, openBy, isOpen}
+use Rattle.line_turns.specs.Steps.{ColumnHeld, EventHeld}
+use Rattle.line_blocks.specs.Blocks.{RowMade, CanSweep, Passing}
+use Rattle.line_blocks.proofs.EventWalls.{events-walls, events-open}
+use Rattle.line_blocks.proofs.HeldLaws.{held-last, held-ends, held-told, held-leaving}
+
+module _ (names : ℕ) (rows ls : List ℕ) (ps : List ℤ) (ss : List ℕ) (cols starts lasts : List ℕ) (i q n i′ q′ : ℕ) where
+  abbrev c : LineLists
+  c = lineLists rows ls ps ss
+
+  abbrev p : Plan
+  p = planned cols starts lasts
+
+  abbrev at : ℕ → Marked
+  at j = heldAt names c i p j
+
+  module _ (ok : Plannable names c) (few : names ≤ 256) (block : BlockPlanned names c i q p n i′ q′) where
+    -- ---- what the fill and the sweep ask
+
+    legible-column : (j : ℕ) → j < n → Turnable names rows ss cols starts i j
+    legible-column j h =
+        let w = block .within j h in
+        record {
+          row = λ e. omega (arith, ok .whole, mul-le-mul-right names (w .row e), suc-mul (getD starts j 0));
+          bytes = λ e s k. ok .bytes (getD starts j 0 * names + s);
+          there = λ e. omega (arith, w .crossing e, ok .ascending .shapes);
+          named = λ e. ok .ascending .named (i + getD cols j 0) (w .crossing e);
+        }
+      where
+        suc-mul : (x : ℕ) → suc x * names ≡ x * names + names
+        suc-mul x = omega arith
+
+    pub block-fillable : (words : List ℕ) → 1 ≤ n → 256 * wide ≤ length words → Fillable names rows ss cols starts lasts i n words
+    block-fillable words one room =
+        record {
+          legible = record { few = few; colsLong = block .sized .cols; startsLong = block .sized .starts; most = block .narrow; column = legible-column };
+          lastsLong = block .sized .lasts;
+          some = one;
+          room = room;
+        }
+
+    there : (j : ℕ) → j < n → ColumnThere ls ps i cols j
+    there j h = record { narrow = omega (arith, block .narrow); long = ok .ascending .positions; crossing = block .within j h .crossing; sized = block .sized .cols }
+
+    pub block-can-sweep : (events : List ℕ) → length events ≡ 2 * columns → CanSweep ls ps i n cols lasts events
+    block-can-sweep events h = record { narrow = block .narrow; there = there; lasts-sized = block .sized .lasts; events-sized = h }
+
+    -- ---- the events
+
+    abbrev b : Held
+    b = held ls ps ss i cols
+
+    column-held : (j : ℕ) → j < n → ColumnHeld b j
+    column-held j h = record { narrow = omega (arith, block .narrow); sized = block .sized .cols; inside = block .within j h .crossing }
+
+    ends-so : (e : ℕ) → endsIn ls ps i cols e ≡ true → (getD cols e 0 ≡ 65535 → ⊥) → groupEndsAt ls ps (i + getD cols e 0) ≡ true
+    unfolding endsIn
+    ends-so e h m = rw (ne-eqb (getD cols e 0) 65535 m) at h
+
+    event-held : (e : ℕ) → EventOf (endsIn ls ps i cols) n e → EventHeld b e
+    event-held e o = record { column = by (decLt e columns); change = λ h. record { column = column-held e (o .change h .0); group = group (o .change h) } }
+      where
+        by : Dec (e < columns) → ColumnHeld b (columnOf e)
+        by (yes h) = rw (lt-ltb e columns h) (column-held e (o .change h .0))
+        by (no h) = rw (le-ltb e columns (omega arith)) (column-held (e - columns) (omega (arith, o .end (omega arith))))
+
+        group : (e < n) × (endsIn ls ps i cols e ≡ true) → (getD cols e 0 ≡ 65535 → ⊥) → GroupEnd ls ps ss (i + getD cols e 0)
+        group k not-start = group-end names rows ls ps ss (i + getD cols e 0) (ok .ascending) (block .within e (k .0) .crossing not-start) (ends-so e (k .1) not-start)
+
+    module _ (row events : List ℕ) (m : ℕ) (metal : Bool) (listed : Listed (endsIn ls ps i cols) (cell row) (cell lasts) metal n events m) where
+      pub block-few : m ≤ 2 * columns
+      block-few = omega (arith, listed .few, block .narrow)
+
+      pub block-each : (k : ℕ) → k < m → EventHeld b (getD events k 0)
+      block-each k h = event-held (getD events k 0) (listed-each (endsIn ls ps i cols) (cell row) (cell lasts) metal n events m (block .narrow) listed k h)
+
+      abbrev start : ℕ → State
+      start = startState names rows
+
+      abbrev edge : ℕ → Edge
+      edge = eventEdge start b
+
+      abbrev line : ℕ → ℕ
+      line = eventLine b starts
+
+      module _ (from : Option Edge) (is-open : isOpen from ≡ metal) where
+        same-events : take m events ≡ eventsAfter (λ j. at j .ends) (cell row) (λ j. at j .last) (isOpen from) n
+        same-events =
+            listed .are
+            ∙ ap (λ (x : ℕ → Bool). eventsAfter x (cell row) (cell lasts) metal n) (fun-ext (λ j. sym (held-ends names rows ls ps ss i cols starts lasts j)))
+            ∙ ap (λ (x : ℕ → Bool). eventsAfter (λ j. at j .ends) (cell row) x metal n) (fun-ext (λ j. sym (held-last names rows ls ps ss i cols starts lasts j)))
+            ∙ ap (λ (x : Bool). eventsAfter (λ j. at j .ends) (cell row) (λ j. at j .last) x n) (sym is-open)
+
+        new-walls : wallsBy edge line from (take m events) ≡ wallsAfter at (cell row) from n
+        new-walls = ap (wallsBy edge line from) same-events ∙ events-walls edge line at (cell row) from n (λ j h. held-told names rows ls ps ss i cols starts lasts (cell row) j (omega (arith, block .narrow)))
+
+        new-open : openBy edge from (take m events) ≡ openAfter at (cell row) from n
+        new-open = ap (openBy edge from) same-events ∙ events-open edge line at (cell row) from n (λ j h. held-told names rows ls ps ss i cols starts lasts (cell row) j (omega (arith, block .narrow)))
+
+        -- ---- a formula's pass through the block
+        module _ (f : Formula) (over : Over names f) (stretches links : List ℕ) (arranged : Arranged) (stands : StandFor (postfix f) stretches links arranged) (goesOn : Bool) (words words′ : List ℕ)
+            (made : RowMade stretches links arranged names rows ss cols starts lasts i n goesOn words words′ row) (done : List Wall) (pass : Passing f names c i q goesOn words from done) (some : 1 ≤ n) where
+          abbrev state : State
+          state = pass .state
+
+          filled : Filled names (turnsAt names c i p) (lastAt p) state words′ n
+          filled = made .filled c state refl refl (pass .entered (omega (arith, block .enough)))
+
+          leaving-is : (j s : ℕ) → j < n → s < names → on words′ s j ≡ turned (at j .column .turns) (stateAfter at state j) s
+          leaving-is j s h k = filled .is j s h k ∙ ap (λ (u : State). u s) (sym (held-leaving names rows ls ps ss i cols starts lasts state j))
+
+          lit : Lit f state (leftAt names c i q) at (cell row) n
+          lit =
+              record {
+                enough = block .enough;
+                are = block .are;
+                lit = λ j h. made .root (postfix f) stands .is f (turned (at j .column .turns) (stateAfter at state j)) j (omega (arith, block .narrow)) refl over (λ s k. leaving-is j s h k);
+              }
+
+          beyond : Passed f names c (done ++ wallsAfter at (cell row) from n) (stateAfter at state n) (openAfter at (cell row) from n) (leftAt names c i′ q′)
+          beyond = subst (λ (xs : List Column). Passed f names c (done ++ wallsAfter at (cell row) from n) (stateAfter at state n) (openAfter at (cell row) from n) xs) (sym (block .left)) (pass-block f names c done state from (leftAt names c i q) (pass .passed) at (cell row) n lit)
+
+          entered-next : (onward : Bool) → onward ≡ not (lastAt p (columns - 1)) → 0 < length (leftAt names c i′ q′) → Entered names onward words′ (stateAfter at state n)
+          entered-next onward is left = by (lastAt p (columns - 1)) refl
+            where
+              full : n ≡ columns
+              full = go (decLt n columns)
+                where
+                  go : Dec (n < columns) → n ≡ columns
+                  go (yes h) = absurd (omega (arith, ap length (block .full h)))
+                  go (no h) = omega (arith, block .narrow)
+
+              last-is : stateAfter at state n ≡ elim (lastAt p (columns - 1)) [ true ↦ outside | false ↦ turned (at (columns - 1) .column .turns) (stateAfter at state (columns - 1)) ]
+              last-is = ap (stateAfter at state) full ∙ state-more at state (columns - 1) ∙ rw (held-last names rows ls ps ss i cols starts lasts (columns - 1))
+
+              by : (t : Bool) → lastAt p (columns - 1) ≡ t → Entered names onward words′ (stateAfter at state n)
+              by true e =
+                  let now-is : stateAfter at state n ≡ outside = rw e at last-is in
+                  record {
+                    kept = λ o. absurd (false≢true (sym (is ∙ ap not e) ∙ o));
+                    none = λ o s h. ap (λ (u : State). u s) now-is;
+                  }
+              by false e =
+                  let now-is : stateAfter at state n ≡ turned (at (columns - 1) .column .turns) (stateAfter at state (columns - 1)) = rw e at last-is in
+                  record {
+                    kept = λ o s h. leaving-is (columns - 1) s (omega (arith, full)) h ∙ ap (λ (u : State). u s) (sym now-is);
+                    none = λ o. absurd (true≢false (sym (is ∙ ap not e) ∙ o));
+                  }
+
+          pub block-next : (onward : Bool) → onward ≡ not (lastAt p (columns - 1)) → Passing f names c i′ q′ onward words′ (openBy edge from (take m events)) (done ++ wallsBy edge line from (take m events))
+          block-next onward is = record { state = stateAfter at state n; passed = rw (new-open, new-walls) beyond; entered = entered-next onward is }

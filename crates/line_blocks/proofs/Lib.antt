@@ -1,0 +1,6 @@
+mod EventWalls
+mod HeldLaws
+mod RowLaws
+mod BlockLaws
+mod PassBlocks
+pub mod PassLaws

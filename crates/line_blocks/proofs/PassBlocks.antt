@@ -1,0 +1,98 @@
+-- The pass, a block on.
+use Prim.Native.Nat.{ℕ, _-_, _*_, _/_, _%_, _^_, _<_, _≤_}
+use native.Mathlib.Decide.{decLt}
+use native.Mathlib.Omega.{arith}
+use mathlib.Core.Path.{_≡_, sym, ap, _∙_}
+use mathlib.Core.Bool.{Bool, true, false, not}
+use mathlib.Core.List.{List}
+use borrow.Author.Tests.{eq-eqb, ne-eqb}
+use lib.Dec.{eqb}
+use lib.IntN.{ℤ}
+use lib.ListN.{length, getD, length-drop}
+use Rattle.lines.specs.Lines.{LineLists, lineLists, rowCount}
+use Rattle.line_strips.specs.Strips.{columns, cell, planned}
+use Rattle.line_strips.specs.Steps.{Fillable}
+use Rattle.line_strips.proofs.Digits.{shift-bit}
+use Rattle.line_words.specs.Steps.{Evaluable}
+use Rattle.line_words.specs.declared.Arranged.{Arranged}
+use Rattle.line_columns.specs.Planned.{BlockPlanned}
+use Rattle.line_columns.specs.Steps.{Plannable, CanPlan}
+use Rattle.line_columns.specs.declared.Cursor.{Cursor}
+use Rattle.line_columns.proofs.CursorLaws.{judged-plannable}
+use Rattle.line_blocks.specs.Blocks.{CanSweep, EventsMade, Sized, leftOf, Going, BlockAsk, PlannedTo, BlockMade}
+use Rattle.line_blocks.specs.declared.Pass.{Pass}
+use Rattle.line_blocks.proofs.BlockLaws.{block-fillable, block-can-sweep, block-few, block-each, block-next}
+
+-- ---- the last column
+
+cell-last : (lasts : List ℕ) → eqb (getD lasts 7 0 / 2 ^ 63 % 2) 1 ≡ cell lasts (columns - 1)
+unfolding cell
+cell-last lasts = shift-bit (getD lasts 7 0) 63
+
+pub past-no : (lasts : List ℕ) → getD lasts 7 0 / 2 ^ 63 % 2 ≡ 1 → false ≡ not (cell lasts (columns - 1))
+past-no lasts e = ap not (sym (eq-eqb (getD lasts 7 0 / 2 ^ 63 % 2) 1 e) ∙ cell-last lasts)
+
+pub past-yes : (lasts : List ℕ) → (getD lasts 7 0 / 2 ^ 63 % 2 ≡ 1 → ⊥) → true ≡ not (cell lasts (columns - 1))
+past-yes lasts e = ap not (sym (ne-eqb (getD lasts 7 0 / 2 ^ 63 % 2) 1 e) ∙ cell-last lasts)
+
+plannable : {stretches links : List ℕ} {arranged : Arranged} {names : ℕ} {c : LineLists} {words : List ℕ} {p : Pass} → Going stretches links arranged names c words p → Plannable names c
+plannable {names = names} {c = c} g = judged-plannable names c (g .taken .some) (g .taken .few) (g .taken .judged-so)
+
+module _ {stretches links : List ℕ} {arranged : Arranged} {names : ℕ} {rows ls : List ℕ} {ps : List ℤ} {ss : List ℕ} {words : List ℕ} {p : Pass} (ask : BlockAsk stretches links arranged names (lineLists rows ls ps ss) words p) where
+  pub ask-can-plan : {cols starts lasts events : List ℕ} (count : ℕ) → Sized cols starts lasts events → count ≡ rowCount names rows → CanPlan names rows ls count (planned cols starts lasts) (p .cursor .i) (p .cursor .q)
+  ask-can-plan count s is =
+      let ok = plannable (ask .going) in
+      record {
+        whole = record { some = ok .some; are = is; whole = ok .whole ∙ ap (λ (k : ℕ). k * names) (sym is); bytes = ok .bytes };
+        few = omega (arith, ok .few, is);
+        sized = s .plan;
+        crossing = ask .going .cursor .crossing;
+        row = omega (arith, ask .going .cursor .row, is);
+      }
+
+  pub ask-evaluable : Evaluable stretches links words arranged
+  ask-evaluable = ask .going .evaluable
+
+  module _ {cols starts lasts : List ℕ} {next : Cursor} (plan : PlannedTo names rows ls cols starts lasts p next) where
+    block-is : BlockPlanned names (lineLists rows ls ps ss) (p .cursor .i) (p .cursor .q) (planned cols starts lasts) (next .c) (next .i) (next .q)
+    block-is = plan .block ps ss (plannable (ask .going)) (ask .going .cursor)
+
+    has-one : 1 ≤ next .c
+    has-one = by (decLt (next .c) columns)
+      where
+        by : Dec (next .c < columns) → 1 ≤ next .c
+        by (yes h) = omega (arith, ask .left, ap length (sym (block-is .left) ∙ block-is .full h), length-drop (next .c) (leftOf names (lineLists rows ls ps ss) p))
+        by (no h) = omega arith
+
+    pub ask-fillable : Fillable names rows ss cols starts lasts (p .cursor .i) (next .c) words
+    ask-fillable = block-fillable names rows ls ps ss cols starts lasts (p .cursor .i) (p .cursor .q) (next .c) (next .i) (next .q) (plannable (ask .going)) (ask .going .taken .few) block-is words has-one (omega (arith, ask .going .evaluable .room))
+
+    pub ask-can-sweep : {cols₀ starts₀ lasts₀ events : List ℕ} → Sized cols₀ starts₀ lasts₀ events → CanSweep ls ps (p .cursor .i) (next .c) cols lasts events
+    ask-can-sweep {events = events} s = block-can-sweep names rows ls ps ss cols starts lasts (p .cursor .i) (p .cursor .q) (next .c) (next .i) (next .q) (plannable (ask .going)) (ask .going .taken .few) block-is events (s .events-sized)
+
+    module _ {metal : Bool} {words′ events : List ℕ} {m : ℕ} (made : EventsMade stretches links arranged names rows ls ps ss cols starts lasts (p .cursor .i) (next .c) (p .onward) metal words words′ events m) where
+      pub block-made : {onward : Bool} → onward ≡ not (cell lasts (columns - 1))
+          → BlockMade stretches links arranged names (lineLists rows ls ps ss) words p metal words′ cols starts lasts events (record { next = record { cursor = next; onward = onward }; events = m })
+      block-made {onward} is =
+          let g = ask .going in
+          record {
+            going =
+                record {
+                  evaluable = record { workable = g .evaluable .workable; room = omega (arith, g .evaluable .room, made .made .long) };
+                  standing = g .standing;
+                  taken = g .taken;
+                  cursor = plan .next ps ss (plannable g) (g .cursor);
+                };
+            long = made .made .long;
+            sized = record { plan = plan .sized; events-sized = made .listed .sized };
+            fewer = omega (arith, ap length (block-is .left), length-drop (next .c) (leftOf names (lineLists rows ls ps ss) p), has-one, ask .left);
+            few =
+                block-few names rows ls ps ss cols starts lasts (p .cursor .i) (p .cursor .q) (next .c) (next .i) (next .q) (plannable g) (g .taken .few) block-is
+                (made .row) events m metal (made .listed);
+            each =
+                block-each names rows ls ps ss cols starts lasts (p .cursor .i) (p .cursor .q) (next .c) (next .i) (next .q) (plannable g) (g .taken .few) block-is
+                (made .row) events m metal (made .listed);
+            passes = λ f st o from done is-open pass.
+                block-next names rows ls ps ss cols starts lasts (p .cursor .i) (p .cursor .q) (next .c) (next .i) (next .q) (plannable g) (g .taken .few) block-is
+                (made .row) events m metal (made .listed) from is-open f o stretches links arranged st (p .onward) words words′ (made .made) done pass has-one onward is;
+          }

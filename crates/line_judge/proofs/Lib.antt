@@ -1,0 +1,4 @@
+mod CompareLaws
+mod WeighLaws
+mod StepLaws
+mod JudgeLaws

@@ -1,0 +1,2 @@
+mod SpotLaws
+pub mod TurnLaws
