@@ -95,6 +95,30 @@ static void run_for_two(void) {
     expect(r.first.number == KRESSEDACH_LENGTHS_DIFFER && r.second.number == KRESSEDACH_LENGTHS_DIFFER, "a turn is missing");
 }
 
+static void run_with_edits(void) {
+    static const uint16_t toggles[] = {0, 1, 1}, positions[] = {2, 2}, codes[] = {0xFFF0, 0xFFF1};
+    static const uint64_t moments[] = {2, 3};
+    uint8_t roots[LENGTH(toggles)], labels[KRESSEDACH_MOST_NODES];
+    uint32_t counts[LENGTH(toggles)], edit_counts[LENGTH(moments)] = {9, 9};
+    struct kressedach_run_report r = kressedach_run_edited(ALONE(sheet), LIST(toggles), LIST(moments), LIST(positions), LIST(codes),
+                                                           LIST(roots), LIST(counts), LIST(labels), LIST(edit_counts));
+    printf("run with edits: roots %u %u %u, then %u\n", roots[0], roots[1], roots[2], labels[2]);
+    expect(r.number == KRESSEDACH_GIVEN && r.nodes == 3 && edit_counts[0] == 1 && edit_counts[1] == 1, "the edits are made");
+    expect(roots[0] == 1 && roots[1] == 0 && roots[2] == 1, "in the block, in the bore, and out of it when that is metal too");
+    expect(labels[0] == 1 && labels[1] == 0 && labels[2] == 0, "an intersection after the last toggle");
+
+    edit_counts[0] = 9;
+    r = kressedach_run_edited(ALONE(sheet), LIST(toggles), LIST(moments), LIST(codes), LIST(codes), LIST(roots), LIST(counts), LIST(labels),
+                              LIST(edit_counts));
+    expect(r.number == KRESSEDACH_EDIT_WRONG && r.place == 0 && r.nodes == 0 && edit_counts[0] == 9, "no such position");
+    r = kressedach_run_edited(ALONE(sheet), LIST(toggles), moments, 1, LIST(positions), LIST(codes), LIST(roots), LIST(counts), LIST(labels),
+                              LIST(edit_counts));
+    expect(r.number == KRESSEDACH_LENGTHS_DIFFER && r.place == 0, "a moment is missing");
+    r = kressedach_run_edited(ALONE(sheet), LIST(toggles), LIST(moments), LIST(positions), LIST(codes), LIST(roots), LIST(counts),
+                              LIST(labels), edit_counts, 1);
+    expect(r.number == KRESSEDACH_LIST_TOO_SHORT && r.place == 2, "room for the counts of both");
+}
+
 /* Room for the walls of two lines with four crossings. */
 enum { ROOM = 4 / 2 + 2 };
 static uint32_t wall_lines[ROOM];
@@ -271,6 +295,7 @@ int main(void) {
     build_tree();
     run_toggles();
     run_for_two();
+    run_with_edits();
     classify_lines();
     classify_cut();
     judge_theirs();

@@ -22,7 +22,7 @@
  *
  *  - A list is a pointer, then its number of entries (not of bytes). The entries are there for the whole call. Those of a list that is
  *    read are initialised; a list that is written may hold anything, and need not be cleared.
- *  - The pointer is aligned for its entry: uint16_t to 2, uint32_t and int32_t to 4, size_t and double to 8. Only with no entries may it be NULL.
+ *  - The pointer is aligned for its entry: uint16_t to 2, uint32_t and int32_t to 4, uint64_t, size_t and double to 8. Only with no entries may it be NULL.
  *  - A list that is written (it has no `const`) overlaps no other list of the call. Lists that are only read may overlap.
  *  - No other thread writes a list of the call, or reads one that is written, until the call is over.
  *  - A list holds at most PTRDIFF_MAX bytes, as every C object does.
@@ -61,7 +61,8 @@ enum kressedach_number {
     KRESSEDACH_SHAPE_WRONG = 16,   /* 256 for more than 256 shapes, 65535 for the line, else the first shape at fault */
     KRESSEDACH_FITTINGS_NAME = 17, /* a customer's name equal to a fitting's: the tag's offset */
     KRESSEDACH_BALL_WRONG = 18,    /* 256 for more than 256 balls, else the first ball with a number out of its range */
-    KRESSEDACH_OUT_OF_USE = 19     /* the offset in the customer's sheet of its first exclusive union, 0xFFF3: it does not move to edition 2 */
+    KRESSEDACH_OUT_OF_USE = 19,    /* the offset in the customer's sheet of its first exclusive union, 0xFFF3: it does not move to edition 2 */
+    KRESSEDACH_EDIT_WRONG = 20     /* the index: a node that is no operation, a code that is none, a moment that falls or exceeds the toggles */
 };
 
 /* Which sheet the place of a refusal is in. */
@@ -241,6 +242,32 @@ struct kressedach_both_report kressedach_run_both(bool fitted,
                                                   uint8_t *second_roots, size_t second_roots_length,
                                                   uint32_t *second_counts, size_t second_counts_length,
                                                   uint8_t *second_labels, size_t second_labels_length);
+
+/* Runs toggles as kressedach_run does, while operations of the formula become others, without a new build. An edit stands at one index of
+ * three lists: after how many toggles (moments), which operation by its postfix position from 0 (positions, under either edition), and the
+ * new operation's code. Edits with equal moments act in list order, after the root of the toggle before them is given. Each root and label
+ * is that of a build of the sheet as edited by then, with the same shapes inside; the labels are those after the last edit. An edit's count
+ * is the number of labels that it reworks, its own node's included.
+ *
+ * Refusals: 1 to 7 and 17, 8, 13 for moments, positions and codes of unequal length, 10, 20 edit by edit, then 9 for roots, counts, labels,
+ * edit_counts in this order.
+ *
+ * The caller keeps: fittings_length bytes at fittings, sheet_length bytes at sheet, toggles_length entries at toggles; moments_length,
+ * positions_length and codes_length entries at moments, positions and codes; roots_length, counts_length, labels_length and
+ * edit_counts_length entries at roots, counts, labels and edit_counts. The last four are written: none of them overlaps another list.
+ * Roots and counts need an entry a toggle, labels one a node, edit_counts one an edit.
+ */
+struct kressedach_run_report kressedach_run_edited(bool fitted,
+                                                   const uint8_t *fittings, size_t fittings_length,
+                                                   const uint8_t *sheet, size_t sheet_length,
+                                                   const uint16_t *toggles, size_t toggles_length,
+                                                   const uint64_t *moments, size_t moments_length,
+                                                   const uint16_t *positions, size_t positions_length,
+                                                   const uint16_t *codes, size_t codes_length,
+                                                   uint8_t *roots, size_t roots_length,
+                                                   uint32_t *counts, size_t counts_length,
+                                                   uint8_t *labels, size_t labels_length,
+                                                   uint32_t *edit_counts, size_t edit_counts_length);
 
 struct kressedach_classify_report {
     uint8_t number;

@@ -195,6 +195,30 @@ extern "C" {
         second_labels_length: usize,
     ) -> BothReport;
 
+    pub fn kressedach_run_edited(
+        fitted: bool,
+        fittings: *const u8,
+        fittings_length: usize,
+        sheet: *const u8,
+        sheet_length: usize,
+        toggles: *const u16,
+        toggles_length: usize,
+        moments: *const u64,
+        moments_length: usize,
+        positions: *const u16,
+        positions_length: usize,
+        codes: *const u16,
+        codes_length: usize,
+        roots: *mut u8,
+        roots_length: usize,
+        counts: *mut u32,
+        counts_length: usize,
+        labels: *mut u8,
+        labels_length: usize,
+        edit_counts: *mut u32,
+        edit_counts_length: usize,
+    ) -> RunReport;
+
     pub fn kressedach_classify(
         fitted: bool,
         fittings: *const u8,

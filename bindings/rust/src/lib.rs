@@ -2,6 +2,7 @@
 #![warn(missing_docs)]
 
 mod cross;
+mod edits;
 mod encode;
 mod ffi;
 mod formula;
@@ -10,6 +11,7 @@ mod lines;
 mod refusal;
 
 pub use cross::{cross, cross_balls, cross_balls_into, cross_into, Axis, Ball, Counts, Crossed, LineLists, Probe, Shape, BOX};
+pub use edits::{run_edited, run_edited_into, Edit, EditLists, Edited};
 pub use encode::{encode, encode_beside, encode_fittings, formula, read_fittings, Edition};
 pub use formula::{Formula, Operation};
 pub use judging::{judge, judge_lists, Entry, Opinion, TheirLists};

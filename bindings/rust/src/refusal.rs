@@ -22,11 +22,11 @@ pub enum Which {
 /// ```
 #[derive(Debug, Clone, Copy, PartialEq, Eq, Hash)]
 pub struct Refusal {
-    /// The reason, 1 to 11 or 13 to 19; 12 is given no more.
+    /// The reason, 1 to 11 or 13 to 20; 12 is given no more.
     pub number: u8,
     /// The sheet that the place is in, for 1 to 7 and 17.
     pub sheet: Option<Which>,
-    /// Where: a byte of that sheet for 1 to 7 and 17, the length needed for 9, an entry of the list for 10, 11 and 15, 0 for 8,
+    /// Where: a byte of that sheet for 1 to 7 and 17, the length needed for 9, an entry of the list for 10, 11, 15 and 20, 0 for 8,
     /// 13 and 14. For 16 and 18 the first shape or ball at fault, or 256 for more than 256 of them; for 16 also 65535 for the line.
     /// For 19, which is of a move alone, a byte of the customer's sheet.
     pub place: usize,
@@ -64,6 +64,7 @@ impl Refusal {
             18 if self.place == 256 => "more than 256 balls",
             18 => "an offset, a radius or a centre out of its range",
             19 => "exclusive union, 0xFFF3, is out of use: a sheet that has it does not move to edition 2",
+            20 => "an edit of a node that is no operation, to a code that is none, or at a moment that falls or exceeds the toggles",
             _ => "unknown",
         }
     }
@@ -84,13 +85,14 @@ impl Refusal {
     /// assert_eq!(of(16, None, 65535).as_deref(), Some("for the line"));
     /// assert_eq!(of(18, None, 3).as_deref(), Some("at ball 3"));
     /// assert_eq!(of(19, None, 24).as_deref(), Some("at byte 24 of the customer's sheet"));
+    /// assert_eq!(of(20, None, 3).as_deref(), Some("at entry 3"));
     /// ```
     pub fn place_in_words(&self) -> Option<String> {
         match (self.sheet, self.number) {
             (Some(Which::Fittings), _) => Some(format!("at byte {} of the fittings sheet", self.place)),
             (Some(Which::Customers), _) | (None, 19) => Some(format!("at byte {} of the customer's sheet", self.place)),
             (None, 9) => Some(format!("for want of {} entries", self.place)),
-            (None, 10..=12 | 15) => Some(format!("at entry {}", self.place)),
+            (None, 10..=12 | 15 | 20) => Some(format!("at entry {}", self.place)),
             (None, 16) if self.place == 65535 => Some("for the line".into()),
             (None, 16) if self.place != 256 => Some(format!("at shape {}", self.place)),
             (None, 18) if self.place != 256 => Some(format!("at ball {}", self.place)),

@@ -88,7 +88,7 @@ fn the_sheets_are_made_of_the_texts() {
 
 #[test]
 fn the_commands_print_as_written() {
-    for (page, due) in [("README.md", 29), ("NEWCOMERS.md", 8)] {
+    for (page, due) in [("README.md", 30), ("NEWCOMERS.md", 8)] {
         let mut commands = 0;
         for (_, lines) in blocks(page, "console") {
             for said in format!("\n{}", lines.join("\n")).split("\n$ ").skip(1) {

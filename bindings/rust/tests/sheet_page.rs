@@ -35,7 +35,7 @@ fn the_table_of_refusals() {
     let numbers: Vec<u8> = rows.iter().map(|row| row.split('|').nth(1).unwrap().trim().parse().unwrap()).collect();
     assert!(numbers.iter().copied().eq(1..=20), "{numbers:?}");
     // what a refusal's number means is said in one way, but where its place decides
-    for (row, number) in rows.iter().zip(numbers).filter(|(_, number)| ![8, 13, 16, 17, 18, 19, 20].contains(number)) {
+    for (row, number) in rows.iter().zip(numbers).filter(|(_, number)| ![8, 13, 16, 17, 18, 19].contains(number)) {
         let meaning = Refusal { number, sheet: None, place: 0 }.meaning();
         assert!(row.contains(meaning), "{number}: {meaning}\n{row}");
     }
@@ -60,7 +60,8 @@ fn callers_find_the_page() {
     ] {
         assert!(text(page).contains("docs/SHEET.md"), "{page}");
     }
-    let sources = ["lib", "cross", "encode", "formula", "judging", "lines", "refusal"].map(|file| format!("bindings/rust/src/{file}.rs"));
+    let sources =
+        ["lib", "cross", "edits", "encode", "formula", "judging", "lines", "refusal"].map(|file| format!("bindings/rust/src/{file}.rs"));
     let pages =
         ["README.md", "examples/README.md", "examples/NEWCOMERS.md", "bindings/rust/README.md", "bindings/c/kressedach.h", "docs/SHEET.md"];
     for page in pages.map(String::from).iter().chain(&sources) {

@@ -49,6 +49,75 @@ fn two_foundries() {
     assert_eq!(both(&first, b"foundry\n256\n"), unreadable(range));
 }
 
+/// Toggles and edits in the order in which they act.
+#[test]
+fn operations_that_become_others() {
+    let path = file("edited.sheet", &worked());
+    let toggles = file("edited.csv", b"name\nA\nB\nC\n");
+    let run = |edits: &str| wallcheck(&["run", "--edits", "-", &path, &toggles], edits.as_bytes());
+    let heading = "toggle,shape,name,edit,position,operation,root,count\n";
+    let none = "0,0,A,,,,1,2\n1,1,B,,,,0,2\n2,2,C,,,,0,1\n";
+    assert_eq!(run("after,position,operation\n"), answered(&format!("{heading}{none}")));
+    // A less (B and C), from the second toggle on; then A or nothing of it
+    let rows = "0,0,A,,,,1,2\n,,,0,3,exclusive union,,1\n,,,1,3,intersection,,1\n1,1,B,,,,1,1\n2,2,C,,,,0,2\n,,,2,4,union,,2\n";
+    let due = answered(&format!("{heading}{rows}"));
+    assert_eq!(run("after,position,operation\n1,3,exclusive union\n1,3,intersection\n3,4,union\n"), due);
+    assert_eq!(run("code,after,position\n0xFFF3,1,3\n65521,1,3\n0xfff0,3,4\n"), due);
+    let labels = answered("node,label\n0,1\n1,1\n2,1\n3,1\n4,3\n5,1\n");
+    let edits = file("edits.csv", b"after,position,operation\n1,3,intersection\n3,4,union\n");
+    assert_eq!(wallcheck(&["run", "--labels", "--edits", &edits, &path, &toggles], b""), labels);
+    assert_eq!(wallcheck(&["run", "--edits", &edits, "--labels", &path, &toggles], b""), labels);
+}
+
+#[test]
+fn refused_edits() {
+    let last = file("unedited.sheet", &worked());
+    let first = file("unedited-first.sheet", &peer::make::sheet_first(&["A", "B", "C"], &[0xFFF2, 0, 0xFFF0, 1, 2]));
+    let toggles = file("unedited.csv", b"name\nA\nB\n");
+    let words = "an edit of a node that is no operation, to a code that is none, or at a moment that falls or exceeds the toggles";
+    for path in [&last, &first] {
+        let run = |edits: &str| wallcheck(&["run", "--edits", "-", path, &toggles], edits.as_bytes());
+        let wrong = |entry: usize, row: usize, about: &str| refused(&format!("refused 20 at entry {entry}: {words}\n  row {row}: {about}"));
+        let of = |rows: &str| run(&format!("after,position,operation\n{rows}"));
+        assert_eq!(of("0,1,union\n"), wrong(0, 2, "at position 1 stands B, which is no operation"));
+        assert_eq!(of("0,3,union\n\n0,5,union\n"), wrong(1, 4, "position 5, and the last one is 4"));
+        let four = "union, intersection, difference, exclusive union";
+        assert_eq!(of("0,3,Union\n"), wrong(0, 2, &format!("there is no operation \"Union\"; they are {four}")));
+        assert_eq!(run("after,position,code\n0,3,2\n"), wrong(0, 2, "code 0x0002 is no operation; they are 0xFFF0 to 0xFFF3"));
+        assert_eq!(of("1,3,union\n0,3,union\n"), wrong(1, 3, "after 0 comes after 1"));
+        assert_eq!(of("3,3,union\n"), wrong(0, 2, "after 3 toggles, and there are 2"));
+    }
+    let run = |edits: &str| wallcheck(&["run", "--edits", "-", &last, &toggles], edits.as_bytes());
+    let due = "after,position,operation or after,position,code";
+    assert_eq!(run(""), unreadable(&format!("standard input: is empty; its heading is {due}")));
+    for heading in ["after,position\n", "after,position,operation,code\n", "after,position,name\n"] {
+        let is = format!("and it is \"{}\"", heading.trim_end());
+        assert_eq!(run(heading), unreadable(&format!("standard input: row 1: the heading is to be {due}, {is}")));
+    }
+    let of = |row: &str| run(&format!("after,position,code\n{row}\n"));
+    let whole = |what: &str, most: &str| unreadable(&format!("standard input: row 2: {what} is no whole number from 0 to {most}"));
+    assert_eq!(of("-1,3,0xFFF0"), whole("after \"-1\"", "18446744073709551615"));
+    assert_eq!(of("0,65536,0xFFF0"), whole("position \"65536\"", "65535"));
+    assert_eq!(of("0,3,union"), unreadable("standard input: row 2: code \"union\" is none from 0 to 0xFFFF"));
+    assert_eq!(of("0,3"), unreadable("standard input: row 2: 2 fields, and the heading has 3"));
+    assert_eq!(wallcheck(&["run", "--edits", "-", &last, "-"], b"").0, Some(2));
+}
+
+/// Of sheet, toggles and edits it is the file at fault that is named.
+#[test]
+fn which_file_of_a_run_with_edits() {
+    let last = file("misedited.sheet", &worked());
+    let toggles = file("misedited.csv", b"name\nA\nB\n");
+    let (edits, bad) = (file("misedits.csv", b"after,position,code\n0,3,2\n"), file("misedited-bad.sheet", b"\x01"));
+    let stranger = "refused 10 at entry 0: a shape number that no name has\n  row 2: shape 3, and the last one is 2";
+    assert_eq!(wallcheck(&["run", "--edits", &edits, &last, "-"], b"shape\n3\n"), refused(stranger));
+    let soon = "refused 1 at byte 1 of the customer's sheet: the sheet ends too soon";
+    assert_eq!(wallcheck(&["run", "--edits", &edits, &bad, &toggles], b""), refused_of(&bad, soon));
+    let (status, out, said) = wallcheck(&["run", "--edits", &edits, &last, &toggles], b"");
+    assert!((status, &out[..]) == (Some(1), "") && said.starts_with(&format!("wallcheck: {edits}: refused 20 at entry 0: ")), "{said}");
+    assert!(said.ends_with("\n  row 2: code 0x0002 is no operation; they are 0xFFF0 to 0xFFF3\n"), "{said}");
+}
+
 #[test]
 fn the_shapes_at_a_walls_ends_are_quoted_as_csv_needs() {
     let path = file("quoted.sheet", &sheet(&["a,b", "\"", "C"], &[1, 0, 0xFFF2]));

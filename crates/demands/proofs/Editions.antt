@@ -9,6 +9,7 @@ use Rattle.accepting.proofs.Accepted.{accepted-given}
 use Rattle.lines.specs.Lines.{LineLists, AnswerLists}
 use Rattle.job_build.specs.Building.{building}
 use Rattle.job_run.specs.Running.{running}
+use Rattle.job_edit.specs.Editing.{Lists as EditLists, runningEdited}
 use Rattle.job_classify.specs.Classifying.{classifying}
 use Rattle.line_judging.specs.Judging.{TheirLists}
 use Rattle.job_judge.specs.Judging.{judging}
@@ -35,3 +36,8 @@ module _ (c : Sheets) (r : Sheet) (read : reading c ≡ given r) where
   pub judge-moved : (lines : LineLists) (theirs : TheirLists) → judging (movedIn c r) lines theirs ≡ judging c lines theirs
   unfolding judging
   judge-moved lines theirs = rw (moved-accepted, accepted-given c r read)
+
+  -- Positions of edits are postfix, whatever the edition.
+  pub edits-moved : (toggles moments positions codes : List ℕ) (lent : EditLists) → runningEdited (movedIn c r) toggles moments positions codes lent ≡ runningEdited c toggles moments positions codes lent
+  unfolding runningEdited
+  edits-moved toggles moments positions codes lent = rw (moved-accepted, accepted-given c r read)

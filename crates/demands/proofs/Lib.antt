@@ -3,3 +3,5 @@ pub mod Judgements
 pub mod Table
 pub mod Foundries
 pub mod Editions
+pub mod Edited
+pub mod EditCases

@@ -24,6 +24,9 @@ use Rattle.job_build.specs.Building.{DwarfTree, Summary, summary}
 use Rattle.job_build.specs.Built.{builtOf, Built}
 use Rattle.toggles.specs.Toggles.{Answers}
 use Rattle.job_run.specs.Ran.{ranOf, Ran}
+use Rattle.edit_run.specs.Edits.{Answers as EditAnswers}
+use Rattle.job_edit.specs.Editing.{Lists as EditLists}
+use Rattle.job_edit.specs.Edited.{Edited}
 use Rattle.job_both.specs.Shared.{Lists, Shared}
 use Rattle.job_both.specs.declared.BothAnswer.{BothAnswer}
 use Rattle.job_classify.specs.Classified.{classifiedOf, Classified}
@@ -40,7 +43,7 @@ use Rattle.job_judge.specs.declared.JudgeAnswer.the-variants as judge
 use Rattle.cross_cuts.specs.Cuts.{Cut}
 use Rattle.cross_answer.specs.Answer.{crossedOf, MadeLists, Crossed}
 use Rattle.cross_answer.specs.declared.CrossAnswer.{CrossAnswer}
-use Rattle.host.specs.Report.{sheetOf, readReport, nameReport, namesReport, moveReport, buildReport, runReport, classifyReport, judgeReport, crossReport, NamesReported, MoveReported, BuildReported, RunReported, BothReported, ClassifyReported, CrossReported}
+use Rattle.host.specs.Report.{sheetOf, readReport, nameReport, namesReport, moveReport, buildReport, runReport, classifyReport, judgeReport, crossReport, NamesReported, MoveReported, BuildReported, RunReported, EditReported, BothReported, ClassifyReported, CrossReported}
 use Rattle.host.specs.declared.CrossReport.{CrossReport}
 use Rattle.host.specs.declared.RunReport.{RunReport}
 
@@ -142,6 +145,9 @@ module _ {a : RunAnswer} where
 
   pub run-reported : {o : Outcome Answers} {rs cs ls rs′ cs′ ls′ : List ℕ} {r : RunReport} → Ran o rs cs ls a rs′ cs′ ls′ → r ≡ runReport (ranOf a) → RunReported o rs cs ls r rs′ cs′ ls′
   run-reported ran is = record { report = is ∙ ap runReport (ran .answer); lists = ran .lists }
+
+  pub edit-reported : {o : Outcome EditAnswers} {lent after : EditLists} {r : RunReport} → Edited o lent a after → r ≡ runReport (ranOf a) → EditReported o lent r after
+  edit-reported done is = record { report = is ∙ ap runReport (done .answer); lists = done .lists }
 
 pub both-reported : {c : Sheets} {order first second : List ℕ} {lent₁ lent₂ after₁ after₂ : Lists} {a : BothAnswer} {r₁ r₂ : RunReport} → Shared c order first second lent₁ lent₂ a after₁ after₂
     → r₁ ≡ runReport (ranOf (a .first)) → r₂ ≡ runReport (ranOf (a .second)) → BothReported c order first second lent₁ lent₂ (record { first = r₁; second = r₂ }) after₁ after₂

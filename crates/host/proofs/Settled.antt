@@ -24,6 +24,9 @@ use Rattle.job_build.specs.Building.{DwarfTree, Summary, summaryOf, building}
 use Rattle.job_build.proofs.Settled.{build-numbered}
 use Rattle.toggles.specs.Toggles.{Answers}
 use Rattle.job_run.specs.Running.{running}
+use Rattle.edit_run.specs.Edits.{Answers as EditAnswers}
+use Rattle.job_edit.specs.Editing.{Lists as EditLists, runningEdited}
+use Rattle.job_edit.proofs.Settled.{settled-lists, edit-numbered}
 use Rattle.job_run.proofs.Settled.{run-numbered}
 use Rattle.job_both.specs.Sharing.{sharing, serving}
 use Rattle.job_both.specs.Shared.{Lists}
@@ -41,7 +44,7 @@ use Rattle.cross_line.specs.Crossing.{crossingShapes}
 use Rattle.cross_line.proofs.Settled.{shapes-numbered}
 use Rattle.cross_balls.specs.Balls.{crossingBalls}
 use Rattle.cross_balls.proofs.Settled.{balls-numbered}
-use Rattle.host.specs.Report.{readReport, nameReport, namesReport, moveReport, buildReport, runReport, classifyReport, judgeReport, crossReport, NamesReported, MoveReported, BuildReported, RunReported, BothReported, ClassifyReported, CrossReported}
+use Rattle.host.specs.Report.{readReport, nameReport, namesReport, moveReport, buildReport, runReport, classifyReport, judgeReport, crossReport, NamesReported, MoveReported, BuildReported, RunReported, EditReported, BothReported, ClassifyReported, CrossReported}
 use Rattle.host.specs.declared.ReadReport.{ReadReport}
 use Rattle.host.specs.declared.NameReport.{NameReport}
 use Rattle.host.specs.declared.NamesReport.{NamesReport}
@@ -90,6 +93,9 @@ run-report-unique o rs cs ls r q rs₁ cs₁ ls₁ rs₂ cs₂ ls₂ a b = (
   a .lists .counts-list ∙ sym (b .lists .counts-list),
   a .lists .labels-list ∙ sym (b .lists .labels-list),
 )
+
+pub edit-report-unique : (o : Outcome EditAnswers) (lent : EditLists) (r q : RunReport) (after other : EditLists) → EditReported o lent r after → EditReported o lent q other → (r ≡ q) × (after ≡ other)
+edit-report-unique o lent r q after other a b = (a .report ∙ sym (b .report), settled-lists o lent after other (a .lists) (b .lists))
 
 pub both-report-unique : (c : Sheets) (order first second : List ℕ) (lent₁ lent₂ : Lists) (r q : BothReport) (after₁ after₂ other₁ other₂ : Lists)
     → BothReported c order first second lent₁ lent₂ r after₁ after₂ → BothReported c order first second lent₁ lent₂ q other₁ other₂ → (r ≡ q) × (after₁ ≡ other₁) × (after₂ ≡ other₂)
@@ -141,6 +147,12 @@ pub run-given : (s : Sheets) (ts : List ℕ) (a b c : ℕ) → runReport (part (
 run-given s ts a b c =
     let job = running s ts a b c in
     told-given (λ o. runReport o .number) (λ k p. refl) (λ k p. refl) (part (λ v. length (v .final)) job) (part-numbered (λ v. length (v .final)) job (run-numbered s ts a b c))
+
+pub edit-given : (s : Sheets) (toggles ms ps cs : List ℕ) (lent : EditLists) → runReport (part (λ v. length (v .final)) (runningEdited s toggles ms ps cs lent)) .number ≡ 0
+    → (v : ℕ) × (part (λ v. length (v .final)) (runningEdited s toggles ms ps cs lent) ≡ given v)
+edit-given s toggles ms ps cs lent =
+    let job = runningEdited s toggles ms ps cs lent in
+    told-given (λ o. runReport o .number) (λ k p. refl) (λ k p. refl) (part (λ v. length (v .final)) job) (part-numbered (λ v. length (v .final)) job (edit-numbered s toggles ms ps cs lent))
 
 pub foundry-given : (c : Sheets) (order first second toggles : List ℕ) (a b d : ℕ) → runReport (part (λ v. length (v .final)) (serving (sharing c order first second) toggles a b d)) .number ≡ 0
     → (v : ℕ) × (part (λ v. length (v .final)) (serving (sharing c order first second) toggles a b d) ≡ given v)

@@ -23,6 +23,9 @@ use Rattle.job_run.specs.Ran.{RanLists}
 use Rattle.job_both.specs.Sharing.{sharing, serving}
 use Rattle.job_both.specs.Shared.{Lists}
 use Rattle.line_judging.specs.Judging.{Opinion, right, wrongAt}
+use Rattle.edit_run.specs.Edits.{Answers as EditAnswers}
+use Rattle.job_edit.specs.Editing.{Lists as EditLists}
+use Rattle.job_edit.specs.Edited.{EditedLists}
 use Rattle.cross_cuts.specs.Cuts.{Cut}
 use Rattle.cross_answer.specs.Answer.{Counts, counts, countsOf, MadeLists, CrossedLists}
 use Rattle.cross_shapes.specs.declared.Probe.{Probe}
@@ -122,6 +125,11 @@ pub record BuildReported (o : Outcome DwarfTree) (kinds firsts seconds : List �
 pub record RunReported (o : Outcome Answers) (roots counts labels : List ℕ) (r : RunReport) (roots′ counts′ labels′ : List ℕ) : Type 0 where
   pub report : r ≡ runReport (part (λ a. length (a .final)) o)
   pub lists : RanLists o roots counts labels roots′ counts′ labels′
+
+-- A run with edits reports as a run does.
+pub record EditReported (o : Outcome EditAnswers) (lent : EditLists) (r : RunReport) (after : EditLists) : Type 0 where
+  pub report : r ≡ runReport (part (λ a. length (a .final)) o)
+  pub lists : EditedLists o lent after
 
 -- Each foundry has a report and lists of its own.
 pub record BothReported (c : Sheets) (order first second : List ℕ) (lent₁ lent₂ : Lists) (r : BothReport) (after₁ after₂ : Lists) : Type 0 where

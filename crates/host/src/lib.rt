@@ -9,6 +9,7 @@ ghost use Rattle.job_names.specs.Names.{namingAll};
 ghost use Rattle.job_move.specs.Moving.{moving};
 ghost use Rattle.job_build.specs.Building.{building};
 ghost use Rattle.job_run.specs.Running.{running};
+ghost use Rattle.job_edit.specs.Editing.{lists as editLists, runningEdited};
 ghost use Rattle.job_run.specs.Ran.{ranOf};
 ghost use Rattle.job_both.specs.Shared.{lists};
 ghost use Rattle.lines.specs.Lines.{lineLists, answerLists};
@@ -18,7 +19,7 @@ ghost use Rattle.job_judge.specs.Judging.{judging};
 ghost use Rattle.cross_answer.specs.Answer.{crossedOf, madeLists};
 ghost use Rattle.cross_line.specs.Crossing.{crossingShapes};
 ghost use Rattle.cross_balls.specs.Balls.{crossingBalls};
-ghost use Rattle.host.specs.Report.{sheetOf, readReport, nameReport, runReport, judgeReport, probeOf, crossReport, NamesReported, MoveReported, BuildReported, RunReported, BothReported, ClassifyReported, CrossReported};
+ghost use Rattle.host.specs.Report.{sheetOf, readReport, nameReport, runReport, judgeReport, probeOf, crossReport, NamesReported, MoveReported, BuildReported, RunReported, EditReported, BothReported, ClassifyReported, CrossReported};
 use cross_answer::CrossAnswer;
 use cross_shapes::Probe;
 use job_build::BuildAnswer;
@@ -369,6 +370,41 @@ pub extern "C" fn kressedach_run(
         (now (roots .entry)) (now (counts .entry)) (now (labels .entry)) r (now (roots .exit)) (now (counts .exit)) (now (labels .exit)) ⌝ }
 {
     run_report(job_run::run(fitted, fittings, sheet, toggles, roots, counts, labels))
+}
+
+// Runs toggles on the sheets' tree, and edits between them.
+#[no_mangle]
+pub extern "C" fn kressedach_run_edited(
+    fitted: bool,
+    fittings: &[u8],
+    sheet: &[u8],
+    toggles: &[u16],
+    moments: &[u64],
+    positions: &[u16],
+    codes: &[u16],
+    roots: &mut [u8],
+    counts: &mut [u32],
+    labels: &mut [u8],
+    edit_counts: &mut [u32],
+) -> RunReport
+    ensures { λ r. ⌜ EditReported (runningEdited (sheetsOf fitted (now (fittings .entry)) (now (sheet .entry))) (now (toggles .entry)) (now (moments .entry)) (now (positions .entry)) (now (codes .entry))
+        (editLists (now (roots .entry)) (now (counts .entry)) (now (labels .entry)) (now («edit_counts» .entry))))
+        (editLists (now (roots .entry)) (now (counts .entry)) (now (labels .entry)) (now («edit_counts» .entry))) r
+        (editLists (now (roots .exit)) (now (counts .exit)) (now (labels .exit)) (now («edit_counts» .exit))) ⌝ }
+{
+    run_report(job_edit::run_edited(
+        fitted,
+        fittings,
+        sheet,
+        toggles,
+        moments,
+        positions,
+        codes,
+        roots,
+        counts,
+        labels,
+        edit_counts,
+    ))
 }
 
 // Runs the toggles of two foundries on the sheets' tree.

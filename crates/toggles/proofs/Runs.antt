@@ -24,7 +24,7 @@ unfolding after
 flipped-toggled done s t =
     ap (λ b. cond (eqb t s) (not b) b) (sym (after-outside done t)) ∙ sym (after-append done (s ∷ []) outside t) ∙ after-outside (done ++ (s ∷ [])) t
 
-toggle-more : (f : Formula) (done : List ℕ) (s : ℕ)
+pub toggle-more : (f : Formula) (done : List ℕ) (s : ℕ)
     → toggle (dwarf f) s (labels (toggledBy done) (dwarf f)) .labels ≡ labels (toggledBy (done ++ (s ∷ []))) (dwarf f)
 toggle-more f done s = toggle-labels f (toggledBy done) s ∙ ap (λ state. labels state (dwarf f)) (fun-ext (flipped-toggled done s))
 
@@ -41,7 +41,7 @@ final-after f done (s ∷ ss) =
     ∙ ap (λ ts. labels (toggledBy ts) (dwarf f)) (append-assoc done (s ∷ []) ss)
 
 -- every shape is outside where no toggle was done
-none-done : toggledBy [] ≡ outside
+pub none-done : toggledBy [] ≡ outside
 unfolding after
 none-done = fun-ext (λ t. sym (after-outside [] t))
 

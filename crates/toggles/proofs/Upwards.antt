@@ -195,6 +195,13 @@ module _ {ks fs ss : List ℕ} {leaves nodes : ℕ} {ps : List ℕ} (lk : Linked
     at-node : (h : p < nodes) (old : List ℕ) → Alone nodes old l₀ node → Pass ks fs ss nodes old (suc node) l₀ (λ k. eqb k p) p ls n
     at-node h old a = pass-until (lk .shaped) (g .at) p (g .held old a) (g .low) (omega arith) (λ k b c. ne-eqb k p (λ z. omega arith))
 
+    -- no more are reworked than there are nodes
+    pub few-stopped : p < nodes → n + 1 ≤ nodes
+    few-stopped h = omega (arith, g .few, g .low)
+
+    pub few-walked : n ≤ nodes
+    few-walked = omega (arith, g .few, g .inside)
+
     pub walking-stop : {v : ℕ} → v ≡ getD ls p 0 → v ≡ label outside ls (recAt ks fs ss p) → p < nodes → (old : List ℕ) → Alone nodes old l₀ node
         → steps (take nodes ls) (n + 1) ≡ rework old (recs ks fs ss (suc node) (nodes - suc node)) (suc node) (take nodes l₀)
     walking-stop {v} s e h old a =

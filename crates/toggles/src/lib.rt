@@ -24,7 +24,7 @@ fn flip(v: u8) -> u8
 }
 
 // The nodes reworked above one node whose label alone has changed: straight up, until a label comes out as it was. How many they are.
-fn walk(
+pub fn walk(
     rules: &[u8; 256],
     kinds: &[u16; 3072],
     firsts: &[u16; 3072],
@@ -36,7 +36,7 @@ fn walk(
     node: usize,
 ) -> u32
     requires { ⌜ Climbs (now rules) (now kinds) (now firsts) (now seconds) leaves nodes (now parents) (now labels) node ⌝ }
-    ensures { λ _. ⌜ length (now (labels .exit)) ≡ 3072 ⌝ }
+    ensures { λ r. ⌜ (length (now (labels .exit)) ≡ 3072) × (r ≤ nodes) ⌝ }
     ensures { λ r. ⌜ ((old : List ℕ) → Alone nodes old (now (labels .entry)) node
         → steps (take nodes (now (labels .exit))) r
         ≡ rework old (recs (now (kinds .entry)) (now (firsts .entry)) (now (seconds .entry)) (suc node) (nodes - suc node)) (suc node) (take nodes (now (labels .entry)))) ⌝ }
@@ -216,7 +216,7 @@ fn toggle_many(
 }
 
 // A toggle of shape s. The number of nodes reworked. Above a single leaf one node at a time is due, and no mark is needed.
-fn toggle(
+pub fn toggle(
     rules: &[u8; 256],
     kinds: &[u16; 3072],
     firsts: &[u16; 3072],
@@ -269,7 +269,7 @@ fn toggle(
 }
 
 // The label of the root, which is the last node.
-fn root(labels: &[u8; 3072], nodes: usize) -> u8
+pub fn root(labels: &[u8; 3072], nodes: usize) -> u8
     requires { ⌜ (0 < nodes) × (nodes ≤ 3072) ⌝ }
     ensures { λ r. ⌜ r ≡ last (take nodes (now (labels .entry))) ⌝ }
 {
@@ -320,7 +320,7 @@ fn toggle_each(
 }
 
 // The first labels, given in a lent list.
-fn copy_labels(labels: &[u8; 3072], nodes: usize, list: &mut [u8])
+pub fn copy_labels(labels: &[u8; 3072], nodes: usize, list: &mut [u8])
     requires { ⌜ (nodes ≤ 3072) × (nodes ≤ length (now list)) ⌝ }
     ensures { λ _. ⌜ now (list .exit) ≡ filled (take nodes (now (labels .entry))) (now (list .entry)) ⌝ }
 {
@@ -355,7 +355,7 @@ fn narrow(x: usize) -> u16
 }
 
 // The rules of the labels, the labels with every shape outside, each node's parent and the leaves of each shape.
-fn fill_tables(
+pub fn fill_tables(
     rules: &mut [u8; 256],
     kinds: &[u16; 3072],
     firsts: &[u16; 3072],

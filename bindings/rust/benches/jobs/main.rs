@@ -3,6 +3,7 @@
 //! `cargo bench --offline -q` prints the page `docs/BENCHMARKS.md`. Without `--bench`, as `cargo test` runs this, nothing is timed, and the
 //! answers of each row are compared with those of `peer`.
 
+mod edits;
 mod plain;
 mod rows;
 
@@ -16,8 +17,12 @@ fn main() {
     for row in &rows {
         (row.check)();
     }
+    let edits = edits::all(if timed { 20_000 } else { 100 });
+    for row in &edits {
+        (row.check)();
+    }
     if !timed {
-        return println!("benchmark: the answers of {} rows agree", rows.len());
+        return println!("benchmark: the answers of {} rows agree", rows.len() + edits.len());
     }
     heading();
     let said: Vec<Said> = rows.into_iter().map(|mut row| line(&mut row)).collect();
@@ -37,6 +42,27 @@ fn main() {
         let (least, most) = walks.fold((f64::INFINITY, 0.0), |(least, most): (f64, f64), walk| (least.min(walk), most.max(walk)));
         println!("At {leaves} leaves classify is {least:.1} to {most:.1} times faster than walking.");
     }
+    edited(edits);
+}
+
+/// Times an edit beside a toggle of one leaf and a new build: edits and toggles as the difference of two runs.
+fn edited(rows: Vec<edits::Row>) {
+    println!("\nNanoseconds an edit, a toggle of a shape with one leaf, and a new build, on one sheet.");
+    println!("An edit's and a toggle's time is what a run with 20,000 more of them takes longer.\n");
+    println!("| formula | leaves | edit | toggle | build | edit / toggle | build / edit |");
+    println!("|---|--:|--:|--:|--:|--:|--:|");
+    let (mut most, mut least) = (0.0_f64, f64::INFINITY);
+    for edits::Row { formula, leaves, more, calls: [mut run, mut toggles, mut edits, mut build], .. } in rows {
+        let times = best(&mut [&mut run, &mut toggles, &mut edits, &mut build]);
+        let [toggle, edit] = [times[1], times[2]].map(|time| (time - times[0]).max(0.0) / more as f64);
+        let (beside_toggle, beside_build) = (edit / toggle, times[3] / edit);
+        println!("| {formula} | {leaves} | {edit:.2} | {toggle:.2} | {:.0} | {beside_toggle:.2} | {beside_build:.0} |", times[3]);
+        if leaves == 1024 {
+            (most, least) = (most.max(beside_toggle), least.min(beside_build));
+        }
+    }
+    println!("\nAt 1024 leaves an edit takes at most {most:.2} times as long as a toggle of one leaf, where 2 is asked.");
+    println!("A new build takes at least {least:.0} times as long as an edit, where 20 is asked.");
 }
 
 /// What a row says of the library's time.

@@ -51,6 +51,26 @@ impl Formula {
         }
     }
 
+    /// Puts another operation at a postfix position, which counts from 0.
+    pub fn put(&mut self, position: usize, op: Op) {
+        self.put_from(0, position, op);
+    }
+
+    /// The same where this formula's positions begin at `first`; gives the position past its last.
+    fn put_from(&mut self, first: usize, position: usize, op: Op) -> usize {
+        match self {
+            Formula::Shape(_) => first + 1,
+            Formula::Node(here, left, right) => {
+                let middle = left.put_from(first, position, op);
+                let own = right.put_from(middle, position, op);
+                if own == position {
+                    *here = op;
+                }
+                own + 1
+            }
+        }
+    }
+
     /// The shapes at the leaves, from left to right.
     pub fn leaves(&self) -> Vec<u16> {
         match self {

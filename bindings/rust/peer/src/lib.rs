@@ -2,16 +2,18 @@
 //!
 //! Nothing here is proved or tuned, and nothing is shared with the library: the formula is a tree of boxes, the contraction works on
 //! nodes that point to each other, and a line is evaluated position by position. Each module follows one section of the document.
-//! [`make`] makes sheets and lists, good and damaged, from a seed, [`drawings`] probe lines, shapes and balls, and [`theirs`] the wall
-//! lists of others.
+//! [`make`] makes sheets and lists, good and damaged, from a seed, [`drawings`] probe lines, shapes and balls, [`designs`] edits, and
+//! [`theirs`] the wall lists of others.
 //!
 //! Each job takes the lengths of the answer lists (`rooms`), in the order in which the document names them, and gives what the first
 //! entries of those lists become.
 
 pub mod balls;
 pub mod crossings;
+pub mod designs;
 pub mod drawings;
 pub mod dwarf;
+pub mod edits;
 pub mod formula;
 pub mod judging;
 pub mod lines;
@@ -21,6 +23,7 @@ pub mod theirs;
 pub mod toggles;
 
 use dwarf::Dwarf;
+use edits::{Edited, Edits};
 use judging::{Opinion, TheirLists};
 use lines::{Crossings, Wall};
 use sheet::{Sheet, Sheets};
@@ -81,6 +84,21 @@ pub fn run_both(sheets: Sheets, order: &[u8], lists: [&[u16]; 2], rooms: [[usize
         }
     }
     runs.map(|run| run.map(toggles::Run::answers))
+}
+
+/// Running toggles with edits: roots, counts, labels, edit counts are its answer lists. "Edit lists of unequal length are 13; 20 after 10;
+/// the edits' count list stands last in the order of 9."
+pub fn run_edited(sheets: Sheets, toggles: &[u16], edits: Edits, rooms: [usize; 4]) -> Result<Edited, Refused> {
+    let (sheet, dwarf) = contracted(sheets)?;
+    if !edits.same_length() {
+        return refuse(13, 0);
+    }
+    all_named(&sheet, toggles)?;
+    if let Some(index) = edits.first_wrong(&sheet.formula, toggles.len()) {
+        return refuse(20, index);
+    }
+    enough(rooms, [toggles.len(), toggles.len(), dwarf.records.len(), edits.moments.len()])?;
+    Ok(edits::run(sheet.formula, toggles, edits))
 }
 
 /// The job of classifying lines: line, start, end, start shape, end shape are its answer lists.
@@ -152,10 +170,16 @@ fn contracted(sheets: Sheets) -> Result<(Sheet, Dwarf), Refused> {
 
 /// Every toggle is a shape of the sheet, and there is room for what a run answers.
 fn judged_toggles(sheet: &Sheet, dwarf: &Dwarf, toggles: &[u16], rooms: [usize; 3]) -> Result<(), Refused> {
-    if let Some(index) = toggles.iter().position(|shape| usize::from(*shape) >= sheet.names.len()) {
-        return refuse(10, index);
-    }
+    all_named(sheet, toggles)?;
     enough(rooms, [toggles.len(), toggles.len(), dwarf.records.len()])
+}
+
+/// Every toggle is a shape of the sheet.
+fn all_named(sheet: &Sheet, toggles: &[u16]) -> Result<(), Refused> {
+    match toggles.iter().position(|shape| usize::from(*shape) >= sheet.names.len()) {
+        Some(index) => refuse(10, index),
+        None => Ok(()),
+    }
 }
 
 /// The answer lists are long enough, judged in their order.

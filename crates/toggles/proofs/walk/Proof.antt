@@ -2,7 +2,7 @@
 use Prim.Native.Nat.{_-_}
 use borrow.Author.Needs.{needs}
 use Rattle.labels.proofs.Links.{parent-after}
-use Rattle.toggles.proofs.Upwards.{nearer, Walking, walking-start, walking-stop, walking-on, walking-end}
+use Rattle.toggles.proofs.Upwards.{nearer, Walking, walking-start, walking-stop, walking-on, walking-end, few-stopped, few-walked}
 use Rattle.toggles.proofs.walk.Statement.{statement}
 use Rattle.toggles.proofs.walk.Tie as tie
 
@@ -34,7 +34,7 @@ element-copy-out-if1 : tie.Need-element-copy-out-if1 Inv-loop μ-loop
 element-copy-out-if1 c = search needs
 
 returns : tie.Need-returns Inv-loop μ-loop
-returns c = (search needs, search walking-stop)
+returns c = ((search needs, search (few-stopped, few-walked)), search walking-stop)
 
 element-write-labels : tie.Need-element-write-labels Inv-loop μ-loop
 element-write-labels c = search needs
@@ -55,7 +55,7 @@ loop-again : tie.Need-loop-again Inv-loop μ-loop
 loop-again c = search walking-on
 
 returns-2 : tie.Need-returns-2 Inv-loop μ-loop
-returns-2 c = (search needs, search walking-end)
+returns-2 c = ((search needs, search few-walked), search walking-end)
 
 pub walk-spec : {M : Type 1} → statement M
 walk-spec =

@@ -3,6 +3,7 @@
 mod closed;
 mod csv;
 mod drawing;
+mod edits;
 mod files;
 mod help;
 mod judging;
@@ -66,6 +67,10 @@ fn told(fittings: Option<Source>, args: &[&[u8]]) -> Result<String, Stop> {
         [b"list", sheet] => sheet_jobs::list(files(sheet)?),
         [b"run", b"--labels", sheet, toggles] => toggle_jobs::run(fittings, Source(sheet), Source(toggles), true),
         [b"run", sheet, toggles] => toggle_jobs::run(fittings, Source(sheet), Source(toggles), false),
+        [b"run", b"--edits", edits, sheet, toggles] => edits::run(fittings, Source(sheet), Source(toggles), Source(edits), false),
+        [b"run", b"--labels", b"--edits", edits, sheet, toggles] | [b"run", b"--edits", edits, b"--labels", sheet, toggles] => {
+            edits::run(fittings, Source(sheet), Source(toggles), Source(edits), true)
+        }
         [b"both", sheet, first, second, order] => {
             toggle_jobs::both(fittings, Source(sheet), [Source(first), Source(second)], Source(order))
         }

@@ -19,7 +19,7 @@ pub fn run(fittings: Option<Source>, sheet: Source, toggles: Source, labels: boo
     Ok(if labels { labels_of(&ran) } else { roots_of(&ran, &list.entries, &names) })
 }
 
-fn labels_of(ran: &Ran) -> String {
+pub fn labels_of(ran: &Ran) -> String {
     let mut text = String::from("node,label\n");
     for (node, label) in ran.labels.iter().enumerate() {
         let _ = writeln!(text, "{node},{label}");

@@ -4,7 +4,7 @@ use crate::lists::List;
 use crate::shown;
 use kressedach::{Crossing, Node, Operation, Refusal, Sheets, Start, Which, OPEN_START};
 
-const OPERATIONS: [&str; 4] = ["union", "intersection", "difference", "exclusive union"];
+pub const OPERATIONS: [&str; 4] = ["union", "intersection", "difference", "exclusive union"];
 
 /// What a node of the contracted tree is.
 pub fn of_node(node: &Node, names: &[&str]) -> String {

@@ -1,0 +1,2 @@
+pub mod EditedLaws
+pub mod ArrayLaws

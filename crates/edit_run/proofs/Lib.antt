@@ -1,0 +1,4 @@
+pub mod Lists
+pub mod ActLaws
+pub mod MixLaws
+pub mod RunLaws

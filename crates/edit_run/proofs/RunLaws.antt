@@ -1,0 +1,127 @@
+-- A run with edits from its tables on, and what it leaves in the lent lists.
+use Prim.Native.Nat.{ℕ, suc, _+_, _-_, _<_, _≤_}
+use native.Mathlib.Nat.{zero-add}
+use native.Mathlib.Omega.{arith}
+use mathlib.Core.Path.{_≡_, refl, sym, ap, _∙_}
+use mathlib.Core.List.{List, [], _∷_, _++_}
+use lib.ListN.{length, getD, take, drop}
+use lib.Seq.{sets, sets-eq}
+use Rattle.outcome.specs.Lent.{filled}
+use Rattle.formula.specs.Formula.{opAt, firstOperation, Formula, Over, postfix}
+use Rattle.formula.specs.States.{outside}
+use Rattle.contraction.specs.Rounds.{dwarf}
+use Rattle.labels.specs.Labels.{labels}
+use Rattle.labels.specs.Arrays.{Tree}
+use Rattle.labels.specs.Steps.{Chains}
+use Rattle.labels.proofs.Held.{held-records, held-shaped}
+use Rattle.toggles.specs.Steps.{Tables}
+use Rattle.toggles.proofs.Runs.{none-done}
+use Rattle.edits.proofs.Codes.{is-operation}
+use Rattle.edit_places.specs.Places.{Built, Buildable, PlacesFilled}
+use Rattle.edit_run.specs.Edits.{Edit, editsOf, after, rootsAfter, countsAfter, editCounts}
+use Rattle.edit_run.specs.Ran.{Operations, EditFits, EditRoom, edit-room, EditedRuns}
+use Rattle.edit_run.specs.Steps.{desk, At, plan, begun, CanTurn, can-turn, MixDone, Filled, filled-all}
+
+-- ---- lengths
+pub length-roots : (f : Formula) (es : List Edit) (done ss : List ℕ) → length (rootsAfter f es done ss) ≡ length ss
+length-roots f es done [] = refl
+length-roots f es done (s ∷ ss) = ap suc (length-roots f es (done ++ (s ∷ [])) ss)
+
+pub length-counts : (f : Formula) (es : List Edit) (done ss : List ℕ) → length (countsAfter f es done ss) ≡ length ss
+length-counts f es done [] = refl
+length-counts f es done (s ∷ ss) = ap suc (length-counts f es (done ++ (s ∷ [])) ss)
+
+pub length-edits : (toggles : List ℕ) (f : Formula) (ms ps cs : List ℕ) → length (editCounts toggles f (editsOf ms ps cs)) ≤ length ms
+length-edits toggles f [] ps cs = omega arith
+length-edits toggles f (m ∷ ms) [] cs = omega arith
+length-edits toggles f (m ∷ ms) (p ∷ ps) [] = omega arith
+length-edits toggles f (m ∷ ms) (p ∷ ps) (c ∷ cs) = omega (arith, length-edits toggles (after (record { moment = m; position = p; operation = opAt (c - firstOperation) }) f) ms ps cs)
+
+sets-filled : (xs old : List ℕ) → length xs ≤ length old → sets old 0 xs ≡ filled xs old
+sets-filled xs old h = sets-eq xs old 0 (omega arith) ∙ ap (λ n. xs ++ drop n old) (zero-add (length xs))
+
+-- ---- every edit is of an operation
+all-operations : (f : Formula) → Over 256 f → (ms ps cs : List ℕ) → ((k : ℕ) → k < length ms → firstOperation ≤ getD (postfix f) (getD ps k 0) 0) → Operations f (editsOf ms ps cs)
+all-operations f v [] ps cs h = tt
+all-operations f v (m ∷ ms) [] cs h = tt
+all-operations f v (m ∷ ms) (p ∷ ps) [] h = tt
+all-operations f v (m ∷ ms) (p ∷ ps) (c ∷ cs) h = (is-operation f v p (h 0 (omega arith)), all-operations f v ms ps cs (λ k l. h (suc k) (omega arith)))
+
+-- ---- the tables
+module _ {formula : List ℕ} {n : ℕ} {ks fs ss : List ℕ} {leaves nodes : ℕ} where
+  pub buildable-tree : Buildable formula n ks fs ss leaves nodes → Tree ks fs ss leaves nodes
+  buildable-tree b = record { formula = b .formula; holds = b .built .holds }
+
+  pub all-filled : {rules ls ps hs ns places : List ℕ} → Tables rules ks fs ss leaves nodes ls ps hs ns → PlacesFilled formula n ks fs ss leaves nodes places
+      → Filled formula n ks fs ss leaves nodes rules ls ps hs ns places
+  all-filled t p = filled-all t p
+
+-- ---- the run, from its tables on
+module _ {formula : List ℕ} {n : ℕ} {ks fs ss : List ℕ} {leaves nodes : ℕ} {toggles ms ps cs roots counts list edits : List ℕ} where
+  fits-of : EditRoom formula n ks fs ss leaves nodes toggles ms ps cs roots counts list edits → EditFits formula n ks fs ss leaves nodes toggles ms ps cs roots counts list edits
+  fits-of (edit-room h) = h
+
+  module _ (given : EditRoom formula n ks fs ss leaves nodes toggles ms ps cs roots counts list edits) where
+    h : EditFits formula n ks fs ss leaves nodes toggles ms ps cs roots counts list edits
+    h = fits-of given
+
+    pub room-formula : length formula ≡ 2048
+    room-formula = h .formula-long
+
+    pub room-few : n ≤ 2047
+    room-few = h .formula-few
+
+    pub room-built : Buildable formula n ks fs ss leaves nodes
+    room-built = h .built
+
+    pub room-nodes : nodes ≤ 3072
+    room-nodes = held-shaped ks fs ss leaves nodes (h .built .formula) (h .built .built .holds) .room
+
+    pub room-labels : nodes ≤ length list
+    room-labels = h .for-labels
+
+    module _ {rules ls parents hs ns places : List ℕ} where
+      start : Filled formula n ks fs ss leaves nodes rules ls parents hs ns places → (f : Formula) → Built formula n ks fs ss leaves nodes f
+          → At (desk rules fs ss leaves nodes parents places ms ps cs) (plan f toggles edits) 0 0 ks ls edits
+      start (filled-all t placed-so) f b =
+          record {
+            now = f;
+            ruled = t .ruled;
+            listed = h .listed;
+            holds = b .holds;
+            ups = t .ready .linked .ups;
+            placed = placed-so .so f b;
+            long = t .long;
+            labels-are =
+                t .labels-are ∙ ap (labels outside) (held-records ks fs ss leaves nodes f (b .holds)) ∙ ap (λ state. labels state (dwarf f)) (sym none-done);
+            within = omega arith;
+            operated = all-operations f (b .holds .named) ms ps cs (rw (b .codes-are) at (h .operated));
+            left = λ m l. refl;
+            waits = h .rises;
+            room = h .for-edits;
+            counted = refl;
+          }
+
+      chained : Filled formula n ks fs ss leaves nodes rules ls parents hs ns places → Chains ks fs ss leaves nodes hs ns
+      chained (filled-all t placed-so) = t .ready .chains
+
+      pub ready-to-turn : Filled formula n ks fs ss leaves nodes rules ls parents hs ns places
+          → CanTurn (desk rules fs ss leaves nodes parents places ms ps cs) hs ns toggles 0 0 ks ls roots counts edits
+      ready-to-turn all = can-turn (begun (h .built .formula) edits (start all (h .built .formula) (h .built .built))) (chained all) (h .answers)
+
+      pub edited-runs : {ls′ roots′ counts′ edits′ list′ : List ℕ} → Filled formula n ks fs ss leaves nodes rules ls parents hs ns places
+          → MixDone (desk rules fs ss leaves nodes parents places ms ps cs) toggles ks ls roots counts edits ls′ roots′ counts′ edits′
+          → list′ ≡ filled (take nodes ls′) list
+          → EditedRuns formula n ks fs ss leaves nodes toggles ms ps cs roots counts list edits roots′ counts′ list′ edits′
+      edited-runs all done copied =
+          record {
+            so = λ f b.
+                let w = done .so f (start all f b) in
+                let es = editsOf ms ps cs in
+                record {
+                  roots-are = w .roots-are ∙ sets-filled (rootsAfter f es [] toggles) roots (omega (arith, h .answers .for-roots, length-roots f es [] toggles));
+                  counts-are = w .counts-are ∙ sets-filled (countsAfter f es [] toggles) counts (omega (arith, h .answers .for-counts, length-counts f es [] toggles));
+                  labels-are = copied ∙ ap (λ l. filled l list) (w .labels-are);
+                  edit-counts-are = w .edits-are ∙ sets-filled (editCounts toggles f es) edits (omega (arith, h .for-edits, length-edits toggles f ms ps cs));
+                };
+          }

@@ -1,0 +1,3 @@
+pub mod Edits
+pub mod Ran
+pub mod Steps

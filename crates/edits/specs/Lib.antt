@@ -1,0 +1,3 @@
+pub mod Edits
+pub mod Changes
+pub mod Spots

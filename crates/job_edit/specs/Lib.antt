@@ -1,0 +1,3 @@
+pub mod Editing
+pub mod Edited
+pub mod Steps
