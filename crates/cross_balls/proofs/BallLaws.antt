@@ -173,8 +173,19 @@ module _ (u v radius centre p q s : ℕ) (few : Small u v radius centre) (ep : p
     within-radius : half ≤ natAbs (unmark radius)
     within-radius = root-within (natAbs (unmark radius)) half (s - (p + q)) (omega (arith, es)) (root .below)
 
-    pub half-small : half ≤ 1000000
+    half-small : half ≤ 1000000
     half-small = omega (arith, within-radius, size-high radius (omega (arith, few .radius-low)), few .radius-high)
+
+    -- the two sides of a centre c, as 64 bits hold them
+    module _ {c : ℕ} (ec : c ≡ centre) where
+      pub first-fits : half ≤ c
+      first-fits = omega (arith, half-small, few .centre-low)
+
+      pub last-fits : c + half < 4294967296
+      last-fits = omega (arith, half-small, few .centre-high)
+
+      pub last-long : c + half < 18446744073709551616
+      last-long = omega (arith, last-fits)
 
     half-is : half ≡ halfChord (unmark u) (unmark v) (unmark radius)
     unfolding halfChord

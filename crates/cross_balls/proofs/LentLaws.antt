@@ -5,12 +5,19 @@ use native.Mathlib.Omega.{arith}
 use mathlib.Core.List.{List, [], _∷_}
 use lib.IntN.{ℤ, pos}
 use lib.ListN.{length, getD}
+use mir.Syntax.{w32}
+use mir.Val.{SFits, toZ, ofZ}
+use mir.ValLaws.{toZ-ofZ}
 use Rattle.cross_marks.specs.Marks.{unmark}
 use Rattle.cross_cuts.specs.Cuts.{fault}
 use Rattle.cross_cuts.specs.Keys.{cutOf}
 use Rattle.cross_cuts.specs.declared.Met.{Met}
 use Rattle.cross_cuts.specs.declared.Met.the-variants.{Fault}
 use Rattle.cross_balls.specs.Balls.{ballCut, ballCuts}
+
+-- a number as it was read
+pub as-read : {y z : ℤ} → SFits w32 z → y ≡ toZ w32 (ofZ w32 z) → y ≡ z
+as-read h e = e ∙ toZ-ofZ w32 _ h
 
 pub length-cuts : (numbers : List ℤ) → length (ballCuts numbers) ≡ (length numbers + 3) / 4
 unfolding ballCuts

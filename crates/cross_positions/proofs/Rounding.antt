@@ -1,7 +1,7 @@
 -- The nearest whole number from the bits of a float.
 use mathlib.Core.Path.{_≡_, refl, sym, ap, _∙_, subst}
 use Prim.Native.Nat.{ℕ, zero, suc, _+_, _-_, _*_, _/_, _%_, _^_, _≤_, _<_, compare, Ordering, Ordering·lt, Ordering·eq, Ordering·gt, zero-le}
-use native.Mathlib.Nat.{le-trans, le-antisymm, le-of-eq, le-of-lt, mul-assoc, mul-le-mul-right, mul-one, one-mul}
+use native.Mathlib.Nat.{le-trans, le-antisymm, le-of-eq, le-of-lt, mul-assoc, mul-le-mul-right, mul-one, one-mul, div-le-self, mod-le}
 use native.Mathlib.Omega.{arith}
 use mathlib.Core.Bool.{Bool, true, false, not, cond}
 use mathlib.Core.Option.{Option, none, some}
@@ -27,6 +27,9 @@ within z = inRange (some z)
 
 abbrev pub whole : Float → Option ℤ
 whole x = inRange (nearestWhole x)
+
+pub at-distance : {p : Option ℤ} {x y : Float} → p ≡ whole x → x ≡ y → p ≡ whole y
+at-distance e d = e ∙ ap whole d
 
 -- ---- what `compare` says
 abbrev Cmp : Ordering → ℕ → ℕ → Type 0
@@ -96,6 +99,17 @@ module _ (q d u : ℕ) (e : u ≡ 2 ^ d) where
   pub tie-exit : u ≤ q % u * 2 → q % u * 2 ≤ u → q / u + q / u % 2 ≡ closest q (2 ^ d)
   tie-exit h k = sym (ap (λ (v : ℕ). closest q v) (sym e) ∙ nearest-tie (q / u) (q % u * 2) u k h)
 
+-- what it works out on the way stays in 64 bits
+module _ {q : ℕ} (u : ℕ) (h : q < 2 ^ 53) where
+  pub twice-fits : q % u * 2 < 18446744073709551616
+  twice-fits = omega (arith, mod-le q u)
+
+  pub up-fits : q / u + 1 < 18446744073709551616
+  up-fits = omega (arith, div-le-self q u)
+
+  pub tie-fits : q / u + q / u % 2 < 18446744073709551616
+  tie-fits = omega (arith, div-le-self q u)
+
 -- ---- of a float with a value
 pub whole-of-value : (x : Float) (s : Bool) (a c : ℕ) → 0 < c → HasValue x s a c → whole x ≡ within (signed s (closest a c))
 unfolding nearestWhole
@@ -144,9 +158,12 @@ pub size-large : (x t : ℕ) → 1053 < x → sizeOf x t ≡ 2147483648
 unfolding sizeOf
 size-large x t h = rw (le-ltb x 1022 (omega arith), lt-ltb 1053 x h)
 
-pub size-middle : (x t : ℕ) → 1022 ≤ x → x ≤ 1053 → sizeOf x t ≡ closest (4503599627370496 + t) (2 ^ (1075 - x))
+size-middle : (x t : ℕ) → 1022 ≤ x → x ≤ 1053 → sizeOf x t ≡ closest (4503599627370496 + t) (2 ^ (1075 - x))
 unfolding sizeOf
 size-middle x t h k = rw (le-ltb x 1022 h, le-ltb 1053 x k)
+
+pub middle-exit : (x t : ℕ) {v : ℕ} → 1022 ≤ x → x ≤ 1053 → v ≡ closest (4503599627370496 + t) (2 ^ (1075 - x)) → v ≡ sizeOf x t
+middle-exit x t h k e = e ∙ sym (size-middle x t h k)
 
 -- a value of digits q at the field's weight k is seen as `sizeOf` has it
 seen : (s : Bool) (k t : ℕ) → t < 2 ^ 52 → within (signed s (closest ((4503599627370496 + t) * 2 ^ k) (2 ^ 1074))) ≡ within (signed s (sizeOf (suc k) t))

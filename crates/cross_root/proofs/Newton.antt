@@ -2,8 +2,9 @@
 -- from a guess whose square is above n gives a smaller guess.
 use mathlib.Core.Path.{_≡_, refl, sym, ap, subst, _∙_}
 use Prim.Native.Nat.{ℕ, zero, suc, _+_, _*_, _/_, _≤_, _<_}
-use native.Mathlib.Nat.{le-refl, le-trans, le-of-eq, le-of-lt, lt-of-lt-of-le, lt-suc-self, zero-lt-suc, not-suc-le-zero, lt-of-not-le, le-dest, le-intro, add-comm, add-assoc, add-left-comm, mul-comm, mul-add, add-mul, two-mul, mul-le-mul-right, add-lt-add-of-le-of-lt, div-lt-iff-lt-mul, add-suc}
+use native.Mathlib.Nat.{le-refl, le-trans, le-of-eq, le-of-lt, lt-of-lt-of-le, lt-suc-self, zero-lt-suc, not-suc-le-zero, lt-of-not-le, le-dest, le-intro, add-comm, add-assoc, add-left-comm, mul-comm, mul-add, add-mul, two-mul, mul-le-mul-right, add-lt-add-of-le-of-lt, div-lt-iff-lt-mul, div-le-self, add-suc}
 use native.Mathlib.Decide.{decLe}
+use native.Mathlib.Omega.{arith}
 use lib.Arith.{add-le-cancel-left}
 use native.Mathlib.Numerals.{add-one}
 
@@ -59,3 +60,11 @@ pub newton-below : (n r : ℕ) → n < r * r → (r + n / r) / 2 < r
 newton-below n r h =
     div-lt-iff-lt-mul (zero-lt-suc 1) .1
     (lt-of-lt-of-le (add-lt-add-of-le-of-lt (le-refl r) (div-lt-iff-lt-mul (sq-pos n r h) .1 h)) (le-of-eq (sym (mul-two r))))
+
+-- so a guess stays below what one before it was below
+pub newton-small : (n r : ℕ) {b : ℕ} → n < r * r → r ≤ b → (r + n / r) / 2 ≤ b
+newton-small n r h l = le-trans (le-of-lt (newton-below n r h)) l
+
+-- and the sum that is halved fits 64 bits
+pub step-fits : {n r : ℕ} → n < 1099511627776 → r ≤ 1048576 → r + n / r < 18446744073709551616
+step-fits {n} {r} h l = omega (arith, div-le-self n r)

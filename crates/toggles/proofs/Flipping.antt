@@ -271,6 +271,12 @@ module _ {ks fs ss : List ℕ} {leaves nodes : ℕ} {ps hs ns : List ℕ} (rd : 
               none true = refl
               none false = refl
 
+-- the same as the loop meets it: the mark put in and the state before it come first, since they tell of what the rest is
+pub flipping-more : {ks fs ss : List ℕ} {leaves nodes : ℕ} {ps hs ns : List ℕ} {s : ℕ} {old : List ℕ} {a b p v : ℕ} {ls ws ws′ : List ℕ} {m m′ : Marks} → AddedNode nodes p ws m ws′ m′
+    → Flipping ks fs ss leaves nodes ps hs ns s old a ls ws m → Ready ks fs ss leaves nodes ps hs ns → a < leaves → v ≡ flip (getD ls a 0) → p ≡ getD ps a 0 → b ≡ getD ns a 0
+    → Flipping ks fs ss leaves nodes ps hs ns s old b (set ls a v) ws′ m′
+flipping-more on g rd h e u q = flipping-on rd g h e u on q
+
 -- a toggle whose shape has several leaves
 pub toggle-several : {ks fs ss : List ℕ} {leaves nodes : ℕ} {ps : List ℕ} → Linked ks fs ss leaves nodes ps → {s n : ℕ} (old ls ws : List ℕ) (m : Marks) (ls′ : List ℕ) → Flipped ks fs ss leaves nodes s old ls ws m
     → ((before : List ℕ) (j : ℕ) → Due ks fs ss nodes before ls (all ws m) j → steps (take nodes ls′) n ≡ rework before (recs ks fs ss j (nodes - j)) j (take nodes ls))

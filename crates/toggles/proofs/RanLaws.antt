@@ -78,8 +78,8 @@ module _ {ks fs xs : List ℕ} {leaves nodes : ℕ} where
         → Ready ks fs xs leaves nodes ps hs ns
     narrow-ready t d e p q = record { linked = record { shaped = tree-shaped t; ups = rw e at p }; chains = rw (d, e) at q }
 
-  pub run-nodes : {toggles roots counts labels : List ℕ} → RunRoom ks fs xs leaves nodes toggles roots counts labels → nodes ≤ 3072
-  run-nodes r = tree-room (r .tree)
+  pub run-list : {toggles roots counts labels : List ℕ} → RunRoom ks fs xs leaves nodes toggles roots counts labels → nodes ≤ length labels
+  run-list r = r .for-labels
 
   pub tables : {m n : ℕ} {rules ls ps hs ns : List ℕ} → Rules rules → Tree ks fs xs leaves nodes → m ≡ leaves → n ≡ nodes → length ls ≡ 3072
       → take nodes ls ≡ labels outside (recs ks fs xs 0 nodes) → Parents ks fs xs n ps → Chains ks fs xs m n hs ns → Tables rules ks fs xs leaves nodes ls ps hs ns

@@ -73,7 +73,7 @@ Flips s xs ys n [] = Unit {0}
 Flips s xs ys n (r ∷ rs) = (getD ys n 0 ≡ turned s r (getD xs n 0)) × Flips s xs ys (suc n) rs
 
 pub record Turned (s : ℕ) (rs : List Rec) (i : ℕ) (ls ms : List ℕ) : Type 0 where
-  pub before : (k : ℕ) → k < i → getD ms k 0 ≡ getD ls k 0
+  pub lower : (k : ℕ) → k < i → getD ms k 0 ≡ getD ls k 0
   pub flips : Flips s ls ms i rs
   pub long : length ms ≡ length ls
 
@@ -83,7 +83,7 @@ flips-past s (r ∷ rs) i v n xs ys h f =
     (f .0 ∙ ap (turned s r) (getD-set-other xs i n v 0 (λ q. omega arith)), flips-past s rs i v (suc n) xs ys (omega arith) (f .1))
 
 flipped-leaves : (s : ℕ) (rs : List Rec) (i : ℕ) (ls : List ℕ) → i + length rs ≤ length ls → Turned s rs i ls (flipLeaves s rs i ls)
-flipped-leaves s [] i ls h = record { before = λ k p. refl; flips = tt; long = refl }
+flipped-leaves s [] i ls h = record { lower = λ k p. refl; flips = tt; long = refl }
 flipped-leaves s (r ∷ rs) i ls h = go (isOf s r) refl (λ ms. flipped-leaves s rs (suc i) ms)
   where
     go : (b : Bool) → isOf s r ≡ b → ((ms : List ℕ) → suc i + length rs ≤ length ms → Turned s rs (suc i) ms (flipLeaves s rs (suc i) ms))
@@ -93,21 +93,21 @@ flipped-leaves s (r ∷ rs) i ls h = go (isOf s r) refl (λ ms. flipped-leaves s
         let w = ih (set ls i v) (omega (arith, length-set ls i v)) in
         rw e
         record {
-          before = λ k p. w .before k (omega arith) ∙ getD-set-other ls i k v 0 (λ q. omega arith);
+          lower = λ k p. w .lower k (omega arith) ∙ getD-set-other ls i k v 0 (λ q. omega arith);
           flips = (
-            rw e (w .before i (omega arith) ∙ getD-set-same ls i v 0 (omega arith)),
+            rw e (w .lower i (omega arith) ∙ getD-set-same ls i v 0 (omega arith)),
             flips-past s rs i v (suc i) ls _ (omega arith) (w .flips),
           );
           long = w .long ∙ length-set ls i v;
         }
     go false e ih =
         let w = ih ls (omega arith) in
-        rw e record { before = λ k p. w .before k (omega arith); flips = (rw e (w .before i (omega arith)), w .flips); long = w .long }
+        rw e record { lower = λ k p. w .lower k (omega arith); flips = (rw e (w .lower i (omega arith)), w .flips); long = w .long }
 
 -- what the pass leaves: right labels from node j on, and those before it as they were
 record Mended (new : State) (rs : List Rec) (j : ℕ) (ls ms : List ℕ) : Type 0 where
   good : Good (label new) ms j rs
-  before : (k : ℕ) → k < j → getD ms k 0 ≡ getD ls k 0
+  lower : (k : ℕ) → k < j → getD ms k 0 ≡ getD ls k 0
   long : length ms ≡ length ls
 
 turned-bit : (s t : ℕ) (state : State) → cond (eqb t s) (flip (bit (state t))) (bit (state t)) ≡ bit (flipped s state t)
@@ -135,8 +135,8 @@ module _ (state : State) (s : ℕ) (old : List ℕ) where
     stays ls b f is =
         let w = ih ls (omega arith) (f .1) in
         record {
-          good = (w .before j (omega arith) ∙ is ∙ below-steady new j r small ls (rework old rs (suc j) ls .labels) (λ k p. sym (w .before k (omega arith))), w .good);
-          before = λ k p. w .before k (omega arith);
+          good = (w .lower j (omega arith) ∙ is ∙ below-steady new j r small ls (rework old rs (suc j) ls .labels) (λ k p. sym (w .lower k (omega arith))), w .good);
+          lower = λ k p. w .lower k (omega arith);
           long = w .long;
         }
 
@@ -147,13 +147,13 @@ module _ (state : State) (s : ℕ) (old : List ℕ) where
         let v = reworked ls r in
         let w = ih (set ls j v) (omega (arith, length-set ls j v)) (flips-set rs j v (suc j) ls (omega arith) (f .1)) in
         let kept : (k : ℕ) → k < j → getD (rework old rs (suc j) (set ls j v) .labels) k 0 ≡ getD ls k 0 =
-        λ k p. w .before k (omega arith) ∙ getD-set-other ls j k v 0 (λ q. omega arith) in
+        λ k p. w .lower k (omega arith) ∙ getD-set-other ls j k v 0 (λ q. omega arith) in
         record {
           good = (
-            w .before j (omega arith) ∙ getD-set-same ls j v 0 (omega arith) ∙ is ∙ below-steady new j r small ls (rework old rs (suc j) (set ls j v) .labels) (λ k p. sym (kept k p)),
+            w .lower j (omega arith) ∙ getD-set-same ls j v 0 (omega arith) ∙ is ∙ below-steady new j r small ls (rework old rs (suc j) (set ls j v) .labels) (λ k p. sym (kept k p)),
             w .good,
           );
-          before = kept;
+          lower = kept;
           long = w .long ∙ length-set ls j v;
         }
 
@@ -176,7 +176,7 @@ module _ (state : State) (s : ℕ) (old : List ℕ) where
             ∙ right ∙ label-inner state old r l ∙ label-local outside r old ls (λ c o. sym (unchanged old ls (children r) c e o)) ∙ sym (label-inner new ls r l)
 
   mended : (rs : List Rec) (j : ℕ) → Each ChildrenBelow j rs → Good (label state) old j rs → Mends rs j
-  mended [] j small g = λ ls b f. record { good = tt; before = λ k p. refl; long = refl }
+  mended [] j small g = λ ls b f. record { good = tt; lower = λ k p. refl; long = refl }
   mended (r ∷ rs) j small g = mends r rs j (small .0) (g .0) (mended rs (suc j) (small .1) (g .1))
 
 pub toggle-labels : (f : Formula) (state : State) (s : ℕ) → toggle (dwarf f) s (labels state (dwarf f)) .labels ≡ labels (flipped s state) (dwarf f)

@@ -6,10 +6,13 @@ use mathlib.Core.Bool.{cond}
 use mathlib.Core.List.{List, [], _∷_, _++_, map}
 use mathlib.Core.Option.{Option, none, some}
 use lib.Dec.{eqb}
+use lib.ListN.{length}
 use lib.Seq.{slice}
 use Rattle.contraction.specs.Records.{C-rec}
+use Rattle.contraction.specs.Rounds.{Work, compresses, compressed}
 use Rattle.contraction.specs.Steps.{Entry, entries, entryOf}
-use Rattle.tree_tokens.specs.Tokens.{Token, bare, single, double, decode, present, toks}
+use Rattle.tree_tokens.specs.Tokens.{Token, bare, single, double, flat, decode, present, toks, Leaves}
+use Rattle.tree_tokens.specs.declared.Extent.{Extent}
 use Rattle.tree_compress.specs.declared.PairingMarks.{PairingMarks}
 
 -- How many one-child nodes stand at the front.
@@ -56,6 +59,16 @@ pairTokens σ (t ∷ ts) = pairTokens (pairToken σ t (chainLength (t ∷ ts))) 
 abbrev pub rest : List ℕ → ℕ → ℕ → List Token
 rest l i n = map decode (slice i n l)
 
+-- The tokens from i up to n stand in an array of full length.
+pub record RestIn (tokens : List ℕ) (i n : ℕ) : Type 0 where
+  pub upto : i ≤ n
+  pub few : n ≤ 2048
+  pub full : length tokens ≡ 2048
+
+-- Unless it is 0, k is how many one-child nodes stand from i on.
+pub record Counted (tokens : List ℕ) (i n k : ℕ) : Type 0 where
+  pub is : (k ≡ 0 → ⊥) → k ≡ chainLength (rest tokens i n)
+
 -- What is held: 65535 where there is none.
 abbrev pub pairingIn : List ℕ → List ℕ → List ℕ → List ℕ → PairingMarks → Pairing
 pairingIn out ks fs ss m =
@@ -75,3 +88,7 @@ pub record PairingStep (due σ : Pairing) (m r : PairingMarks) : Type 0 where
   pub is : σ ≡ due
   pub at : r .at ≤ m .at + 1
   pub next : r .next ≤ m .next + 1
+
+-- What the pass leaves of any tree whose tokens are the first n.
+pub record CompressedTo (tokens : List ℕ) (n next : ℕ) (ks fs ss out ks′ fs′ ss′ : List ℕ) (r : Extent) : Type 0 where
+  pub leaves : (w : Work) → toks tokens n ≡ flat w → Leaves (compressed w next) (entries ks fs ss 0 next) (compresses w) out ks′ fs′ ss′ r

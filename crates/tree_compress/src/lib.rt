@@ -4,10 +4,8 @@ ghost use mathlib.Core.Path.{_≡_};
 ghost use mathlib.Core.List.{List};
 ghost use Prim.Native.Nat.{ℕ, _+_, _-_, _≤_, _<_};
 ghost use lib.ListN.{length};
-ghost use Rattle.contraction.specs.Rounds.{Work, compresses, compressed};
-ghost use Rattle.contraction.specs.Steps.{entries};
-ghost use Rattle.tree_tokens.specs.Tokens.{decode, flat, toks, Sized, Leaves};
-ghost use Rattle.tree_compress.specs.Steps.{chainLength, puts, pairs, pairToken, rest, pairingIn, PairingRoom, PairingStep};
+ghost use Rattle.tree_tokens.specs.Tokens.{decode, Sized};
+ghost use Rattle.tree_compress.specs.Steps.{chainLength, puts, pairs, pairToken, rest, RestIn, Counted, pairingIn, PairingRoom, PairingStep, CompressedTo};
 
 // The lower node of a pair, or 65535, and how far the tokens out and the records are filled.
 struct PairingMarks {
@@ -18,7 +16,7 @@ struct PairingMarks {
 
 // How many one-child nodes stand from i on.
 fn chain_length(tokens: &[u16; 2048], i: usize, n: usize) -> usize
-    requires { ⌜ (i ≤ n) × (n ≤ 2048) × (length (now tokens) ≡ 2048) ⌝ }
+    requires { ⌜ RestIn (now tokens) i n ⌝ }
     ensures { λ r. ⌜ r ≡ chainLength (rest (now (tokens .entry)) i n) ⌝ }
 {
     let mut j = i;
@@ -37,7 +35,7 @@ fn chain_length(tokens: &[u16; 2048], i: usize, n: usize) -> usize
 
 // The same, where k, unless it is 0, is the answer already: each run is counted once.
 fn chain_left(tokens: &[u16; 2048], i: usize, n: usize, k: usize) -> usize
-    requires { ⌜ (i ≤ n) × (n ≤ 2048) × (length (now tokens) ≡ 2048) × ((k ≡ 0 → ⊥) → k ≡ chainLength (rest (now tokens) i n)) ⌝ }
+    requires { ⌜ RestIn (now tokens) i n × Counted (now tokens) i n k ⌝ }
     ensures { λ r. ⌜ r ≡ chainLength (rest (now (tokens .entry)) i n) ⌝ }
 {
     if k != 0 {
@@ -146,9 +144,8 @@ pub fn compress(
     requires { ⌜ (length (now tokens) ≡ 2048) × (n ≤ 2048) × (next + n ≤ 3072) ⌝ }
     ensures { λ _. ⌜ Sized (now (out .exit)) (now (kinds .exit)) (now (firsts .exit)) (now (seconds .exit)) ⌝ }
     ensures { λ r. ⌜ r .at ≤ n ⌝ }
-    ensures { λ r. ⌜ ((w : Work) → toks (now (tokens .entry)) n ≡ flat w
-        → Leaves (compressed w next) (entries (now (kinds .entry)) (now (firsts .entry)) (now (seconds .entry)) 0 next) (compresses w)
-        (now (out .exit)) (now (kinds .exit)) (now (firsts .exit)) (now (seconds .exit)) r) ⌝ }
+    ensures { λ r. ⌜ CompressedTo (now (tokens .entry)) n next (now (kinds .entry)) (now (firsts .entry)) (now (seconds .entry))
+        (now (out .exit)) (now (kinds .exit)) (now (firsts .exit)) (now (seconds .exit)) r ⌝ }
 {
     let mut m = PairingMarks {
         held: 65535,

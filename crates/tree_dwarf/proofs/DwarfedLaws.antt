@@ -15,8 +15,8 @@ use Rattle.contraction.proofs.Rounds.{length-leafRecs}
 use Rattle.contraction.specs.Steps.{Entry, entryAt, entries, entryOf, recOf, recs}
 use Rattle.tree_tokens.specs.Tokens.{Shelves, Leaves}
 use Rattle.contraction.proofs.Steps.{records-entries, entries-append, entries-next, length-entries}
-use Rattle.tree_dwarf.specs.Dwarfed.{Plans, Dwarfed}
-use Rattle.tree_dwarf.specs.Steps.{Contracted, Bounded}
+use Rattle.tree_dwarf.specs.Dwarfed.{Plans, Planned, Dwarfed}
+use Rattle.tree_dwarf.specs.Steps.{PlantedTo, Rooted, Contracted, ContractedTo, Bounded}
 use Rattle.tree_dwarf.specs.declared.Figures.{Figures}
 use Rattle.tree_dwarf.proofs.RoundLaws.{leaves-next}
 
@@ -85,3 +85,27 @@ dwarfed-bounded f codes n p h few d total = record {
   leaves-first = omega (arith, d .leaves-are, d .nodes-are, length-leafRecs f, length-append (leafRecs f) (made (enough f) (planted f 0) (leaves f)));
   nodes-few = total;
 }
+
+-- ---- what the calls of building come to
+pub planted-rooted : {codes : List ℕ} {n : ℕ} {a ks fs ss : List ℕ} {count : ℕ} → PlantedTo codes n a ks fs ss count → Planned codes n → length codes ≡ 2048 → n ≤ 2047 → Rooted a n count
+planted-rooted {codes} {n} {count = count} plan some full few =
+    let f = some .formula in
+    let l = plan .leaves f (some .plans) in
+    record {
+      few = omega arith;
+      room = omega (arith, plans-leaves f codes n (some .plans) (omega arith), count-leaves f n count l);
+      tree = planted f 0;
+      is = l .tree;
+    }
+
+pub built-dwarfed : {codes : List ℕ} {n count : ℕ} {a ks fs ss ks′ fs′ ss′ : List ℕ} {total many tall : ℕ} → PlantedTo codes n a ks fs ss count → ContractedTo a n count ks fs ss ks′ fs′ ss′ total many
+    → tall ≡ height (recs ks′ fs′ ss′ 0 total) → (f : Formula) → Plans f codes n → Dwarfed f ks′ fs′ ss′ (record { leaves = count; nodes = total; rounds = many; height = tall })
+built-dwarfed {n = n} {count} {ks′ = ks′} {fs′} {ss′} {total} {many} {tall} plan end high f p =
+    let l = plan .leaves f p in
+    dwarfed f n count l ks′ fs′ ss′ total many tall (end .contracted (planted f 0) (l .tree)) (end .shelves) (end .few) high
+
+-- and so all that building answers
+pub built : {codes : List ℕ} {n : ℕ} {ks fs ss : List ℕ} {b : Figures} → ((f : Formula) → Plans f codes n → Dwarfed f ks fs ss b) → Shelves ks fs ss → b .nodes ≤ 3072
+    → Planned codes n → length codes ≡ 2048 → n ≤ 2047 → (Shelves ks fs ss × Bounded b) × ((f : Formula) → Plans f codes n → Dwarfed f ks fs ss b)
+built {codes} {n} all shelves room some full few =
+    ((shelves, dwarfed-bounded (some .formula) codes n (some .plans) (omega arith) few (all (some .formula) (some .plans)) room), all)

@@ -11,9 +11,9 @@ use Rattle.formula.specs.Formula.{Op, union, intersection, difference, exclusiv
 use Rattle.contraction.specs.Rounds.{planted, leafRecs}
 use Rattle.contraction.specs.Steps.{Entry, entry, entries, entryOf}
 use Rattle.contraction.proofs.Steps.{entries-append}
-use Rattle.tree_tokens.specs.Tokens.{Token, double, flat, decode, toks}
+use Rattle.tree_tokens.specs.Tokens.{Token, double, flat, decode, toks, Sized}
 use Rattle.tree_tokens.proofs.TokensLaws.{decode-bare, decode-double}
-use Rattle.tree_dwarf.specs.Steps.{Planting, copied, plantCode, plantingIn}
+use Rattle.tree_dwarf.specs.Steps.{Planting, copied, plantCode, plantingIn, plantingStart, PlantedTo}
 
 -- ---- one code
 pub plant-leaf : (ts ts′ ks fs ss ks′ fs′ ss′ : List ℕ) (i c next : ℕ) → toks ts′ (i + 1) ≡ toks ts i ++ (decode next ∷ [])
@@ -24,10 +24,6 @@ plant-leaf ts ts′ ks fs ss ks′ fs′ ss′ i c next e q h b = rw (e, q, lt-l
 pub plant-operation : (ts ts′ ks fs ss : List ℕ) (i c next : ℕ) → toks ts′ (i + 1) ≡ toks ts i ++ (decode c ∷ []) → 0xFFF0 ≤ c
     → plantingIn ts′ (i + 1) ks fs ss next ≡ plantCode (plantingIn ts i ks fs ss next) c
 plant-operation ts ts′ ks fs ss i c next e h = rw (e, decode-double c h, le-ltb c 0xFFF0 h)
-
--- ---- the loop: σ is the state after i codes, and r one code on
-pub plant-next : (σ₀ : Planting) (l : List ℕ) (i : ℕ) {σ r : Planting} → r ≡ plantCode σ (getD l i 0) → σ ≡ foldl plantCode σ₀ (take i l) → i < length l → r ≡ foldl plantCode σ₀ (take (i + 1) l)
-plant-next σ₀ l i q e h = q ∙ ap (λ (s : Planting). plantCode s (getD l i 0)) e ∙ rw (add-one i, take-suc l i 0 h) (sym (foldl-append plantCode σ₀ (take i l) (getD l i 0 ∷ [])))
 
 -- ---- a formula
 same : {a b : List Token} {c d : List Entry} {n m : ℕ} → a ≡ b → c ≡ d → n ≡ m
@@ -58,8 +54,35 @@ module _ (f : Formula) (over : Over 256 f) {cs : List ℕ} {σ : Planting} (e : 
   ran-done : σ ≡ done f (record { out = []; made = []; next = 0 })
   ran-done = (rw e at ran) ∙ plant-formula f over _
 
-  pub planted-tree : σ .out ≡ flat (planted f 0)
+  planted-tree : σ .out ≡ flat (planted f 0)
   planted-tree = ap (λ (s : Planting). s .out) ran-done
 
-  pub planted-records : σ .made ≡ map entryOf (leafRecs f)
+  planted-records : σ .made ≡ map entryOf (leafRecs f)
   planted-records = ap (λ (s : Planting). s .made) ran-done
+
+-- ---- the loop: the first i codes are planted
+pub record PlantingAt (codes : List ℕ) (n : ℕ) (a ks fs ss : List ℕ) (next i : ℕ) : Type 0 where
+  pub passed : i ≤ n
+  pub most : next ≤ i
+  pub sized : Sized a ks fs ss
+  pub is : plantingIn a i ks fs ss next ≡ foldl plantCode plantingStart (take i codes)
+
+plant-next : (σ₀ : Planting) (l : List ℕ) (i : ℕ) {σ r : Planting} → r ≡ plantCode σ (getD l i 0) → σ ≡ foldl plantCode σ₀ (take i l) → i < length l → r ≡ foldl plantCode σ₀ (take (i + 1) l)
+plant-next σ₀ l i q e h = q ∙ ap (λ (s : Planting). plantCode s (getD l i 0)) e ∙ rw (add-one i, take-suc l i 0 h) (sym (foldl-append plantCode σ₀ (take i l) (getD l i 0 ∷ [])))
+
+module _ {codes : List ℕ} {n : ℕ} {a ks fs ss : List ℕ} where
+  pub planting-start : Sized a ks fs ss → PlantingAt codes n a ks fs ss 0 0
+  unfolding entries
+  planting-start sized = record { passed = omega arith; most = omega arith; sized = sized; is = refl }
+
+  module _ {next i : ℕ} (now : PlantingAt codes n a ks fs ss next i) where
+    pub planting-more : {a′ ks′ fs′ ss′ : List ℕ} {r : ℕ} → i < n → n ≤ 2048 → length codes ≡ 2048 → Sized a′ ks′ fs′ ss′
+        → plantingIn a′ (i + 1) ks′ fs′ ss′ r ≡ plantCode (plantingIn a i ks fs ss next) (getD codes i 0) → r ≤ next + 1 → PlantingAt codes n a′ ks′ fs′ ss′ r (i + 1)
+    planting-more h few full sized step one =
+        record { passed = omega arith; most = omega (arith, now .most); sized = sized; is = plant-next plantingStart codes i step (now .is) (omega arith) }
+
+    pub planting-end : n ≤ i → PlantedTo codes n a ks fs ss next
+    planting-end h =
+        let end : i ≡ n = omega (arith, now .passed) in
+        let ran = rw end at (now .is) in
+        record { leaves = λ f p. record { tree = planted-tree f (p .over) (p .codes-are) ran; records = planted-records f (p .over) (p .codes-are) ran } }

@@ -1,16 +1,13 @@
 // Builds the dwarf tree of a formula from its codes in postfix order: leaves numbered, then rounds while more than one node remains.
 use tree_tokens::Extent;
 ghost use mathlib.Core.Path.{_≡_};
-ghost use mathlib.Core.List.{[]};
 ghost use Prim.Native.Nat.{_+_, _≤_, _<_};
 ghost use lib.ListN.{length};
 ghost use Rattle.formula.specs.Formula.{Formula};
-ghost use Rattle.contraction.specs.Rounds.{Work, roundMakes, roundLeaves, planted, leafRecs};
-ghost use Rattle.contraction.specs.Steps.{entries};
-ghost use Rattle.tree_tokens.specs.Tokens.{flat, toks, Shelves, Sized, Leaves};
+ghost use Rattle.tree_tokens.specs.Tokens.{Shelves, Sized};
 ghost use Rattle.tree_rake.specs.Steps.{Lengths};
 ghost use Rattle.tree_dwarf.specs.Dwarfed.{Plans, Planned, Dwarfed};
-ghost use Rattle.tree_dwarf.specs.Steps.{plantCode, plantingIn, IsTree, Contracted, Bounded};
+ghost use Rattle.tree_dwarf.specs.Steps.{plantCode, plantingIn, PlantedTo, Rooted, RoundTo, ContractedTo, Bounded};
 
 // What a dwarf tree is told by, besides its records.
 pub struct Figures {
@@ -64,8 +61,7 @@ fn plant(
     requires { ⌜ Sized (now a) (now kinds) (now firsts) (now seconds) ⌝ }
     requires { ⌜ (length (now codes) ≡ 2048) × (n ≤ 2048) ⌝ }
     ensures { λ _. ⌜ Sized (now (a .exit)) (now (kinds .exit)) (now (firsts .exit)) (now (seconds .exit)) ⌝ }
-    ensures { λ r. ⌜ ((f : Formula) → Plans f (now (codes .entry)) n
-        → Leaves (planted f 0) [] (leafRecs f) (now (a .exit)) (now (kinds .exit)) (now (firsts .exit)) (now (seconds .exit)) (record { at = n; next = r })) ⌝ }
+    ensures { λ r. ⌜ PlantedTo (now (codes .entry)) n (now (a .exit)) (now (kinds .exit)) (now (firsts .exit)) (now (seconds .exit)) r ⌝ }
 {
     let mut next: u16 = 0;
     let mut i: usize = 0;
@@ -89,12 +85,10 @@ fn round(
     next: u16,
 ) -> Extent
     requires { ⌜ (length (now a) ≡ 2048) × Lengths (now b) (now st) (now kinds) (now firsts) (now seconds) ⌝ }
-    requires { ⌜ (1 < n) × (n ≤ 2048) × (next + n ≤ 3072) × IsTree (toks (now a) n) ⌝ }
+    requires { ⌜ (1 < n) × Rooted (now a) n next ⌝ }
     ensures { λ _. ⌜ (length (now (a .exit)) ≡ 2048) × Lengths (now (b .exit)) (now (st .exit)) (now (kinds .exit)) (now (firsts .exit)) (now (seconds .exit)) ⌝ }
-    ensures { λ r. ⌜ (r .at < n) × (r .next + r .at ≤ next + n) ⌝ }
-    ensures { λ r. ⌜ ((w : Work) → toks (now (a .entry)) n ≡ flat w
-        → Leaves (roundLeaves w next) (entries (now (kinds .entry)) (now (firsts .entry)) (now (seconds .entry)) 0 next) (roundMakes w next)
-        (now (a .exit)) (now (kinds .exit)) (now (firsts .exit)) (now (seconds .exit)) r) ⌝ }
+    ensures { λ r. ⌜ RoundTo (now (a .entry)) n next (now (kinds .entry)) (now (firsts .entry)) (now (seconds .entry))
+        (now (a .exit)) (now (kinds .exit)) (now (firsts .exit)) (now (seconds .exit)) r ⌝ }
 {
     let m = tree_rake::rake(a, n, b, st, kinds, firsts, seconds, next);
     let at = m.at;
@@ -112,11 +106,9 @@ fn contract(
     next: u16,
 ) -> Done
     requires { ⌜ Sized (now a) (now kinds) (now firsts) (now seconds) ⌝ }
-    requires { ⌜ (n ≤ 2048) × (next + n ≤ 3072) × IsTree (toks (now a) n) ⌝ }
-    ensures { λ r. ⌜ Shelves (now (kinds .exit)) (now (firsts .exit)) (now (seconds .exit)) × (r .nodes ≤ 3072) ⌝ }
-    ensures { λ r. ⌜ ((w : Work) → toks (now (a .entry)) n ≡ flat w
-        → Contracted w next (entries (now (kinds .entry)) (now (firsts .entry)) (now (seconds .entry)) 0 next)
-        (entries (now (kinds .exit)) (now (firsts .exit)) (now (seconds .exit)) 0 (r .nodes)) (r .rounds)) ⌝ }
+    requires { ⌜ Rooted (now a) n next ⌝ }
+    ensures { λ r. ⌜ ContractedTo (now (a .entry)) n next (now (kinds .entry)) (now (firsts .entry)) (now (seconds .entry))
+        (now (kinds .exit)) (now (firsts .exit)) (now (seconds .exit)) (r .nodes) (r .rounds) ⌝ }
 {
     let mut b = [0u16; 2048];
     let mut st = [0u16; 2048];

@@ -1,7 +1,7 @@
 // The height of a dwarf tree, by one pass over its records.
 ghost use mathlib.Core.Path.{_≡_};
 ghost use Prim.Native.Nat.{_+_, _≤_, _<_, max};
-ghost use lib.ListN.{length, getD, take};
+ghost use lib.ListN.{getD, take};
 ghost use Rattle.contraction.specs.Height.{height as heightOf, path as pathOf};
 ghost use Rattle.contraction.specs.Steps.{entry, recOf, recs};
 ghost use Rattle.tree_tokens.specs.Tokens.{Shelves};
@@ -15,7 +15,7 @@ fn larger(a: u16, b: u16) -> u16
 
 // A step to node c, and the longest path from there. Of nodes not yet worked out nothing is known: no record stands over one.
 fn through(paths: &[u16; 3072], i: usize, c: u16) -> u16
-    requires { ⌜ (length (now paths) ≡ 3072) × (i < 3072) × Low i (now paths) ⌝ }
+    requires { ⌜ (i < 3072) × Low i (now paths) ⌝ }
     ensures { λ r. ⌜ (r ≡ getD (take i (now (paths .entry))) c 0 + 1) × (r ≤ i + 1) ⌝ }
 {
     let j = c as usize;
@@ -24,7 +24,7 @@ fn through(paths: &[u16; 3072], i: usize, c: u16) -> u16
 
 // The longest path down through either of two nodes.
 fn through_both(paths: &[u16; 3072], i: usize, first: u16, second: u16) -> u16
-    requires { ⌜ (length (now paths) ≡ 3072) × (i < 3072) × Low i (now paths) ⌝ }
+    requires { ⌜ (i < 3072) × Low i (now paths) ⌝ }
     ensures { λ r. ⌜ (r ≡ max (getD (take i (now (paths .entry))) first 0 + 1) (getD (take i (now (paths .entry))) second 0 + 1)) × (r ≤ i + 1) ⌝ }
 {
     let a = through(paths, i, first);
@@ -34,7 +34,7 @@ fn through_both(paths: &[u16; 3072], i: usize, first: u16, second: u16) -> u16
 
 // The longest path down from the node i with this record.
 fn path(paths: &[u16; 3072], i: usize, kind: u16, first: u16, second: u16) -> u16
-    requires { ⌜ (length (now paths) ≡ 3072) × (i < 3072) × Low i (now paths) ⌝ }
+    requires { ⌜ (i < 3072) × Low i (now paths) ⌝ }
     ensures { λ r. ⌜ (r ≡ pathOf (take i (now (paths .entry))) (recOf (entry kind first second))) × (r ≤ i + 1) ⌝ }
 {
     match kind {

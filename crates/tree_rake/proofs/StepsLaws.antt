@@ -9,8 +9,9 @@ use lib.Seq.{getD-set-same, getD-set-other}
 use Rattle.contraction.specs.Steps.{Entry, entry, entries}
 use Rattle.tree_tokens.specs.Tokens.{decode, present, toks}
 use Rattle.tree_tokens.proofs.TokensLaws.{toks-next, decode-bare, decode-single, decode-double, decode-new, present-none, present-some}
-use Rattle.tree_rake.specs.Steps.{Raking, kept, makes, rakeToken, operands, rakingIn}
+use Rattle.tree_rake.specs.Steps.{Raking, kept, makes, rakeToken, operands, rakingIn, rakingStart, Lengths, RakingStep, RakedTo}
 use Rattle.tree_rake.specs.declared.RakingMarks.{RakingMarks}
+use Rattle.tree_rake.proofs.Trees.{raked-tree, raked-records}
 
 -- ---- the stack
 operands-keep : (l : List ℕ) (i v n : ℕ) → n ≤ i → operands (set l i v) n ≡ operands l n
@@ -82,6 +83,40 @@ module _ (out st ks fs ss : List ℕ) (m : RakingMarks) (t : ℕ) where
   pub bare-step : m .top < length st → t < 4096 → rakingIn out (set st (m .top) t) ks fs ss (record { top = m .top + 1; at = m .at; next = m .next }) ≡ rakeToken σ (decode t)
   bare-step b h = rw (operands-push st (m .top) t b, decode-bare t h, present-some t (λ q. omega arith))
 
--- ---- the loop: σ is the state after i tokens, and r one step on
-pub run-next : (σ₀ : Raking) (l : List ℕ) (i : ℕ) {σ r : Raking} → r ≡ rakeToken σ (decode (getD l i 0)) → σ ≡ foldl rakeToken σ₀ (toks l i) → i < length l → r ≡ foldl rakeToken σ₀ (toks l (i + 1))
+-- ---- the loop: the arrays hold what the steps come to after the first i tokens, and no mark has gone further than i
+pub record RakingAt (tokens : List ℕ) (n next : ℕ) (ks₀ fs₀ ss₀ out st ks fs ss : List ℕ) (m : RakingMarks) (i : ℕ) : Type 0 where
+  pub passed : i ≤ n
+  pub top : m .top ≤ i
+  pub at : m .at ≤ i
+  pub more : m .next ≤ next + i
+  pub lengths : Lengths out st ks fs ss
+  pub is : rakingIn out st ks fs ss m ≡ foldl rakeToken (rakingStart ks₀ fs₀ ss₀ next) (toks tokens i)
+
+run-next : (σ₀ : Raking) (l : List ℕ) (i : ℕ) {σ r : Raking} → r ≡ rakeToken σ (decode (getD l i 0)) → σ ≡ foldl rakeToken σ₀ (toks l i) → i < length l → r ≡ foldl rakeToken σ₀ (toks l (i + 1))
 run-next σ₀ l i q e h = q ∙ ap (λ (s : Raking). rakeToken s (decode (getD l i 0))) e ∙ rw (toks-next l i h) (sym (foldl-append rakeToken σ₀ (toks l i) (decode (getD l i 0) ∷ [])))
+
+module _ {tokens : List ℕ} {n next : ℕ} {out st ks fs ss : List ℕ} where
+  pub raking-start : Lengths out st ks fs ss → RakingAt tokens n next ks fs ss out st ks fs ss (record { top = 0; at = 0; next = next }) 0
+  raking-start long = record { passed = omega arith; top = omega arith; at = omega arith; more = omega arith; lengths = long; is = refl }
+
+  module _ {ks₀ fs₀ ss₀ : List ℕ} {m : RakingMarks} {i : ℕ} (now : RakingAt tokens n next ks₀ fs₀ ss₀ out st ks fs ss m i) where
+    pub raking-next : {out′ st′ ks′ fs′ ss′ : List ℕ} {r : RakingMarks} → i < n → n ≤ 2048 → length tokens ≡ 2048 → Lengths out′ st′ ks′ fs′ ss′
+        → RakingStep (rakeToken (rakingIn out st ks fs ss m) (decode (getD tokens i 0))) (rakingIn out′ st′ ks′ fs′ ss′ r) m r
+        → RakingAt tokens n next ks₀ fs₀ ss₀ out′ st′ ks′ fs′ ss′ r (i + 1)
+    raking-next h few full long step =
+        record {
+          passed = omega arith;
+          top = omega (arith, now .top, step .top);
+          at = omega (arith, now .at, step .at);
+          more = omega (arith, now .more, step .next);
+          lengths = long;
+          is = run-next _ tokens i (step .is) (now .is) (omega arith);
+        }
+
+-- at the end they hold what rake leaves of the tree
+pub raking-end : {tokens : List ℕ} {n next : ℕ} {ks₀ fs₀ ss₀ out st ks fs ss : List ℕ} {m : RakingMarks} {i : ℕ} → RakingAt tokens n next ks₀ fs₀ ss₀ out st ks fs ss m i → n ≤ i
+    → RakedTo tokens n next ks₀ fs₀ ss₀ out ks fs ss (record { at = m .at; next = m .next })
+raking-end {n = n} {next} {ks₀} {fs₀} {ss₀} {i = i} now h =
+    let end : i ≡ n = omega (arith, now .passed) in
+    let rs = entries ks₀ fs₀ ss₀ 0 next in
+    record { leaves = λ w e many. record { tree = raked-tree w rs next many e (rw end at (now .is)); records = raked-records w rs next many e (rw end at (now .is)) } }

@@ -1,12 +1,15 @@
 -- Rake on tokens, one at a time: what the pass keeps. `proofs/Trees.antt` ties it to the tree's step.
 use Prim.Native.Nat.{ℕ, zero, suc, _+_, _≤_, _<_}
 use mathlib.Core.Path.{_≡_}
+use mathlib.Core.Bool.{false}
 use mathlib.Core.List.{List, [], _∷_, _++_}
 use mathlib.Core.Option.{Option, none, some}
 use lib.ListN.{length, getD}
 use Rattle.contraction.specs.Records.{absent, S-rec}
+use Rattle.contraction.specs.Rounds.{Work, oneRemains, rakes, raked}
 use Rattle.contraction.specs.Steps.{Entry, entry, entries, entryOf}
-use Rattle.tree_tokens.specs.Tokens.{Token, bare, single, double, present, toks, Sized}
+use Rattle.tree_tokens.specs.Tokens.{Token, bare, single, double, present, flat, toks, Sized, Leaves}
+use Rattle.tree_tokens.specs.declared.Extent.{Extent}
 use Rattle.tree_rake.specs.declared.RakingMarks.{RakingMarks}
 
 -- The operands that wait, the last one first: a leaf as the round found it, with its dwarf root, is raked, and was not put out;
@@ -78,3 +81,7 @@ pub record RakingStep (due σ : Raking) (m r : RakingMarks) : Type 0 where
   pub top : r .top ≤ m .top + 1
   pub at : r .at ≤ m .at + 1
   pub next : r .next ≤ m .next + 1
+
+-- What the pass leaves of any tree, no single leaf, whose tokens are the first n.
+pub record RakedTo (tokens : List ℕ) (n next : ℕ) (ks fs ss out ks′ fs′ ss′ : List ℕ) (r : Extent) : Type 0 where
+  pub leaves : (w : Work) → toks tokens n ≡ flat w → oneRemains w ≡ false → Leaves (raked w next) (entries ks fs ss 0 next) (rakes w) out ks′ fs′ ss′ r

@@ -1,14 +1,12 @@
 // Rake: takes every leaf of a tree away, judged as the round found it, in one pass over its tokens.
 use tree_tokens::Extent;
 ghost use mathlib.Core.Path.{_≡_};
-ghost use mathlib.Core.Bool.{false};
 ghost use mathlib.Core.List.{List};
 ghost use Prim.Native.Nat.{ℕ, _+_, _≤_, _<_};
 ghost use lib.ListN.{length};
-ghost use Rattle.contraction.specs.Rounds.{Work, oneRemains, rakes, raked};
-ghost use Rattle.contraction.specs.Steps.{entry, entries};
-ghost use Rattle.tree_tokens.specs.Tokens.{decode, flat, toks, Leaves};
-ghost use Rattle.tree_rake.specs.Steps.{kept, makes, rakeToken, rakingIn, Lengths, RakingRoom, RakingStep};
+ghost use Rattle.contraction.specs.Steps.{entry};
+ghost use Rattle.tree_tokens.specs.Tokens.{decode};
+ghost use Rattle.tree_rake.specs.Steps.{kept, makes, rakeToken, rakingIn, Lengths, RakingRoom, RakingStep, RakedTo};
 
 // How far the stack, the tokens out and the records are filled.
 struct RakingMarks {
@@ -194,9 +192,8 @@ pub fn rake(
     requires { ⌜ (length (now tokens) ≡ 2048) × (n ≤ 2048) × (next + n ≤ 3072) ⌝ }
     ensures { λ _. ⌜ Lengths (now (out .exit)) (now (st .exit)) (now (kinds .exit)) (now (firsts .exit)) (now (seconds .exit)) ⌝ }
     ensures { λ r. ⌜ r .at ≤ n ⌝ }
-    ensures { λ r. ⌜ ((w : Work) → toks (now (tokens .entry)) n ≡ flat w → oneRemains w ≡ false
-        → Leaves (raked w next) (entries (now (kinds .entry)) (now (firsts .entry)) (now (seconds .entry)) 0 next) (rakes w)
-        (now (out .exit)) (now (kinds .exit)) (now (firsts .exit)) (now (seconds .exit)) r) ⌝ }
+    ensures { λ r. ⌜ RakedTo (now (tokens .entry)) n next (now (kinds .entry)) (now (firsts .entry)) (now (seconds .entry))
+        (now (out .exit)) (now (kinds .exit)) (now (firsts .exit)) (now (seconds .exit)) r ⌝ }
 {
     let mut m = RakingMarks {
         top: 0,

@@ -1,8 +1,6 @@
 -- `cross_balls::mark_at` meets its contract: a mark of the number read.
-use mathlib.Core.Path.{_∙_}
-use mir.Syntax.{w32}
-use mir.ValLaws.{toZ-ofZ}
 use borrow.Author.Needs.{needs}
+use Rattle.cross_balls.proofs.LentLaws.{as-read}
 use Rattle.cross_balls.proofs.mark_at.Statement.{statement}
 use Rattle.cross_balls.proofs.mark_at.Tie as tie
 
@@ -16,7 +14,7 @@ mark-of-requires : tie.Need-mark-of-requires
 mark-of-requires c κs = search needs
 
 returns : tie.Need-returns
-returns c = c .mark-of .ensures ∙ toZ-ofZ w32 _ (record { sfits = c .before .mark-of-arg .given })
+returns c = search as-read
 
 pub mark-at-spec : {M : Type 1} → statement M
 mark-at-spec =

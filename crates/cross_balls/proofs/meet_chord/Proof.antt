@@ -1,7 +1,5 @@
 -- `cross_balls::meet_chord` meets its contract: the difference is negative, or the half chord is 0, or the two sides are the centre less and plus it.
-use Rattle.cross_balls.proofs.BallLaws.{chord-missed, half-small, chord-none, chord-two}
-use native.Mathlib.Omega.{arith}
-use Prim.Native.Nat.{_≤_}
+use Rattle.cross_balls.proofs.BallLaws.{chord-missed, first-fits, last-fits, last-long, chord-none, chord-two}
 use borrow.Author.Needs.{needs}
 use Rattle.cross_balls.proofs.meet_chord.Statement.{statement}
 use Rattle.cross_balls.proofs.meet_chord.Tie as tie
@@ -31,16 +29,16 @@ long-word-requires : tie.Need-long-word-requires
 long-word-requires c κs = search needs
 
 sub-mark-in : tie.Need-sub-mark-in
-sub-mark-in c = let h : c .before .before .root .result ≤ 1000000 = search half-small in omega arith
+sub-mark-in c = search first-fits
 
 mark-in-requires : tie.Need-mark-in-requires
 mark-in-requires c κs = search needs
 
 add-mark-in : tie.Need-add-mark-in
-add-mark-in c = let h : c .before .before .before .root .result ≤ 1000000 = search half-small in omega arith
+add-mark-in c = search last-long
 
 mark-in-requires-2 : tie.Need-mark-in-requires-2
-mark-in-requires-2 c κs = let h : c .before .before .before .root .result ≤ 1000000 = search half-small in omega arith
+mark-in-requires-2 c κs = search last-fits
 
 returns-3 : tie.Need-returns-3
 returns-3 c = search (chord-two, needs)

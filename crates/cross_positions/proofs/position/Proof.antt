@@ -1,7 +1,5 @@
 -- `cross_positions::position` meets its contract: the distance, rounded.
-use mathlib.Core.Path.{ap, _∙_}
-use Rattle.cross_positions.specs.Positions.{nearestWhole, inRange}
-use lib.Ieee.{Float}
+use Rattle.cross_positions.proofs.Rounding.{at-distance}
 use borrow.Author.Needs.{needs}
 use Rattle.cross_positions.proofs.position.Statement.{statement}
 use Rattle.cross_positions.proofs.position.Tie as tie
@@ -13,7 +11,7 @@ rounded-requires : tie.Need-rounded-requires
 rounded-requires c κs = search needs
 
 returns : tie.Need-returns
-returns c = c .rounded .ensures ∙ ap (λ (y : Float). inRange (nearestWhole y)) (c .before .distance-to .ensures)
+returns c = search at-distance
 
 pub position-spec : {M : Type 1} → statement M
 position-spec = tie.close (tie.spec distance-to-requires rounded-requires returns)

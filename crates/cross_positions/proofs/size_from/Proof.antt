@@ -1,6 +1,6 @@
 -- `cross_positions::size_from` meets its contract: below a half, from 2 ^ 31 on, and in between.
-use Rattle.cross_positions.proofs.Rounding.{size-small, size-large, size-middle}
-use mathlib.Core.Path.{sym, _∙_}
+use Rattle.cross_positions.proofs.Rounding.{size-small, size-large, middle-exit}
+use mathlib.Core.Path.{sym}
 use borrow.Author.Needs.{needs}
 use Rattle.cross_positions.proofs.size_from.Statement.{statement}
 use Rattle.cross_positions.proofs.size_from.Tie as tie
@@ -21,7 +21,7 @@ halved-requires : tie.Need-halved-requires
 halved-requires c κs = search needs
 
 returns-3 : tie.Need-returns-3
-returns-3 c = c .halved .ensures ∙ sym (size-middle _ _ (c .before .before .if1 .left) (c .before .if2 .left))
+returns-3 c = search middle-exit
 
 pub size-from-spec : {M : Type 1} → statement M
 size-from-spec =

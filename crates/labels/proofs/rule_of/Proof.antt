@@ -29,9 +29,7 @@ element-copy-out-result : tie.Need-element-copy-out-result
 element-copy-out-result c = search (in-table, needs)
 
 returns : tie.Need-returns
-returns c =
-    let args = c .before .before .before .before .before .before .before .args in
-    looked-up (args .rules .now) {kind = args .kind} {x = args .x} {y = args .y} (search needs) (search needs) (search needs) (search needs) (search needs) (search needs) (search needs)
+returns c = search (looked-up, needs)
 
 label-requires : tie.Need-label-requires
 label-requires c κs = search needs

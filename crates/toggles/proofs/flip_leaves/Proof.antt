@@ -3,7 +3,7 @@ use Prim.Native.Nat.{_-_}
 use borrow.Author.Needs.{needs}
 use Rattle.labels.proofs.Links.{next-after, parent-after}
 use Rattle.toggles.proofs.Upwards.{nearer}
-use Rattle.toggles.proofs.Flipping.{leaf-inside, Flipping, flipping-start, flipping-on, flipping-end}
+use Rattle.toggles.proofs.Flipping.{leaf-inside, Flipping, flipping-start, flipping-more, flipping-end}
 use Rattle.toggles.proofs.flip_leaves.Statement.{statement}
 use Rattle.toggles.proofs.flip_leaves.Tie as tie
 
@@ -59,7 +59,7 @@ loop-less : tie.Need-loop-less Inv-loop μ-loop
 loop-less c = search (nearer, next-after, parent-after, leaf-inside)
 
 loop-again : tie.Need-loop-again Inv-loop μ-loop
-loop-again c = search (flipping-on, c .before .before .mark-node .ensures, c .before .before .before .before .before .before .before .before .before .loop .inv)
+loop-again c = search flipping-more
 
 returns : tie.Need-returns Inv-loop μ-loop
 returns c = search flipping-end

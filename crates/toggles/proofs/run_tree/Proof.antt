@@ -1,6 +1,6 @@
 -- `toggles::run_tree` meets its contract.
 use borrow.Author.Needs.{needs}
-use Rattle.toggles.proofs.RanLaws.{run-nodes, ran}
+use Rattle.toggles.proofs.RanLaws.{run-list, ran}
 use Rattle.toggles.proofs.run_tree.Statement.{statement}
 use Rattle.toggles.proofs.run_tree.Tie as tie
 
@@ -10,8 +10,9 @@ fill-tables-requires c κs = search needs
 toggle-each-requires : tie.Need-toggle-each-requires
 toggle-each-requires c κs = search needs
 
+-- what is asked at the entry lies far back: `search` reaches it only if nothing else is in scope
 copy-labels-requires : tie.Need-copy-labels-requires
-copy-labels-requires c κs = let asked = c .before .before .before .before .before .before .before .before .before .before .before .before .before .before .before .before .before .before .before .before .before .before .before .before .pre in (run-nodes asked, asked .for-labels)
+copy-labels-requires c _ = search run-list
 
 same-length : tie.Need-same-length
 same-length c = search needs

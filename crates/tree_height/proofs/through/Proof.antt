@@ -1,18 +1,17 @@
 -- `tree_height::through` meets its contract. Assumes nothing.
-use native.Mathlib.Omega.{arith}
-use Rattle.tree_height.proofs.PathLaws.{through-known, through-past}
+use Rattle.tree_height.proofs.PathLaws.{through-known, through-past, through-low, through-fits}
 use borrow.Author.Needs.{needs}
 use Rattle.tree_height.proofs.through.Statement.{statement}
 use Rattle.tree_height.proofs.through.Tie as tie
 
 add-result : tie.Need-add-result
-add-result c = omega (arith, c .before .before .pre .2 (c .before .before .args .c) (omega arith))
+add-result c = search (through-fits, needs)
 
 returns : tie.Need-returns
-returns c = (search (through-known, needs), omega (arith, c .before .before .pre .2 (c .before .before .args .c) (omega arith)))
+returns c = search (through-known, through-low, needs)
 
 returns-2 : tie.Need-returns-2
-returns-2 c = (search (through-past, needs), search needs)
+returns-2 c = search (through-past, needs)
 
 pub through-spec : {M : Type 1} → statement M
 through-spec = tie.close (tie.spec (λ c. search needs) (λ c. search needs) add-result returns returns-2)
