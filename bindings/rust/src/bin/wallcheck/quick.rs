@@ -1,7 +1,6 @@
 //! Millions of crossings: no row takes memory of its own, and what is not the library's takes at most twice as long as a plain pass.
 //!
-//! Times are of the tests' profile, whose checks slow the plain pass more than the rest: compiled for release the ratio is higher, and
-//! `docs/BINDINGS.md` has it.
+//! A time is no test: `cargo test --offline --release --bin wallcheck -- --ignored --nocapture` measures it.
 
 use crate::line_jobs::walls_of;
 use crate::lists::{crossings, Shapes};
@@ -100,9 +99,12 @@ fn timed<T>(job: impl FnOnce() -> T) -> (Duration, T) {
     (began.elapsed(), done)
 }
 
+const LINES: usize = 500_000;
+
 #[test]
+#[ignore = "measures a time"]
 fn at_most_twice_a_plain_pass() {
-    let (text, pump) = (many(30_000), pump());
+    let (text, pump) = (many(LINES), pump());
     let shapes = Shapes::of(&NAMES);
     let list = crossings(&text, &shapes).unwrap().entries;
     let columns: (Vec<u32>, Vec<i32>, Vec<u16>) = (
@@ -110,7 +112,7 @@ fn at_most_twice_a_plain_pass() {
         list.iter().map(|crossing| crossing.position).collect(),
         list.iter().map(|crossing| crossing.shape).collect(),
     );
-    let (rows, room) = (vec![0; 30_000 * NAMES.len()], list.len() / 2 + 30_000);
+    let (rows, room) = (vec![0; LINES * NAMES.len()], list.len() / 2 + LINES);
     let mut best = [Duration::MAX; 3];
     for _ in 0..9 {
         let whole = timed(|| {
