@@ -12,6 +12,7 @@ use Rattle.formula.specs.Formula.{firstOperation}
 use Rattle.formula.specs.States.{toggledBy}
 use Rattle.contraction.specs.Rounds.{dwarf}
 use Rattle.labels.specs.Labels.{labels}
+use Rattle.labels.proofs.Held.{held-shaped}
 use Rattle.toggles.specs.Toggles.{Steps, steps}
 use Rattle.edits.specs.Edits.{nodeAt}
 use Rattle.edits.specs.Changes.{operations}
@@ -21,7 +22,7 @@ use Rattle.edit_labels.specs.Edited.{NodeOf, Editable, EditLeft, EditDone}
 use Rattle.edit_labels.proofs.EditedLaws.{edit-labels}
 use Rattle.edit_run.specs.Edits.{Edit, after, editedBy, editCounts}
 use Rattle.edit_run.specs.Ran.{Rises}
-use Rattle.edit_run.specs.Steps.{Desk, desk, waiting, Plan, At, Running, running, CanAct, can-act, OneDone, ActsDone, acts-done}
+use Rattle.edit_run.specs.Steps.{Desk, desk, waiting, Plan, At, Running, running, CanAct, can-act, OneDone, Standing, ActsDone, acts-done}
 use Rattle.edit_run.proofs.Lists.{editAt, waiting-here, waiting-none, kept-operations, position-small, by-now}
 
 -- ---- one edit
@@ -181,3 +182,10 @@ module _ {d : Desk} {m from : ℕ} {ks₀ ls₀ counts₀ : List ℕ} where
       where
         go : Running d m k ks ls counts → Rises (suc m) (waiting d k)
         go (running p a) = rw (waiting-none d (a .listed) k h) tt
+
+module _ {rules fs xs : List ℕ} {leaves nodes : ℕ} {parents places ms ps cs : List ℕ} {m from k : ℕ} {ks₀ ls₀ counts₀ ks ls counts : List ℕ} where
+  pub acting-stands : Acting (desk rules fs xs leaves nodes parents places ms ps cs) m from ks₀ ls₀ counts₀ k ks ls counts → Standing rules ks fs xs leaves nodes parents ls
+  acting-stands g = go (g .some)
+    where
+      go : Running (desk rules fs xs leaves nodes parents places ms ps cs) m k ks ls counts → Standing rules ks fs xs leaves nodes parents ls
+      go (running p a) = record { ruled = a .ruled; linked = record { shaped = held-shaped ks fs xs leaves nodes (a .now) (a .holds); ups = a .ups }; long = a .long }

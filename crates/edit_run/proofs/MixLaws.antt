@@ -20,12 +20,11 @@ use Rattle.labels.proofs.Root.{root-label}
 use Rattle.labels.proofs.Held.{held-records, held-shaped}
 use Rattle.toggles.specs.Toggles.{Steps, steps, toggle}
 use Rattle.toggles.specs.Ran.{ToggleRoom}
-use Rattle.toggles.specs.Steps.{Toggles}
 use Rattle.toggles.proofs.Runs.{toggle-more}
 use Rattle.edit_labels.proofs.ArrayLaws.{chains-kept}
 use Rattle.edit_run.specs.Edits.{editedBy, rootsAfter, countsAfter, editCounts}
 use Rattle.edit_run.specs.Ran.{Rises}
-use Rattle.edit_run.specs.Steps.{Desk, desk, waiting, Plan, At, Running, running, ActsDone, acts-done, plan, Begun, begun, CanToggle, ToggleDone, CanTurn, can-turn, Told, TurnDone, turn-done, MixLeft, MixDone}
+use Rattle.edit_run.specs.Steps.{Desk, desk, waiting, Plan, At, Running, running, Standing, ActsDone, acts-done, plan, Begun, begun, CanToggle, ToggleDone, CanTurn, can-turn, TurnHere, Told, TurnDone, turn-done, MixLeft, MixDone}
 use Rattle.edit_run.proofs.Lists.{waiting-here, waiting-none, by-later}
 
 -- ---- one toggle, where every edit that waits is of a later moment
@@ -123,10 +122,12 @@ module _ {d : Desk} {hs ns toggles : List ℕ} {i k : ℕ} {ks ls roots counts e
       go (begun f lent a) = running (plan f toggles lent) a
 
   -- the edits and then the toggle have acted
-  pub turned-on : {r : ℕ} {ks′ ls′ edits′ ls″ roots′ counts′ : List ℕ} → CanTurn d hs ns toggles i k ks ls roots counts edits → ActsDone d i k r ks ls edits ks′ ls′ edits′ → i < length toggles
+  pub turned-on : {r : ℕ} {ks′ ls′ edits′ ls″ roots′ counts′ : List ℕ} → TurnHere d hs ns toggles i k ks ls roots counts edits → ActsDone d i k r ks ls edits ks′ ls′ edits′
       → ToggleDone ks′ (d .firsts) (d .seconds) (d .nodes) toggles i ls′ roots counts ls″ roots′ counts′
       → TurnDone d hs ns toggles i k r ks ls roots counts edits ks′ ls″ roots′ counts′ edits′
-  turned-on {r} {ks′} {ls′} {edits′} {ls″} g acts h t =
+  turned-on {r} {ks′} {ls′} {edits′} {ls″} given acts t =
+      let g = given .can in
+      let h = given .here in
       let x = last (take (d .nodes) ls″) in
       let room = turn-room g in
       rw (t .roots-are, t .counts-are)
@@ -141,30 +142,24 @@ module _ {d : Desk} {hs ns toggles : List ℕ} {i k : ℕ} {ks ls roots counts e
       (λ f lent roots₀ counts₀ a s. told (acts-so acts (plan f toggles lent) a) (acts-later acts) h ls″ refl (t .long) (t .is) refl s))
     where
       go : Begun d toggles i r ks′ ls′ edits′ → Begun d toggles (i + 1) r ks′ ls″ edits′
-      go (begun f lent a) = begun f lent (toggled a (acts-later acts) h ls″ refl (t .long) (t .is))
+      go (begun f lent a) = begun f lent (toggled a (acts-later acts) (given .here) ls″ refl (t .long) (t .is))
 
-module _ {rules fs xs : List ℕ} {leaves nodes : ℕ} {ps places ms pos cs hs ns toggles : List ℕ} {i k : ℕ} {ks ls roots counts edits : List ℕ}
-    (g : CanTurn (desk rules fs xs leaves nodes ps places ms pos cs) hs ns toggles i k ks ls roots counts edits)
-    {r : ℕ} {ks′ ls′ edits′ : List ℕ} (acts : ActsDone (desk rules fs xs leaves nodes ps places ms pos cs) i k r ks ls edits ks′ ls′ edits′) where
-  pub turn-toggle : i < length toggles → CanToggle rules ks′ fs xs leaves nodes ps hs ns ls′ toggles roots counts i
-  turn-toggle h = go (acts-begun acts (turn-begun g))
+module _ {rules fs xs : List ℕ} {leaves nodes : ℕ} {ps places ms pos cs hs ns toggles : List ℕ} {i k : ℕ} {ks ls roots counts edits ks′ ls′ : List ℕ} where
+  pub turn-toggle : Standing rules ks′ fs xs leaves nodes ps ls′ → TurnHere (desk rules fs xs leaves nodes ps places ms pos cs) hs ns toggles i k ks ls roots counts edits
+      → CanToggle rules ks′ fs xs leaves nodes ps hs ns ls′ toggles roots counts i
+  turn-toggle s h =
+      let shaped = s .linked .shaped in
+      let room = turn-room (h .can) in
+      record {
+        toggles-so = record { ruled = s .ruled; ready = record { linked = s .linked; chains = go (turn-begun (h .can)) }; long = s .long; shape = room .named i };
+        answers = room;
+        here = h .here;
+        some = shaped .some;
+        room = shaped .room;
+      }
     where
-      go : Begun (desk rules fs xs leaves nodes ps places ms pos cs) toggles i r ks′ ls′ edits′ → CanToggle rules ks′ fs xs leaves nodes ps hs ns ls′ toggles roots counts i
-      go (begun f lent a) =
-          let shaped = held-shaped ks′ fs xs leaves nodes (a .now) (a .holds) in
-          record {
-            toggles-so =
-                record {
-                  ruled = a .ruled;
-                  ready = record { linked = record { shaped = shaped; ups = a .ups }; chains = acts-chains acts (turn-begun g) (turn-chains g) };
-                  long = a .long;
-                  shape = turn-room g .named i;
-                };
-            answers = turn-room g;
-            here = h;
-            some = shaped .some;
-            room = shaped .room;
-          }
+      go : Begun (desk rules fs xs leaves nodes ps places ms pos cs) toggles i k ks ls edits → Chains ks′ fs xs leaves nodes hs ns
+      go (begun f lent a) = chains-kept ks ks′ fs xs leaves nodes hs ns (held-shaped ks fs xs leaves nodes (a .now) (a .holds)) (s .linked .shaped) (turn-chains (h .can))
 
 -- ---- the loop: i toggles and k edits have acted
 module _ (d : Desk) (hs ns toggles ks₀ ls₀ roots₀ counts₀ edits₀ : List ℕ) where
@@ -214,12 +209,6 @@ module _ {d : Desk} {hs ns toggles ks₀ ls₀ roots₀ counts₀ edits₀ : Lis
               let late = rw (waiting-here d (a .listed) r l) at (acts-later acts) in
               absurd (omega (arith, late .0, a .listed .in-time r l))
 
-      pub mixing-long : length ls′ ≡ 3072
-      mixing-long = go (acts-begun acts (turn-begun (g .can)))
-        where
-          go : Begun d toggles i r ks′ ls′ edits′ → length ls′ ≡ 3072
-          go (begun f lent a) = a .long
-
       pub mixing-end : length toggles ≤ i → MixDone d toggles ks₀ ls₀ roots₀ counts₀ edits₀ ls′ roots counts edits′
       mixing-end h = record { so = left }
         where
@@ -245,15 +234,6 @@ module _ {d : Desk} {hs ns toggles ks₀ ls₀ roots₀ counts₀ edits₀ : Lis
 -- ---- one toggle's function
 module _ {rules ks fs xs : List ℕ} {leaves nodes : ℕ} {ps hs ns ls toggles roots counts : List ℕ} {i : ℕ}
     (c : CanToggle rules ks fs xs leaves nodes ps hs ns ls toggles roots counts i) where
-  pub count-room : i < length counts
-  count-room = omega (arith, c .here, c .answers .for-counts)
-
-  pub root-room : i < length roots
-  root-room = omega (arith, c .here, c .answers .for-roots)
-
-  pub turned : {s : ℕ} → s ≡ getD toggles i 0 → Toggles rules ks fs xs leaves nodes ps hs ns ls s
-  turned e = rw e (c .toggles-so)
-
   pub toggle-done : {s n x : ℕ} {ls′ : List ℕ} → s ≡ getD toggles i 0 → length ls′ ≡ 3072 → steps (take nodes ls′) n ≡ toggle (recs ks fs xs 0 nodes) s (take nodes ls) → x ≡ last (take nodes ls′)
       → ToggleDone ks fs xs nodes toggles i ls roots counts ls′ (set roots i x) (set counts i n)
   toggle-done {s} {n} e long is root =

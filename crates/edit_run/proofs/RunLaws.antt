@@ -1,10 +1,10 @@
 -- A run with edits from its tables on, and what it leaves in the lent lists.
-use Prim.Native.Nat.{ℕ, suc, _+_, _-_, _<_, _≤_}
+use Prim.Native.Nat.{ℕ, suc, _-_, _<_, _≤_}
 use native.Mathlib.Nat.{zero-add}
 use native.Mathlib.Omega.{arith}
 use mathlib.Core.Path.{_≡_, refl, sym, ap, _∙_}
 use mathlib.Core.List.{List, [], _∷_, _++_}
-use lib.ListN.{length, getD, take, drop}
+use lib.ListN.{length, getD, drop}
 use lib.Seq.{sets, sets-eq}
 use Rattle.outcome.specs.Lent.{filled}
 use Rattle.formula.specs.Formula.{opAt, firstOperation, Formula, Over, postfix}
@@ -12,15 +12,14 @@ use Rattle.formula.specs.States.{outside}
 use Rattle.contraction.specs.Rounds.{dwarf}
 use Rattle.labels.specs.Labels.{labels}
 use Rattle.labels.specs.Arrays.{Tree}
-use Rattle.labels.specs.Steps.{Chains}
-use Rattle.labels.proofs.Held.{held-records, held-shaped}
+use Rattle.labels.proofs.Held.{held-records}
 use Rattle.toggles.specs.Steps.{Tables}
 use Rattle.toggles.proofs.Runs.{none-done}
 use Rattle.edits.proofs.Codes.{is-operation}
 use Rattle.edit_places.specs.Places.{Built, Buildable, PlacesFilled}
 use Rattle.edit_run.specs.Edits.{Edit, editsOf, after, rootsAfter, countsAfter, editCounts}
 use Rattle.edit_run.specs.Ran.{Operations, EditFits, EditRoom, edit-room, EditedRuns}
-use Rattle.edit_run.specs.Steps.{desk, At, plan, begun, CanTurn, can-turn, MixDone, Filled, filled-all}
+use Rattle.edit_run.specs.Steps.{desk, At, plan, begun, can-turn, CanRun, RunDone, RunFits, Runnable, RunsOf}
 
 -- ---- lengths
 pub length-roots : (f : Formula) (es : List Edit) (done ss : List ℕ) → length (rootsAfter f es done ss) ≡ length ss
@@ -47,16 +46,55 @@ all-operations f v (m ∷ ms) [] cs h = tt
 all-operations f v (m ∷ ms) (p ∷ ps) [] h = tt
 all-operations f v (m ∷ ms) (p ∷ ps) (c ∷ cs) h = (is-operation f v p (h 0 (omega arith)), all-operations f v ms ps cs (λ k l. h (suc k) (omega arith)))
 
--- ---- the tables
-module _ {formula : List ℕ} {n : ℕ} {ks fs ss : List ℕ} {leaves nodes : ℕ} where
-  pub buildable-tree : Buildable formula n ks fs ss leaves nodes → Tree ks fs ss leaves nodes
-  buildable-tree b = record { formula = b .formula; holds = b .built .holds }
+-- ---- the run, from the places on
+module _ {ks fs ss : List ℕ} {leaves nodes : ℕ} {places toggles ms ps cs roots counts list edits : List ℕ} where
+  pub runnable-tree : Runnable ks fs ss leaves nodes places toggles ms ps cs roots counts list edits → Tree ks fs ss leaves nodes
+  runnable-tree r = record { formula = r .formula; holds = r .fits .holds }
 
-  pub all-filled : {rules ls ps hs ns places : List ℕ} → Tables rules ks fs ss leaves nodes ls ps hs ns → PlacesFilled formula n ks fs ss leaves nodes places
-      → Filled formula n ks fs ss leaves nodes rules ls ps hs ns places
-  all-filled t p = filled-all t p
+  module _ {rules ls parents hs ns : List ℕ} (t : Tables rules ks fs ss leaves nodes ls parents hs ns) where
+    start : (f : Formula) → RunFits f ks fs ss leaves nodes places toggles ms ps cs roots counts list edits
+        → At (desk rules fs ss leaves nodes parents places ms ps cs) (plan f toggles edits) 0 0 ks ls edits
+    start f h =
+        record {
+          now = f;
+          ruled = t .ruled;
+          listed = h .listed;
+          holds = h .holds;
+          ups = t .ready .linked .ups;
+          placed = h .placed;
+          long = t .long;
+          labels-are =
+              t .labels-are ∙ ap (labels outside) (held-records ks fs ss leaves nodes f (h .holds)) ∙ ap (λ state. labels state (dwarf f)) (sym none-done);
+          within = omega arith;
+          operated = h .operated;
+          left = λ m l. refl;
+          waits = h .rises;
+          room = h .for-edits;
+          counted = refl;
+        }
 
--- ---- the run, from its tables on
+    pub ready-to-run : Runnable ks fs ss leaves nodes places toggles ms ps cs roots counts list edits
+        → CanRun (desk rules fs ss leaves nodes parents places ms ps cs) hs ns toggles ks ls roots counts list edits
+    ready-to-run r =
+        record { can = can-turn (begun (r .formula) edits (start (r .formula) (r .fits))) (t .ready .chains) (r .fits .answers); for-labels = r .fits .for-labels }
+
+    pub runs-of : {ls′ roots′ counts′ list′ edits′ : List ℕ}
+        → RunDone (desk rules fs ss leaves nodes parents places ms ps cs) toggles ks ls roots counts list edits ls′ roots′ counts′ list′ edits′
+        → RunsOf ks fs ss leaves nodes places toggles ms ps cs roots counts list edits roots′ counts′ list′ edits′
+    runs-of done =
+        record {
+          so = λ f h.
+              let w = done .mixed .so f (start f h) in
+              let es = editsOf ms ps cs in
+              record {
+                roots-are = w .roots-are ∙ sets-filled (rootsAfter f es [] toggles) roots (omega (arith, h .answers .for-roots, length-roots f es [] toggles));
+                counts-are = w .counts-are ∙ sets-filled (countsAfter f es [] toggles) counts (omega (arith, h .answers .for-counts, length-counts f es [] toggles));
+                labels-are = done .given ∙ ap (λ l. filled l list) (w .labels-are);
+                edit-counts-are = w .edits-are ∙ sets-filled (editCounts toggles f es) edits (omega (arith, h .for-edits, length-edits toggles f ms ps cs));
+              };
+        }
+
+-- ---- the run, from the formula's codes on
 module _ {formula : List ℕ} {n : ℕ} {ks fs ss : List ℕ} {leaves nodes : ℕ} {toggles ms ps cs roots counts list edits : List ℕ} where
   fits-of : EditRoom formula n ks fs ss leaves nodes toggles ms ps cs roots counts list edits → EditFits formula n ks fs ss leaves nodes toggles ms ps cs roots counts list edits
   fits-of (edit-room h) = h
@@ -74,54 +112,23 @@ module _ {formula : List ℕ} {n : ℕ} {ks fs ss : List ℕ} {leaves nodes : �
     pub room-built : Buildable formula n ks fs ss leaves nodes
     room-built = h .built
 
-    pub room-nodes : nodes ≤ 3072
-    room-nodes = held-shaped ks fs ss leaves nodes (h .built .formula) (h .built .built .holds) .room
-
-    pub room-labels : nodes ≤ length list
-    room-labels = h .for-labels
-
-    module _ {rules ls parents hs ns places : List ℕ} where
-      start : Filled formula n ks fs ss leaves nodes rules ls parents hs ns places → (f : Formula) → Built formula n ks fs ss leaves nodes f
-          → At (desk rules fs ss leaves nodes parents places ms ps cs) (plan f toggles edits) 0 0 ks ls edits
-      start (filled-all t placed-so) f b =
+    module _ {places : List ℕ} (placed : PlacesFilled formula n ks fs ss leaves nodes places) where
+      run-fits : (f : Formula) → Built formula n ks fs ss leaves nodes f → RunFits f ks fs ss leaves nodes places toggles ms ps cs roots counts list edits
+      run-fits f b =
           record {
-            now = f;
-            ruled = t .ruled;
-            listed = h .listed;
             holds = b .holds;
-            ups = t .ready .linked .ups;
-            placed = placed-so .so f b;
-            long = t .long;
-            labels-are =
-                t .labels-are ∙ ap (labels outside) (held-records ks fs ss leaves nodes f (b .holds)) ∙ ap (λ state. labels state (dwarf f)) (sym none-done);
-            within = omega arith;
+            placed = placed .so f b;
+            listed = h .listed;
+            rises = h .rises;
             operated = all-operations f (b .holds .named) ms ps cs (rw (b .codes-are) at (h .operated));
-            left = λ m l. refl;
-            waits = h .rises;
-            room = h .for-edits;
-            counted = refl;
+            answers = h .answers;
+            for-labels = h .for-labels;
+            for-edits = h .for-edits;
           }
 
-      chained : Filled formula n ks fs ss leaves nodes rules ls parents hs ns places → Chains ks fs ss leaves nodes hs ns
-      chained (filled-all t placed-so) = t .ready .chains
+      pub room-runnable : Runnable ks fs ss leaves nodes places toggles ms ps cs roots counts list edits
+      room-runnable = record { formula = h .built .formula; fits = run-fits (h .built .formula) (h .built .built) }
 
-      pub ready-to-turn : Filled formula n ks fs ss leaves nodes rules ls parents hs ns places
-          → CanTurn (desk rules fs ss leaves nodes parents places ms ps cs) hs ns toggles 0 0 ks ls roots counts edits
-      ready-to-turn all = can-turn (begun (h .built .formula) edits (start all (h .built .formula) (h .built .built))) (chained all) (h .answers)
-
-      pub edited-runs : {ls′ roots′ counts′ edits′ list′ : List ℕ} → Filled formula n ks fs ss leaves nodes rules ls parents hs ns places
-          → MixDone (desk rules fs ss leaves nodes parents places ms ps cs) toggles ks ls roots counts edits ls′ roots′ counts′ edits′
-          → list′ ≡ filled (take nodes ls′) list
+      pub edited-runs : {roots′ counts′ list′ edits′ : List ℕ} → RunsOf ks fs ss leaves nodes places toggles ms ps cs roots counts list edits roots′ counts′ list′ edits′
           → EditedRuns formula n ks fs ss leaves nodes toggles ms ps cs roots counts list edits roots′ counts′ list′ edits′
-      edited-runs all done copied =
-          record {
-            so = λ f b.
-                let w = done .so f (start all f b) in
-                let es = editsOf ms ps cs in
-                record {
-                  roots-are = w .roots-are ∙ sets-filled (rootsAfter f es [] toggles) roots (omega (arith, h .answers .for-roots, length-roots f es [] toggles));
-                  counts-are = w .counts-are ∙ sets-filled (countsAfter f es [] toggles) counts (omega (arith, h .answers .for-counts, length-counts f es [] toggles));
-                  labels-are = copied ∙ ap (λ l. filled l list) (w .labels-are);
-                  edit-counts-are = w .edits-are ∙ sets-filled (editCounts toggles f es) edits (omega (arith, h .for-edits, length-edits toggles f ms ps cs));
-                };
-          }
+      edited-runs done = record { so = λ f b. done .so f (run-fits f b) }

@@ -4,6 +4,7 @@ use mathlib.Core.Path.{_≡_}
 use mathlib.Core.List.{List, []}
 use lib.ListN.{length, getD, set, take, drop}
 use lib.Seq.{sets}
+use Rattle.outcome.specs.Lent.{filled}
 use Rattle.formula.specs.Formula.{Formula}
 use Rattle.formula.specs.States.{toggledBy}
 use Rattle.contraction.specs.Rounds.{dwarf}
@@ -11,13 +12,13 @@ use Rattle.contraction.specs.Height.{last}
 use Rattle.contraction.specs.Steps.{recs}
 use Rattle.labels.specs.Labels.{labels}
 use Rattle.labels.specs.Arrays.{Holds}
-use Rattle.labels.specs.Steps.{Rules, Parents, Chains}
+use Rattle.labels.specs.Steps.{Rules, Parents, Linked, Chains}
 use Rattle.toggles.specs.Toggles.{steps, toggle}
 use Rattle.toggles.specs.Ran.{ToggleRoom}
-use Rattle.toggles.specs.Steps.{Toggles, Tables}
-use Rattle.edit_places.specs.Places.{Places, PlacesFilled}
-use Rattle.edit_run.specs.Edits.{Edit, editsOf, editedBy, rootsAfter, countsAfter, editCounts}
-use Rattle.edit_run.specs.Ran.{Operations, Rises, Listed}
+use Rattle.toggles.specs.Steps.{Toggles}
+use Rattle.edit_places.specs.Places.{Places}
+use Rattle.edit_run.specs.Edits.{Edit, editsOf, answersOf, editedBy, rootsAfter, countsAfter, editCounts}
+use Rattle.edit_run.specs.Ran.{Operations, Rises, Listed, EditedRun}
 
 -- The lists that stay as they are while edits act.
 pub record Desk : Type 0 where
@@ -85,15 +86,16 @@ pub data CanAct (d : Desk) (k : ℕ) (ks ls counts : List ℕ) : Type 0 where
 pub record OneDone (d : Desk) (k : ℕ) (ks ls counts ks′ ls′ counts′ : List ℕ) : Type 0 where
   pub so : (p : Plan) (i : ℕ) → At d p i k ks ls counts → getD (d .moments) k 0 ≤ i → At d p i (k + 1) ks′ ls′ counts′
 
+-- The tables and the tree are still such that labels can be reworked.
+pub record Standing (rules ks fs ss : List ℕ) (leaves nodes : ℕ) (ps ls : List ℕ) : Type 0 where
+  pub ruled : Rules rules
+  pub linked : Linked ks fs ss leaves nodes ps
+  pub long : length ls ≡ 3072
+
 -- The edits up to moment m have acted, from number `from` on; r is the first that waits.
 pub data ActsDone (d : Desk) (m from r : ℕ) (ks ls counts ks′ ls′ counts′ : List ℕ) : Type 0 where
   acts-done : ((p : Plan) → At d p m from ks ls counts → At d p m r ks′ ls′ counts′) → Rises (suc m) (waiting d r)
       → ActsDone d m from r ks ls counts ks′ ls′ counts′
-
--- All that a run with edits fills before it begins.
-pub data Filled (formula : List ℕ) (n : ℕ) (ks fs ss : List ℕ) (leaves nodes : ℕ) (rules ls ps hs ns places : List ℕ) : Type 0 where
-  filled-all : Tables rules ks fs ss leaves nodes ls ps hs ns → PlacesFilled formula n ks fs ss leaves nodes places
-      → Filled formula n ks fs ss leaves nodes rules ls ps hs ns places
 
 -- ---- Edits and toggles turn about
 
@@ -124,6 +126,11 @@ pub data CanTurn (d : Desk) (hs ns toggles : List ℕ) (i k : ℕ) (ks ls roots 
   can-turn : Begun d toggles i k ks ls edits → Chains ks (d .firsts) (d .seconds) (d .leaves) (d .nodes) hs ns → ToggleRoom toggles roots counts
       → CanTurn d hs ns toggles i k ks ls roots counts edits
 
+-- And there is a toggle for it.
+pub record TurnHere (d : Desk) (hs ns toggles : List ℕ) (i k : ℕ) (ks ls roots counts edits : List ℕ) : Type 0 where
+  pub can : CanTurn d hs ns toggles i k ks ls roots counts edits
+  pub here : i < length toggles
+
 -- After i toggles: the roots and counts that are left decide the rest of both lists.
 pub record Told (d : Desk) (f : Formula) (toggles : List ℕ) (i : ℕ) (roots₀ counts₀ roots counts : List ℕ) : Type 0 where
   pub roots-so : sets roots₀ 0 (rootsAfter f (waiting d 0) [] toggles) ≡ sets roots i (rootsAfter f (waiting d 0) (take i toggles) (drop i toggles))
@@ -145,3 +152,37 @@ pub record MixLeft (d : Desk) (f : Formula) (toggles roots₀ counts₀ edits₀
 
 pub record MixDone (d : Desk) (toggles ks₀ ls₀ roots₀ counts₀ edits₀ ls roots counts edits : List ℕ) : Type 0 where
   pub so : (f : Formula) → At d (plan f toggles edits₀) 0 0 ks₀ ls₀ edits₀ → MixLeft d f toggles roots₀ counts₀ edits₀ ls roots counts edits
+
+-- ---- From the tables on
+
+-- A run that is about to begin, with room for the labels; and all have acted, and the labels that are left are given.
+pub record CanRun (d : Desk) (hs ns toggles ks ls roots counts list edits : List ℕ) : Type 0 where
+  pub can : CanTurn d hs ns toggles 0 0 ks ls roots counts edits
+  pub for-labels : d .nodes ≤ length list
+
+pub record RunDone (d : Desk) (toggles ks₀ ls₀ roots₀ counts₀ list₀ edits₀ ls roots counts list edits : List ℕ) : Type 0 where
+  pub mixed : MixDone d toggles ks₀ ls₀ roots₀ counts₀ edits₀ ls roots counts edits
+  pub given : list ≡ filled (take (d .nodes) ls) list₀
+
+-- ---- From the places on
+
+-- The arrays hold the tree of f, the node of each position is known, the edits fit, and there is room for each answer.
+pub record RunFits (f : Formula) (ks fs ss : List ℕ) (leaves nodes : ℕ) (places toggles ms ps cs roots counts list edits : List ℕ) : Type 0 where
+  pub holds : Holds ks fs ss leaves nodes f
+  pub placed : Places f places
+  pub listed : Listed ms ps cs (length toggles)
+  pub rises : Rises 0 (editsOf ms ps cs)
+  pub operated : Operations f (editsOf ms ps cs)
+  pub answers : ToggleRoom toggles roots counts
+  pub for-labels : nodes ≤ length list
+  pub for-edits : length ms ≤ length edits
+
+-- So it is of some formula,
+pub record Runnable (ks fs ss : List ℕ) (leaves nodes : ℕ) (places toggles ms ps cs roots counts list edits : List ℕ) : Type 0 where
+  pub formula : Formula
+  pub fits : RunFits formula ks fs ss leaves nodes places toggles ms ps cs roots counts list edits
+
+-- and the answers are those of every formula of which it is so.
+pub record RunsOf (ks fs ss : List ℕ) (leaves nodes : ℕ) (places toggles ms ps cs roots counts list edits roots′ counts′ list′ edits′ : List ℕ) : Type 0 where
+  pub so : (f : Formula) → RunFits f ks fs ss leaves nodes places toggles ms ps cs roots counts list edits
+      → EditedRun (answersOf f toggles (editsOf ms ps cs)) roots counts list edits roots′ counts′ list′ edits′

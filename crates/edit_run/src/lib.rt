@@ -1,10 +1,6 @@
 // A toggle run with edits on a dwarf tree: the edits of a moment, then the next toggle, turn about.
-ghost use mathlib.Core.Path.{_≡_};
-ghost use Prim.Native.Nat.{_<_, _≤_};
-ghost use lib.ListN.{length};
-ghost use Rattle.edit_places.specs.Places.{Buildable};
 ghost use Rattle.edit_run.specs.Ran.{EditRoom, EditedRuns};
-ghost use Rattle.edit_run.specs.Steps.{desk, CanAct, OneDone, Running, ActsDone, CanToggle, ToggleDone, CanTurn, TurnDone, MixDone, Filled};
+ghost use Rattle.edit_run.specs.Steps.{desk, CanAct, OneDone, Running, Standing, ActsDone, CanToggle, ToggleDone, CanTurn, TurnHere, TurnDone, MixDone, CanRun, RunDone, Runnable, RunsOf};
 
 // Edit k of the lists, with its count.
 fn act_one(
@@ -63,6 +59,7 @@ fn act(
     from: usize,
 ) -> usize
     requires { ⌜ Running (desk (now rules) (now firsts) (now seconds) leaves nodes (now parents) (now places) (now moments) (now positions) (now codes)) m from (now kinds) (now labels) (now «edit_counts») ⌝ }
+    ensures { λ _. ⌜ Standing (now (rules .entry)) (now (kinds .exit)) (now (firsts .entry)) (now (seconds .entry)) leaves nodes (now (parents .entry)) (now (labels .exit)) ⌝ }
     ensures { λ r. ⌜ ActsDone (desk (now (rules .entry)) (now (firsts .entry)) (now (seconds .entry)) leaves nodes (now (parents .entry)) (now (places .entry)) (now (moments .entry)) (now (positions .entry)) (now (codes .entry))) m from r
         (now (kinds .entry)) (now (labels .entry)) (now («edit_counts» .entry)) (now (kinds .exit)) (now (labels .exit)) (now («edit_counts» .exit)) ⌝ }
 {
@@ -153,7 +150,7 @@ fn turn(
     i: usize,
     k: usize,
 ) -> usize
-    requires { ⌜ CanTurn (desk (now rules) (now firsts) (now seconds) leaves nodes (now parents) (now places) (now moments) (now positions) (now codes)) (now heads) (now nexts) (now toggles) i k (now kinds) (now labels) (now roots) (now counts) (now «edit_counts») × (i < length (now toggles)) ⌝ }
+    requires { ⌜ TurnHere (desk (now rules) (now firsts) (now seconds) leaves nodes (now parents) (now places) (now moments) (now positions) (now codes)) (now heads) (now nexts) (now toggles) i k (now kinds) (now labels) (now roots) (now counts) (now «edit_counts») ⌝ }
     ensures { λ r. ⌜ TurnDone (desk (now (rules .entry)) (now (firsts .entry)) (now (seconds .entry)) leaves nodes (now (parents .entry)) (now (places .entry)) (now (moments .entry)) (now (positions .entry)) (now (codes .entry))) (now (heads .entry)) (now (nexts .entry)) (now (toggles .entry)) i k r
         (now (kinds .entry)) (now (labels .entry)) (now (roots .entry)) (now (counts .entry)) (now («edit_counts» .entry))
         (now (kinds .exit)) (now (labels .exit)) (now (roots .exit)) (now (counts .exit)) (now («edit_counts» .exit)) ⌝ }
@@ -217,13 +214,14 @@ fn mix(
     edit_counts: &mut [u32],
 )
     requires { ⌜ CanTurn (desk (now rules) (now firsts) (now seconds) leaves nodes (now parents) (now places) (now moments) (now positions) (now codes)) (now heads) (now nexts) (now toggles) 0 0 (now kinds) (now labels) (now roots) (now counts) (now «edit_counts») ⌝ }
-    ensures { λ _. ⌜ length (now (labels .exit)) ≡ 3072 ⌝ }
+    ensures { λ _. ⌜ Standing (now (rules .entry)) (now (kinds .exit)) (now (firsts .entry)) (now (seconds .entry)) leaves nodes (now (parents .entry)) (now (labels .exit)) ⌝ }
     ensures { λ _. ⌜ MixDone (desk (now (rules .entry)) (now (firsts .entry)) (now (seconds .entry)) leaves nodes (now (parents .entry)) (now (places .entry)) (now (moments .entry)) (now (positions .entry)) (now (codes .entry))) (now (toggles .entry))
         (now (kinds .entry)) (now (labels .entry)) (now (roots .entry)) (now (counts .entry)) (now («edit_counts» .entry)) (now (labels .exit)) (now (roots .exit)) (now (counts .exit)) (now («edit_counts» .exit)) ⌝ }
 {
     let mut i = 0;
     let mut k = 0;
     while i < toggles.len() {
+        let next = i + 1;
         k = turn(
             rules,
             kinds,
@@ -246,7 +244,7 @@ fn mix(
             i,
             k,
         );
-        i += 1;
+        i = next;
     }
     let last = i as u64;
     act(
@@ -268,38 +266,114 @@ fn mix(
     );
 }
 
-// The tables of a run, and the node of each position.
-fn fill(
-    formula: &[u16; 2048],
-    n: usize,
-    kinds: &[u16; 3072],
+// The run from its tables on: edits and toggles turn about, and the labels that they leave are given.
+fn run_filled(
+    rules: &[u8; 256],
+    kinds: &mut [u16; 3072],
     firsts: &[u16; 3072],
     seconds: &[u16; 3072],
     leaves: usize,
     nodes: usize,
-    rules: &mut [u8; 256],
-    labels: &mut [u8; 3072],
-    parents: &mut [u16; 3072],
-    heads: &mut [u16; 256],
-    nexts: &mut [u16; 1024],
-    places: &mut [u16; 2048],
+    parents: &[u16; 3072],
+    heads: &[u16; 256],
+    nexts: &[u16; 1024],
+    places: &[u16; 2048],
+    current: &mut [u8; 3072],
+    toggles: &[u16],
+    moments: &[u64],
+    positions: &[u16],
+    codes: &[u16],
+    roots: &mut [u8],
+    counts: &mut [u32],
+    labels: &mut [u8],
+    edit_counts: &mut [u32],
 )
-    requires { ⌜ (length (now formula) ≡ 2048) × (n ≤ 2047) × Buildable (now formula) n (now kinds) (now firsts) (now seconds) leaves nodes ⌝ }
-    ensures { λ _. ⌜ Filled (now (formula .entry)) n (now (kinds .entry)) (now (firsts .entry)) (now (seconds .entry)) leaves nodes (now (rules .exit)) (now (labels .exit)) (now (parents .exit)) (now (heads .exit)) (now (nexts .exit)) (now (places .exit)) ⌝ }
+    requires { ⌜ CanRun (desk (now rules) (now firsts) (now seconds) leaves nodes (now parents) (now places) (now moments) (now positions) (now codes)) (now heads) (now nexts) (now toggles) (now kinds) (now current) (now roots) (now counts) (now labels) (now «edit_counts») ⌝ }
+    ensures { λ _. ⌜ RunDone (desk (now (rules .entry)) (now (firsts .entry)) (now (seconds .entry)) leaves nodes (now (parents .entry)) (now (places .entry)) (now (moments .entry)) (now (positions .entry)) (now (codes .entry))) (now (toggles .entry))
+        (now (kinds .entry)) (now (current .entry)) (now (roots .entry)) (now (counts .entry)) (now (labels .entry)) (now («edit_counts» .entry)) (now (current .exit)) (now (roots .exit)) (now (counts .exit)) (now (labels .exit)) (now («edit_counts» .exit)) ⌝ }
 {
-    toggles::fill_tables(
+    mix(
         rules,
         kinds,
         firsts,
         seconds,
         leaves,
         nodes,
-        labels,
         parents,
         heads,
         nexts,
+        places,
+        current,
+        toggles,
+        moments,
+        positions,
+        codes,
+        roots,
+        counts,
+        edit_counts,
     );
-    edit_places::fill_places(formula, n, kinds, firsts, seconds, leaves, nodes, places);
+    toggles::copy_labels(current, nodes, labels);
+}
+
+// The run where the node of each position is known: its tables are filled first.
+fn run_placed(
+    kinds: &mut [u16; 3072],
+    firsts: &[u16; 3072],
+    seconds: &[u16; 3072],
+    leaves: usize,
+    nodes: usize,
+    places: &[u16; 2048],
+    toggles: &[u16],
+    moments: &[u64],
+    positions: &[u16],
+    codes: &[u16],
+    roots: &mut [u8],
+    counts: &mut [u32],
+    labels: &mut [u8],
+    edit_counts: &mut [u32],
+)
+    requires { ⌜ Runnable (now kinds) (now firsts) (now seconds) leaves nodes (now places) (now toggles) (now moments) (now positions) (now codes) (now roots) (now counts) (now labels) (now «edit_counts») ⌝ }
+    ensures { λ _. ⌜ RunsOf (now (kinds .entry)) (now (firsts .entry)) (now (seconds .entry)) leaves nodes (now (places .entry)) (now (toggles .entry)) (now (moments .entry)) (now (positions .entry)) (now (codes .entry))
+        (now (roots .entry)) (now (counts .entry)) (now (labels .entry)) (now («edit_counts» .entry)) (now (roots .exit)) (now (counts .exit)) (now (labels .exit)) (now («edit_counts» .exit)) ⌝ }
+{
+    let mut rules = [0u8; 256];
+    let mut current = [0u8; 3072];
+    let mut parents = [0u16; 3072];
+    let mut heads = [0u16; 256];
+    let mut nexts = [0u16; 1024];
+    toggles::fill_tables(
+        &mut rules,
+        kinds,
+        firsts,
+        seconds,
+        leaves,
+        nodes,
+        &mut current,
+        &mut parents,
+        &mut heads,
+        &mut nexts,
+    );
+    run_filled(
+        &rules,
+        kinds,
+        firsts,
+        seconds,
+        leaves,
+        nodes,
+        &parents,
+        &heads,
+        &nexts,
+        places,
+        &mut current,
+        toggles,
+        moments,
+        positions,
+        codes,
+        roots,
+        counts,
+        labels,
+        edit_counts,
+    );
 }
 
 // A toggle run with edits on a dwarf tree, with every shape outside at first. The kinds are left as edited.
@@ -324,13 +398,8 @@ pub fn run_edited(
     ensures { λ _. ⌜ EditedRuns (now (formula .entry)) n (now (kinds .entry)) (now (firsts .entry)) (now (seconds .entry)) leaves nodes (now (toggles .entry)) (now (moments .entry)) (now (positions .entry)) (now (codes .entry))
         (now (roots .entry)) (now (counts .entry)) (now (labels .entry)) (now («edit_counts» .entry)) (now (roots .exit)) (now (counts .exit)) (now (labels .exit)) (now («edit_counts» .exit)) ⌝ }
 {
-    let mut rules = [0u8; 256];
-    let mut current = [0u8; 3072];
-    let mut parents = [0u16; 3072];
-    let mut heads = [0u16; 256];
-    let mut nexts = [0u16; 1024];
     let mut places = [0u16; 2048];
-    fill(
+    edit_places::fill_places(
         formula,
         n,
         kinds,
@@ -338,32 +407,22 @@ pub fn run_edited(
         seconds,
         leaves,
         nodes,
-        &mut rules,
-        &mut current,
-        &mut parents,
-        &mut heads,
-        &mut nexts,
         &mut places,
     );
-    mix(
-        &rules,
+    run_placed(
         kinds,
         firsts,
         seconds,
         leaves,
         nodes,
-        &parents,
-        &heads,
-        &nexts,
         &places,
-        &mut current,
         toggles,
         moments,
         positions,
         codes,
         roots,
         counts,
+        labels,
         edit_counts,
     );
-    toggles::copy_labels(&current, nodes, labels);
 }

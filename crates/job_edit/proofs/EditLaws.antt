@@ -26,14 +26,16 @@ use Rattle.job_run.specs.declared.RunAnswer.{RunAnswer}
 use Rattle.job_run.specs.declared.RunAnswer.the-variants as run
 use Rattle.edits.proofs.Edits.{edited-nodes}
 use Rattle.edit_checking.specs.Fits.{isOperation, operatesAt, inTurn, fits, firstUnfit}
-use Rattle.edit_checking.specs.Steps.{Equal, Coded}
+use Rattle.edit_checking.specs.Steps.{Coded}
 use Rattle.edit_checking.proofs.FitLaws.{unfit-most}
 use Rattle.edit_places.specs.Places.{Built}
 use Rattle.edit_run.specs.Edits.{Edit, editsOf, after, editedBy, Answers, answersOf}
 use Rattle.edit_run.specs.Ran.{Rises, EditRoom, edit-room, EditedRuns}
+use Rattle.job_edit.specs.declared.Checked.{Checked}
+use Rattle.job_edit.specs.declared.Checked.the-variants as checked
 use Rattle.job_edit.specs.Editing.{Lists, lists, lending, editing, runningEdited}
 use Rattle.job_edit.specs.Edited.{Edited}
-use Rattle.job_edit.specs.Steps.{Prepares, prepares, Taken, Takes, takes, LentOn, JudgedOn}
+use Rattle.job_edit.specs.Steps.{Prepares, prepares, Refuses, Passes, Checks, Taken, Takes, takes, LentOn, JudgedOn}
 
 pub edit-refused : (o : Outcome Answers) (lent : Lists) (number place : ℕ) → o ≡ refused number place → Edited o lent (run.Refused number place) lent
 edit-refused o lent number place is =
@@ -186,108 +188,103 @@ firstWrong-most names (t ∷ ts) = go (ltb t names) refl (firstWrong-most names 
     go true e ih = rw (e, firstWrong) (omega arith)
     go false e ih = rw (e, firstWrong) (omega arith)
 
-coded : {formula : List ℕ} {n : ℕ} {ks fs ss : List ℕ} {leaves nodes names : ℕ} → Prepares formula n ks fs ss leaves nodes names → Coded formula n
-coded (prepares long few names built) = record { long = long; few = few }
-
-module _ {formula : List ℕ} {n : ℕ} {ks fs ss : List ℕ} {leaves nodes names : ℕ} (toggles ms ps cs : List ℕ) (p : Prepares formula n ks fs ss leaves nodes names) where
-  pub judge-coded : Coded formula n
-  judge-coded = coded p
-
-  module _ (lent : Lists) where
-    pub positions-differ : (length ps ≡ length ms → ⊥) → JudgedOn formula n ks fs ss leaves nodes names toggles ms ps cs lent (run.Refused 13 0) lent
-    unfolding editing
-    positions-differ d = record { so = λ g b. edit-refused (editing g names toggles ms ps cs lent) lent 13 0 (rw (ne-eqb (length ps) (length ms) d)) }
+-- exit by exit
+module _ (formula : List ℕ) (n names : ℕ) (toggles ms ps cs : List ℕ) where
+  pub positions-differ : (length ps ≡ length ms → ⊥) → Refuses formula n names toggles ms ps cs 13 0
+  unfolding editing
+  positions-differ d = record { so = λ g e lent. rw (ne-eqb (length ps) (length ms) d) }
 
   module _ (same : length ps ≡ length ms) where
-    module _ (lent : Lists) where
-      pub codes-differ : (length cs ≡ length ms → ⊥) → JudgedOn formula n ks fs ss leaves nodes names toggles ms ps cs lent (run.Refused 13 0) lent
+    pub codes-differ : (length cs ≡ length ms → ⊥) → Refuses formula n names toggles ms ps cs 13 0
+    unfolding editing
+    codes-differ d = record { so = λ g e lent. rw (eq-eqb (length ps) (length ms) same, ne-eqb (length cs) (length ms) d) }
+
+    module _ (alike : length cs ≡ length ms) (w : ℕ) (first : w ≡ firstWrong names toggles) where
+      pub toggle-wrong : w < length toggles → Refuses formula n names toggles ms ps cs 10 w
       unfolding editing
-      codes-differ d = record { so = λ g b. edit-refused (editing g names toggles ms ps cs lent) lent 13 0 (rw (eq-eqb (length ps) (length ms) same, ne-eqb (length cs) (length ms) d)) }
+      toggle-wrong h =
+          record {
+            so = λ g e lent.
+                rw (eq-eqb (length ps) (length ms) same, eq-eqb (length cs) (length ms) alike, ne-eqb (firstWrong names toggles) (length toggles) (λ x. omega arith), first);
+          }
 
-    module _ (alike : length cs ≡ length ms) where
-      pub judge-equal : Equal ms ps cs
-      judge-equal = record { positions = same; codes = alike }
+      module _ (past : length toggles ≤ w) (u : ℕ) (unfit-is : u ≡ firstUnfit (take n formula) (length toggles) 0 ms ps cs) where
+        known : firstWrong names toggles ≡ length toggles
+        known = omega (arith, firstWrong-most names toggles)
 
-      module _ {w : ℕ} (first : w ≡ firstWrong names toggles) where
-        module _ (lent : Lists) where
-          pub toggle-wrong : w < length toggles → JudgedOn formula n ks fs ss leaves nodes names toggles ms ps cs lent (run.Refused 10 w) lent
-          unfolding editing
-          toggle-wrong h =
+        pub edit-unfits : u < length ms → Refuses formula n names toggles ms ps cs 20 u
+        unfolding editing
+        edit-unfits h =
+            record {
+              so = λ g e lent.
+                  let is : u ≡ firstUnfit (postfix g) (length toggles) 0 ms ps cs = unfit-is ∙ ap (λ l. firstUnfit l (length toggles) 0 ms ps cs) e in
+                  rw (
+                    eq-eqb (length ps) (length ms) same,
+                    eq-eqb (length cs) (length ms) alike,
+                    eq-eqb (firstWrong names toggles) (length toggles) known,
+                    ne-eqb (firstUnfit (postfix g) (length toggles) 0 ms ps cs) (length ms) (λ x. omega arith),
+                    is,
+                  );
+            }
+
+        pub all-pass : length ms ≤ u → Passes formula n names toggles ms ps cs
+        all-pass h =
+            record { positions-long = same; codes-long = alike; named = known; fit = omega (arith, unfit-is, unfit-most (take n formula) (length toggles) 0 ms ps cs) }
+
+-- ---- and then refused, or the run goes on
+pub judge-coded : {formula : List ℕ} {n : ℕ} {ks fs ss : List ℕ} {leaves nodes names : ℕ} → Prepares formula n ks fs ss leaves nodes names → Coded formula n
+judge-coded (prepares long few names built) = record { long = long; few = few }
+
+module _ {formula : List ℕ} {n : ℕ} {ks fs ss : List ℕ} {leaves nodes names : ℕ} {toggles ms ps cs : List ℕ} {r : Checked} (says : Checks formula n names toggles ms ps cs r) where
+  pub check-refused : {lent : Lists} (number place : ℕ) → r ≡ checked.Refused number place
+      → JudgedOn formula n ks fs ss leaves nodes names toggles ms ps cs lent (run.Refused number place) lent
+  check-refused {lent} number place is =
+      let x : Refuses formula n names toggles ms ps cs number place = rw is at says in
+      record { so = λ g b. edit-refused (editing g names toggles ms ps cs lent) lent number place (x .so g (b .codes-are) lent) }
+
+  module _ (is : r ≡ checked.Taken) where
+    pub judge-takes : Prepares formula n ks fs ss leaves nodes names → Takes formula n ks fs ss leaves nodes toggles ms ps cs
+    judge-takes (prepares long few small built) =
+        let p : Passes formula n names toggles ms ps cs = rw is at says in
+        let f = all-fit (take n formula) (length toggles) 0 ms ps cs (p .positions-long) (p .codes-long) (p .fit) in
+        takes
+        record {
+          formula-long = long;
+          formula-few = few;
+          built = built;
+          named = λ i.
+              cases (ltb i (length toggles))
+              (λ q. let below = none-wrong names toggles (p .named) i (ltb-true i (length toggles) q) in omega arith)
+              (λ q. let none : getD toggles i 0 ≡ 0 = List·getD-eq-default toggles 0 (ltb-false i (length toggles) q) in omega arith);
+          listed =
               record {
-                so = λ g b.
-                    edit-refused (editing g names toggles ms ps cs lent) lent 10 w
-                    (rw (eq-eqb (length ps) (length ms) same, eq-eqb (length cs) (length ms) alike, ne-eqb (firstWrong names toggles) (length toggles) (λ e. omega arith), first));
-              }
+                positions-long = p .positions-long;
+                codes-long = p .codes-long;
+                low = λ k h. f .each k h .1;
+                high = λ k h. omega (arith, f .each k h .2);
+                in-time = λ k h. f .each k h .3;
+              };
+          rises = f .rises;
+          operated = λ k h. f .each k h .0;
+        }
 
-        module _ (past : length toggles ≤ w) where
-          known : firstWrong names toggles ≡ length toggles
-          known = omega (arith, firstWrong-most names toggles)
-
-          module _ {u : ℕ} (unfit-is : u ≡ firstUnfit (take n formula) (length toggles) 0 ms ps cs) where
-            module _ (lent : Lists) where
-              pub edit-unfits : u < length ms → JudgedOn formula n ks fs ss leaves nodes names toggles ms ps cs lent (run.Refused 20 u) lent
-              unfolding editing
-              edit-unfits h =
-                  record {
-                    so = λ g b.
-                        let is : u ≡ firstUnfit (postfix g) (length toggles) 0 ms ps cs = unfit-is ∙ ap (λ l. firstUnfit l (length toggles) 0 ms ps cs) (b .codes-are) in
-                        edit-refused (editing g names toggles ms ps cs lent) lent 20 u
-                        (rw (
-                          eq-eqb (length ps) (length ms) same,
-                          eq-eqb (length cs) (length ms) alike,
-                          eq-eqb (firstWrong names toggles) (length toggles) known,
-                          ne-eqb (firstUnfit (postfix g) (length toggles) 0 ms ps cs) (length ms) (λ e. omega arith),
-                          is,
-                        ));
-                  }
-
-            module _ (all : length ms ≤ u) where
-              none-unfit : firstUnfit (take n formula) (length toggles) 0 ms ps cs ≡ length ms
-              none-unfit = omega (arith, unfit-is, unfit-most (take n formula) (length toggles) 0 ms ps cs)
-
-              pub judge-takes : Takes formula n ks fs ss leaves nodes toggles ms ps cs
-              judge-takes = go p
-                where
-                  go : Prepares formula n ks fs ss leaves nodes names → Takes formula n ks fs ss leaves nodes toggles ms ps cs
-                  go (prepares long few named built) =
-                      let f = all-fit (take n formula) (length toggles) 0 ms ps cs same alike none-unfit in
-                      takes
-                      record {
-                        formula-long = long;
-                        formula-few = few;
-                        built = built;
-                        named = λ i.
-                            cases (ltb i (length toggles))
-                            (λ q. let below = none-wrong names toggles known i (ltb-true i (length toggles) q) in omega arith)
-                            (λ q. let none : getD toggles i 0 ≡ 0 = List·getD-eq-default toggles 0 (ltb-false i (length toggles) q) in omega arith);
-                        listed =
-                            record {
-                              positions-long = same;
-                              codes-long = alike;
-                              low = λ k h. f .each k h .1;
-                              high = λ k h. omega (arith, f .each k h .2);
-                              in-time = λ k h. f .each k h .3;
-                            };
-                        rises = f .rises;
-                        operated = λ k h. f .each k h .0;
-                      }
-
-              pub judged : {lent after : Lists} {r : RunAnswer} → LentOn formula n ks fs ss leaves nodes toggles ms ps cs lent r after
-                  → JudgedOn formula n ks fs ss leaves nodes names toggles ms ps cs lent r after
-              unfolding editing
-              judged {lent} {after} {r} l =
-                  record {
-                    so = λ g b.
-                        let is : firstUnfit (postfix g) (length toggles) 0 ms ps cs ≡ length ms = ap (λ q. firstUnfit q (length toggles) 0 ms ps cs) (sym (b .codes-are)) ∙ none-unfit in
-                        let same-outcome : editing g names toggles ms ps cs lent ≡ lending g toggles ms ps cs lent =
-                        rw (
-                          eq-eqb (length ps) (length ms) same,
-                          eq-eqb (length cs) (length ms) alike,
-                          eq-eqb (firstWrong names toggles) (length toggles) known,
-                          eq-eqb (firstUnfit (postfix g) (length toggles) 0 ms ps cs) (length ms) is,
-                        ) in
-                        rw same-outcome (l .so g b);
-                  }
+    pub judged : {lent after : Lists} {a : RunAnswer} → LentOn formula n ks fs ss leaves nodes toggles ms ps cs lent a after
+        → JudgedOn formula n ks fs ss leaves nodes names toggles ms ps cs lent a after
+    unfolding editing
+    judged {lent} {after} {a} l =
+        record {
+          so = λ g b.
+              let p : Passes formula n names toggles ms ps cs = rw is at says in
+              let fit : firstUnfit (postfix g) (length toggles) 0 ms ps cs ≡ length ms = ap (λ q. firstUnfit q (length toggles) 0 ms ps cs) (sym (b .codes-are)) ∙ p .fit in
+              let same-outcome : editing g names toggles ms ps cs lent ≡ lending g toggles ms ps cs lent =
+              rw (
+                eq-eqb (length ps) (length ms) (p .positions-long),
+                eq-eqb (length cs) (length ms) (p .codes-long),
+                eq-eqb (firstWrong names toggles) (length toggles) (p .named),
+                eq-eqb (firstUnfit (postfix g) (length toggles) 0 ms ps cs) (length ms) fit,
+              ) in
+              rw same-outcome (l .so g b);
+        }
 
 -- ---- a sheet is refused, or its formula stands in the arrays
 module _ (s : Sheets) (codes k f e : List ℕ) (toggles ms ps cs : List ℕ) (lent : Lists) (r : Prepared) (says : Says s codes k f e r) where

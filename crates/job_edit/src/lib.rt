@@ -5,7 +5,57 @@ use tree_dwarf::Figures;
 ghost use Rattle.sheet.specs.Sheet.{sheetsOf};
 ghost use Rattle.job_edit.specs.Editing.{lists, runningEdited};
 ghost use Rattle.job_edit.specs.Edited.{Edited};
-ghost use Rattle.job_edit.specs.Steps.{Prepares, Takes, LentOn, JudgedOn};
+ghost use Rattle.edit_checking.specs.Steps.{Coded};
+ghost use Rattle.job_edit.specs.Steps.{Prepares, Checks, Takes, LentOn, JudgedOn};
+
+// Toggles and edits that are taken, or the refusal.
+enum Checked {
+    Taken,
+    Refused { number: u8, place: usize },
+}
+
+// Whether the edit lists are equally long, each toggle is a shape of the sheet, and each edit fits.
+fn check(
+    formula: &[u16; 2048],
+    n: usize,
+    names: usize,
+    toggles: &[u16],
+    moments: &[u64],
+    positions: &[u16],
+    codes: &[u16],
+) -> Checked
+    requires { ⌜ Coded (now formula) n ⌝ }
+    ensures { λ r. ⌜ Checks (now (formula .entry)) n names (now (toggles .entry)) (now (moments .entry)) (now (positions .entry)) (now (codes .entry)) r ⌝ }
+{
+    if positions.len() != moments.len() {
+        return Checked::Refused {
+            number: 13,
+            place: 0,
+        };
+    }
+    if codes.len() != moments.len() {
+        return Checked::Refused {
+            number: 13,
+            place: 0,
+        };
+    }
+    let wrong = toggles::first_wrong(toggles, names);
+    if wrong < toggles.len() {
+        return Checked::Refused {
+            number: 10,
+            place: wrong,
+        };
+    }
+    let most = toggles.len() as u64;
+    let unfit = edit_checking::first_unfit(formula, n, most, moments, positions, codes);
+    if unfit < moments.len() {
+        return Checked::Refused {
+            number: 20,
+            place: unfit,
+        };
+    }
+    Checked::Taken
+}
 
 // The run on a dwarf tree, where there is room in each list.
 fn lend(
@@ -75,7 +125,7 @@ fn lend(
     RunAnswer::Ran { nodes }
 }
 
-// The run on a dwarf tree, where the edit lists are equally long, each toggle is a shape of the sheet, and each edit fits.
+// The run on a dwarf tree, where the toggles and the edits are taken.
 fn judge(
     formula: &[u16; 2048],
     n: usize,
@@ -98,49 +148,25 @@ fn judge(
         (lists (now (roots .entry)) (now (counts .entry)) (now (labels .entry)) (now («edit_counts» .entry))) r
         (lists (now (roots .exit)) (now (counts .exit)) (now (labels .exit)) (now («edit_counts» .exit))) ⌝ }
 {
-    if positions.len() != moments.len() {
-        return RunAnswer::Refused {
-            number: 13,
-            place: 0,
-        };
+    match check(formula, n, names, toggles, moments, positions, codes) {
+        Checked::Refused { number, place } => RunAnswer::Refused { number, place },
+        Checked::Taken => lend(
+            formula,
+            n,
+            kinds,
+            firsts,
+            seconds,
+            built,
+            toggles,
+            moments,
+            positions,
+            codes,
+            roots,
+            counts,
+            labels,
+            edit_counts,
+        ),
     }
-    if codes.len() != moments.len() {
-        return RunAnswer::Refused {
-            number: 13,
-            place: 0,
-        };
-    }
-    let wrong = toggles::first_wrong(toggles, names);
-    if wrong < toggles.len() {
-        return RunAnswer::Refused {
-            number: 10,
-            place: wrong,
-        };
-    }
-    let most = toggles.len() as u64;
-    let unfit = edit_checking::first_unfit(formula, n, most, moments, positions, codes);
-    if unfit < moments.len() {
-        return RunAnswer::Refused {
-            number: 20,
-            place: unfit,
-        };
-    }
-    lend(
-        formula,
-        n,
-        kinds,
-        firsts,
-        seconds,
-        built,
-        toggles,
-        moments,
-        positions,
-        codes,
-        roots,
-        counts,
-        labels,
-        edit_counts,
-    )
 }
 
 // Runs toggles and edits on a sheet's tree, with every shape outside at first.

@@ -2,7 +2,7 @@
 use Prim.Native.Nat.{_-_}
 use lib.ListN.{length}
 use Rattle.edit_run.specs.Steps.{desk}
-use Rattle.edit_run.proofs.ActLaws.{Acting, acting-start, acting-can, acting-more, acting-wait, acting-end}
+use Rattle.edit_run.proofs.ActLaws.{Acting, acting-start, acting-can, acting-more, acting-wait, acting-end, acting-stands}
 use borrow.Author.Needs.{needs}
 use Rattle.edit_run.proofs.act.Statement.{statement}
 use Rattle.edit_run.proofs.act.Tie as tie
@@ -26,7 +26,7 @@ same-length : tie.Need-same-length Inv-loop μ-loop
 same-length c = search needs
 
 returns : tie.Need-returns Inv-loop μ-loop
-returns c = search acting-wait
+returns c = (search acting-stands, search acting-wait)
 
 act-one-requires : tie.Need-act-one-requires Inv-loop μ-loop
 act-one-requires c κs = search acting-can
@@ -44,7 +44,7 @@ same-length-2 : tie.Need-same-length-2 Inv-loop μ-loop
 same-length-2 c = search needs
 
 returns-2 : tie.Need-returns-2 Inv-loop μ-loop
-returns-2 c = search acting-end
+returns-2 c = (search acting-stands, search acting-end)
 
 pub act-spec : {M : Type 1} → statement M
 act-spec =

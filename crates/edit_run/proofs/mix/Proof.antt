@@ -1,9 +1,8 @@
 -- `edit_run::mix` meets its contract. The loop keeps: i toggles and k edits have acted.
 use Prim.Native.Nat.{_-_}
-use native.Mathlib.Omega.{arith}
 use lib.ListN.{length}
 use Rattle.edit_run.specs.Steps.{desk}
-use Rattle.edit_run.proofs.MixLaws.{Mixing, mixing-start, turn-running, mixing-more, mixing-long, mixing-end}
+use Rattle.edit_run.proofs.MixLaws.{Mixing, mixing-start, turn-running, mixing-more, mixing-end}
 use borrow.Author.Needs.{needs}
 use Rattle.edit_run.proofs.mix.Statement.{statement}
 use Rattle.edit_run.proofs.mix.Tie as tie
@@ -17,11 +16,11 @@ abbrev μ-loop : tie.MeasureT-loop
 loop-holds : tie.Need-loop-holds Inv-loop μ-loop
 loop-holds c = search mixing-start
 
+add-next : tie.Need-add-next Inv-loop μ-loop
+add-next c = search needs
+
 turn-requires : tie.Need-turn-requires Inv-loop μ-loop
 turn-requires c κs = search needs
-
-add-i : tie.Need-add-i Inv-loop μ-loop
-add-i c = record { fits = omega (arith, c .before .before .before .before .before .before .before .before .before .before .before .before .loop-test .taken, c .before .before .before .before .before .before .before .before .before .before .before .before .before .before .before .before .before .before .before .before .before .good) }
 
 loop-less : tie.Need-loop-less Inv-loop μ-loop
 loop-less c = search needs
@@ -42,7 +41,7 @@ same-length-3 : tie.Need-same-length-3 Inv-loop μ-loop
 same-length-3 c = search needs
 
 returns : tie.Need-returns Inv-loop μ-loop
-returns c = (search mixing-long, search mixing-end)
+returns c = (search needs, search mixing-end)
 
 pub mix-spec : {M : Type 1} → statement M
 mix-spec =
@@ -51,8 +50,8 @@ mix-spec =
     Inv-loop
     μ-loop
     loop-holds
+    add-next
     turn-requires
-    add-i
     loop-less
     loop-again
     act-requires

@@ -1,24 +1,14 @@
--- `edit_run::run_edited` meets its contract: from the tables on, edits and toggles turn about.
--- After a call of so many lists `search` does not reach what came before it, so its places are written out.
-use Rattle.edit_run.proofs.RunLaws.{room-formula, room-few, room-built, room-nodes, room-labels, ready-to-turn, edited-runs}
+-- `edit_run::run_edited` meets its contract: the node of each position is found, and the run goes from there.
+use Rattle.edit_run.proofs.RunLaws.{room-formula, room-few, room-built, room-runnable, edited-runs}
 use borrow.Author.Needs.{needs}
 use Rattle.edit_run.proofs.run_edited.Statement.{statement}
 use Rattle.edit_run.proofs.run_edited.Tie as tie
 
-fill-requires : tie.Need-fill-requires
-fill-requires c κs = (search room-formula, search room-few, search room-built)
+fill-places-requires : tie.Need-fill-places-requires
+fill-places-requires c κs = ((search room-formula, search room-few), search room-built)
 
-mix-requires : tie.Need-mix-requires
-mix-requires c κs = search ready-to-turn
-
-abbrev tables : tie.After-mix → tie.After-fill
-tables m = m .before .before .before .before .before .before .before .before .before .before .before
-
-abbrev start : tie.After-fill → tie.Start
-start t = t .before .before .before .before .before .before .before .before .before .before .before .before .before .before .before .before
-
-copy-labels-requires : tie.Need-copy-labels-requires
-copy-labels-requires c κs = let room = start (tables (c .before .before .before .before .before .before .before .before)) .pre in (room-nodes room, room-labels room)
+run-placed-requires : tie.Need-run-placed-requires
+run-placed-requires c κs = search room-runnable
 
 same-length : tie.Need-same-length
 same-length c = search needs
@@ -33,17 +23,14 @@ same-length-4 : tie.Need-same-length-4
 same-length-4 c = search needs
 
 returns : tie.Need-returns
-returns c =
-    let mixed = c .before .before .before .before .before .before .before .before .before .before .before in
-    edited-runs (start (tables mixed) .pre) (tables mixed .fill .ensures) (mixed .mix .ensures .1) (c .before .before .copy-labels .ensures)
+returns c = search edited-runs
 
 pub run-edited-spec : {M : Type 1} → statement M
 run-edited-spec =
     tie.close
     (tie.spec
-    fill-requires
-    mix-requires
-    copy-labels-requires
+    fill-places-requires
+    run-placed-requires
     same-length
     same-length-2
     same-length-3

@@ -8,7 +8,7 @@ act-requires : tie.Need-act-requires
 act-requires c κs = search turn-running
 
 toggle-one-requires : tie.Need-toggle-one-requires
-toggle-one-requires c κs = let start = c .before .before .before .before .before .before .before .before .before .before .before .before .before .before .before .before .before .pre in turn-toggle (start .0) (c .before .before .before .before .before .before .act .ensures) (start .1)
+toggle-one-requires c κs = search turn-toggle
 
 same-length : tie.Need-same-length
 same-length c = search needs
