@@ -18,7 +18,7 @@ use Rattle.lines.specs.Marked.{Marked, stateAfter, openAfter, wallsAfter, Passe
 use Rattle.lines.specs.Steps.{groupEndsAt}
 use Rattle.lines.proofs.BlockWalls.{state-more}
 use Rattle.lines.proofs.PassLaws.{pass-block}
-use Rattle.line_strips.specs.Strips.{wide, columns, cell, on, Plan, planned, turnsAt, lastAt, Filled}
+use Rattle.line_strips.specs.Strips.{wide, columns, cell, on, Plan, planned, turnsAt, lastAt, Filled, SaidAlone}
 use Rattle.line_strips.specs.Steps.{Turnable, Fillable, Entered}
 use Rattle.line_words.specs.Stretches.{StandFor}
 use Rattle.line_words.specs.declared.Arranged.{Arranged}
@@ -61,10 +61,11 @@ module _ (names : ℕ) (rows ls : List ℕ) (ps : List ℤ) (ss : List ℕ) (col
         suc-mul : (x : ℕ) → suc x * names ≡ x * names + names
         suc-mul x = omega arith
 
-    pub block-fillable : (words : List ℕ) → 1 ≤ n → 256 * wide ≤ length words → Fillable names rows ss cols starts lasts i n words
-    block-fillable words one room =
+    pub block-fillable : (told : Bool) (words : List ℕ) → SaidAlone ls cols i n told → 1 ≤ n → 256 * wide ≤ length words → Fillable names rows ss cols starts lasts i n told words
+    block-fillable told words said one room =
         record {
           legible = record { few = few; colsLong = block .sized .cols; startsLong = block .sized .starts; most = block .narrow; column = legible-column };
+          alone = said .are;
           lastsLong = block .sized .lasts;
           some = one;
           room = room;
@@ -73,8 +74,8 @@ module _ (names : ℕ) (rows ls : List ℕ) (ps : List ℤ) (ss : List ℕ) (col
     there : (j : ℕ) → j < n → ColumnThere ls ps i cols j
     there j h = record { narrow = omega (arith, block .narrow); long = ok .ascending .positions; crossing = block .within j h .crossing; sized = block .sized .cols }
 
-    pub block-can-sweep : (events : List ℕ) → length events ≡ 2 * columns → CanSweep ls ps i n cols lasts events
-    block-can-sweep events h = record { narrow = block .narrow; there = there; lasts-sized = block .sized .lasts; events-sized = h }
+    pub block-can-sweep : (events : List ℕ) (told : Bool) → length events ≡ 2 * columns → SaidAlone ls cols i n told → CanSweep ls ps i n told cols lasts events
+    block-can-sweep events told h said = record { narrow = block .narrow; there = there; said = said; lasts-sized = block .sized .lasts; events-sized = h }
 
     -- ---- the events
 

@@ -17,9 +17,9 @@ use Rattle.line_words.specs.Steps.{Evaluable}
 use Rattle.line_words.specs.declared.Arranged.{Arranged}
 use Rattle.line_columns.specs.Planned.{BlockPlanned}
 use Rattle.line_columns.specs.Steps.{Plannable, CanPlan}
-use Rattle.line_columns.specs.declared.Cursor.{Cursor}
+use Rattle.line_columns.specs.declared.Ended.{Ended}
 use Rattle.line_columns.proofs.CursorLaws.{judged-plannable}
-use Rattle.line_blocks.specs.Blocks.{CanSweep, EventsMade, Sized, leftOf, Going, BlockAsk, PlannedTo, BlockMade}
+use Rattle.line_blocks.specs.Blocks.{CanSweep, EventsMade, Sized, leftOf, Going, BlockAsk, BlockEnds, BlockMade}
 use Rattle.line_blocks.specs.declared.Pass.{Pass}
 use Rattle.line_blocks.proofs.BlockLaws.{block-fillable, block-can-sweep, block-few, block-each, block-next}
 
@@ -53,26 +53,26 @@ module _ {stretches links : List ℕ} {arranged : Arranged} {names : ℕ} {rows 
   pub ask-evaluable : Evaluable stretches links words arranged
   ask-evaluable = ask .going .evaluable
 
-  module _ {cols starts lasts : List ℕ} {next : Cursor} (plan : PlannedTo names rows ls cols starts lasts p next) where
-    block-is : BlockPlanned names (lineLists rows ls ps ss) (p .cursor .i) (p .cursor .q) (planned cols starts lasts) (next .c) (next .i) (next .q)
-    block-is = plan .block ps ss (plannable (ask .going)) (ask .going .cursor)
+  module _ {cols starts lasts : List ℕ} {ended : Ended} (ends : BlockEnds names rows ls cols starts lasts p ended) where
+    block-is : BlockPlanned names (lineLists rows ls ps ss) (p .cursor .i) (p .cursor .q) (planned cols starts lasts) (ended .next .c) (ended .next .i) (ended .next .q)
+    block-is = ends .planned-so .block ps ss (plannable (ask .going)) (ask .going .cursor)
 
-    has-one : 1 ≤ next .c
-    has-one = by (decLt (next .c) columns)
+    has-one : 1 ≤ ended .next .c
+    has-one = by (decLt (ended .next .c) columns)
       where
-        by : Dec (next .c < columns) → 1 ≤ next .c
-        by (yes h) = omega (arith, ask .left, ap length (sym (block-is .left) ∙ block-is .full h), length-drop (next .c) (leftOf names (lineLists rows ls ps ss) p))
+        by : Dec (ended .next .c < columns) → 1 ≤ ended .next .c
+        by (yes h) = omega (arith, ask .left, ap length (sym (block-is .left) ∙ block-is .full h), length-drop (ended .next .c) (leftOf names (lineLists rows ls ps ss) p))
         by (no h) = omega arith
 
-    pub ask-fillable : Fillable names rows ss cols starts lasts (p .cursor .i) (next .c) words
-    ask-fillable = block-fillable names rows ls ps ss cols starts lasts (p .cursor .i) (p .cursor .q) (next .c) (next .i) (next .q) (plannable (ask .going)) (ask .going .taken .few) block-is words has-one (omega (arith, ask .going .evaluable .room))
+    pub ask-fillable : Fillable names rows ss cols starts lasts (p .cursor .i) (ended .next .c) (ended .alone) words
+    ask-fillable = block-fillable names rows ls ps ss cols starts lasts (p .cursor .i) (p .cursor .q) (ended .next .c) (ended .next .i) (ended .next .q) (plannable (ask .going)) (ask .going .taken .few) block-is (ended .alone) words (ends .said) has-one (omega (arith, ask .going .evaluable .room))
 
-    pub ask-can-sweep : {cols₀ starts₀ lasts₀ events : List ℕ} → Sized cols₀ starts₀ lasts₀ events → CanSweep ls ps (p .cursor .i) (next .c) cols lasts events
-    ask-can-sweep {events = events} s = block-can-sweep names rows ls ps ss cols starts lasts (p .cursor .i) (p .cursor .q) (next .c) (next .i) (next .q) (plannable (ask .going)) (ask .going .taken .few) block-is events (s .events-sized)
+    pub ask-can-sweep : {events : List ℕ} → length events ≡ 2 * columns → CanSweep ls ps (p .cursor .i) (ended .next .c) (ended .alone) cols lasts events
+    ask-can-sweep {events} sized = block-can-sweep names rows ls ps ss cols starts lasts (p .cursor .i) (p .cursor .q) (ended .next .c) (ended .next .i) (ended .next .q) (plannable (ask .going)) (ask .going .taken .few) block-is events (ended .alone) sized (ends .said)
 
-    module _ {metal : Bool} {words′ events : List ℕ} {m : ℕ} (made : EventsMade stretches links arranged names rows ls ps ss cols starts lasts (p .cursor .i) (next .c) (p .onward) metal words words′ events m) where
+    module _ {metal : Bool} {words′ events : List ℕ} {m : ℕ} (made : EventsMade stretches links arranged names rows ls ps ss cols starts lasts (p .cursor .i) (ended .next .c) (p .onward) metal words words′ events m) where
       pub block-made : {onward : Bool} → onward ≡ not (cell lasts (columns - 1))
-          → BlockMade stretches links arranged names (lineLists rows ls ps ss) words p metal words′ cols starts lasts events (record { next = record { cursor = next; onward = onward }; events = m })
+          → BlockMade stretches links arranged names (lineLists rows ls ps ss) words p metal words′ cols starts lasts events (record { next = record { cursor = ended .next; onward = onward }; events = m })
       block-made {onward} is =
           let g = ask .going in
           record {
@@ -81,18 +81,18 @@ module _ {stretches links : List ℕ} {arranged : Arranged} {names : ℕ} {rows 
                   evaluable = record { workable = g .evaluable .workable; room = omega (arith, g .evaluable .room, made .made .long) };
                   standing = g .standing;
                   taken = g .taken;
-                  cursor = plan .next ps ss (plannable g) (g .cursor);
+                  cursor = ends .planned-so .next ps ss (plannable g) (g .cursor);
                 };
             long = made .made .long;
-            sized = record { plan = plan .sized; events-sized = made .listed .sized };
-            fewer = omega (arith, ap length (block-is .left), length-drop (next .c) (leftOf names (lineLists rows ls ps ss) p), has-one, ask .left);
+            sized = record { plan = ends .planned-so .sized; events-sized = made .listed .sized };
+            fewer = omega (arith, ap length (block-is .left), length-drop (ended .next .c) (leftOf names (lineLists rows ls ps ss) p), has-one, ask .left);
             few =
-                block-few names rows ls ps ss cols starts lasts (p .cursor .i) (p .cursor .q) (next .c) (next .i) (next .q) (plannable g) (g .taken .few) block-is
+                block-few names rows ls ps ss cols starts lasts (p .cursor .i) (p .cursor .q) (ended .next .c) (ended .next .i) (ended .next .q) (plannable g) (g .taken .few) block-is
                 (made .row) events m metal (made .listed);
             each =
-                block-each names rows ls ps ss cols starts lasts (p .cursor .i) (p .cursor .q) (next .c) (next .i) (next .q) (plannable g) (g .taken .few) block-is
+                block-each names rows ls ps ss cols starts lasts (p .cursor .i) (p .cursor .q) (ended .next .c) (ended .next .i) (ended .next .q) (plannable g) (g .taken .few) block-is
                 (made .row) events m metal (made .listed);
             passes = λ f st o from done is-open pass.
-                block-next names rows ls ps ss cols starts lasts (p .cursor .i) (p .cursor .q) (next .c) (next .i) (next .q) (plannable g) (g .taken .few) block-is
+                block-next names rows ls ps ss cols starts lasts (p .cursor .i) (p .cursor .q) (ended .next .c) (ended .next .i) (ended .next .q) (plannable g) (g .taken .few) block-is
                 (made .row) events m metal (made .listed) from is-open f o stretches links arranged st (p .onward) words words′ (made .made) done pass has-one onward is;
           }

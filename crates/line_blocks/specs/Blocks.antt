@@ -13,14 +13,14 @@ use Rattle.lines.specs.Lines.{LineLists, startState, judged, Wall, Edge}
 use Rattle.lines.specs.Columns.{Column}
 use Rattle.lines.specs.Marked.{Passed}
 use Rattle.line_checking.specs.Verdicts.{InAir}
-use Rattle.line_strips.specs.Strips.{wide, columns, cell, planned, turnsAt, lastAt, Filled}
+use Rattle.line_strips.specs.Strips.{wide, columns, cell, planned, turnsAt, lastAt, Filled, SaidAlone}
 use Rattle.line_strips.specs.Steps.{Entered}
 use Rattle.line_words.specs.Stretches.{StandFor}
 use Rattle.line_words.specs.Steps.{Evaluable, Root}
 use Rattle.line_words.specs.declared.Arranged.{Arranged}
 use Rattle.line_columns.specs.Planned.{leftAt, PlanSized}
 use Rattle.line_columns.specs.Steps.{AtCursor, NextInside, PlanMade}
-use Rattle.line_columns.specs.declared.Cursor.{Cursor}
+use Rattle.line_columns.specs.declared.Ended.{Ended}
 use Rattle.line_sweeping.specs.Events.{endsIn}
 use Rattle.line_sweeping.specs.Steps.{ColumnThere, Listed}
 use Rattle.line_turns.specs.Turns.{Held, held, eventEdge, eventLine, wallsBy, openBy, isOpen}
@@ -36,9 +36,10 @@ pub record RowMade (stretches links : List ℕ) (arranged : Arranged) (names : �
   pub filled : (c : LineLists) (first : State) → c .rows ≡ rows → c .shapes ≡ shapes → Entered names goesOn words first → Filled names (turnsAt names c a (planned cols starts lasts)) (lastAt (planned cols starts lasts)) first words′ n
   pub root : (codes : List ℕ) → StandFor codes stretches links arranged → Root names codes words′ row
 
-pub record CanSweep (ls : List ℕ) (ps : List ℤ) (a n : ℕ) (cols lasts events : List ℕ) : Type 0 where
+pub record CanSweep (ls : List ℕ) (ps : List ℤ) (a n : ℕ) (told : Bool) (cols lasts events : List ℕ) : Type 0 where
   pub narrow : n ≤ columns
   pub there : (c : ℕ) → c < n → ColumnThere ls ps a cols c
+  pub said : SaidAlone ls cols a n told
   pub lasts-sized : length lasts ≡ wide
   pub events-sized : length events ≡ 2 * columns
 
@@ -92,9 +93,10 @@ pub record BlockAsk (stretches links : List ℕ) (arranged : Arranged) (names : 
   pub going : Going stretches links arranged names c words p
   pub left : 0 < length (leftOf names c p)
 
--- the block's columns are planned
-abbrev pub PlannedTo : ℕ → List ℕ → List ℕ → List ℕ → List ℕ → List ℕ → Pass → Cursor → Type 0
-PlannedTo names rows ls cols starts lasts p next = PlanMade names rows ls (planned cols starts lasts) (p .cursor .i) (p .cursor .q) (next .c) (next .i) (next .q)
+-- the block's columns are planned, and what is said of them is so
+pub record BlockEnds (names : ℕ) (rows ls cols starts lasts : List ℕ) (p : Pass) (e : Ended) : Type 0 where
+  pub planned-so : PlanMade names rows ls (planned cols starts lasts) (p .cursor .i) (p .cursor .q) (e .next .c) (e .next .i) (e .next .q)
+  pub said : SaidAlone ls cols (p .cursor .i) (e .next .c) (e .alone)
 
 abbrev pub heldIn : LineLists → Pass → List ℕ → Held
 heldIn c p cols = held (c .lines) (c .positions) (c .shapes) (p .cursor .i) cols

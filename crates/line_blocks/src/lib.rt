@@ -2,14 +2,14 @@
 ghost use mathlib.Core.Path.{_≡_};
 ghost use mathlib.Core.Bool.{not, _||_};
 ghost use lib.Dec.{ltb};
-ghost use Prim.Native.Nat.{_-_};
+ghost use Prim.Native.Nat.{_-_, _*_};
 ghost use lib.ListN.{length};
 ghost use Rattle.lines.specs.Lines.{lineLists, rowCount};
 ghost use Rattle.line_strips.specs.Strips.{columns, cell};
 ghost use Rattle.line_strips.specs.Steps.{Fillable};
 ghost use Rattle.line_words.specs.Steps.{Evaluable};
 ghost use Rattle.line_columns.specs.Steps.{WholeRows, NextInside};
-ghost use Rattle.line_blocks.specs.Blocks.{RowMade, CanSweep, EventsMade, Sized, BlockAsk, BlockMade, SaidOf, Begun};
+ghost use Rattle.line_blocks.specs.Blocks.{RowMade, CanSweep, EventsMade, Sized, BlockAsk, BlockEnds, BlockMade, SaidOf, Begun};
 
 const COLUMNS: usize = line_strips::COLUMNS;
 
@@ -41,9 +41,10 @@ fn block_row(
     lasts: &[u64; 8],
     a: usize,
     n: usize,
+    alone: bool,
     goes_on: bool,
 ) -> [u64; 8]
-    requires { ⌜ Evaluable (now stretches) (now links) (now words) arranged × Fillable names (now rows) (now shape) (now cols) (now starts) (now lasts) a n (now words) ⌝ }
+    requires { ⌜ Evaluable (now stretches) (now links) (now words) arranged × Fillable names (now rows) (now shape) (now cols) (now starts) (now lasts) a n alone (now words) ⌝ }
     ensures { λ r. ⌜ RowMade (now (stretches .entry)) (now (links .entry)) arranged names (now (rows .entry)) (now (shape .entry)) (now (cols .entry)) (now (starts .entry)) (now (lasts .entry)) a n «goes_on» (now (words .entry)) (now (words .exit)) r ⌝ }
 {
     line_strips::fill(
@@ -56,6 +57,7 @@ fn block_row(
         lasts,
         a,
         n,
+        alone,
         goes_on,
     );
     line_words::evaluate(stretches, links, arranged, words)
@@ -77,11 +79,12 @@ fn block_events(
     lasts: &[u64; 8],
     a: usize,
     n: usize,
+    alone: bool,
     goes_on: bool,
     metal: bool,
     events: &mut [u16; EVENTS],
 ) -> usize
-    requires { ⌜ Evaluable (now stretches) (now links) (now words) arranged × Fillable names (now rows) (now shape) (now cols) (now starts) (now lasts) a n (now words) × CanSweep (now line) (now at) a n (now cols) (now lasts) (now events) ⌝ }
+    requires { ⌜ Evaluable (now stretches) (now links) (now words) arranged × Fillable names (now rows) (now shape) (now cols) (now starts) (now lasts) a n alone (now words) × CanSweep (now line) (now at) a n alone (now cols) (now lasts) (now events) ⌝ }
     ensures { λ r. ⌜ EventsMade (now (stretches .entry)) (now (links .entry)) arranged names (now (rows .entry)) (now (line .entry)) (now (at .entry)) (now (shape .entry)) (now (cols .entry)) (now (starts .entry)) (now (lasts .entry)) a n «goes_on» metal (now (words .entry)) (now (words .exit)) (now (events .exit)) r ⌝ }
 {
     let row = block_row(
@@ -97,9 +100,10 @@ fn block_events(
         lasts,
         a,
         n,
+        alone,
         goes_on,
     );
-    line_sweeping::sweep(&row, lasts, line, at, a, cols, n, metal, events)
+    line_sweeping::sweep(&row, lasts, line, at, a, cols, n, alone, metal, events)
 }
 
 // The line of a full block's last column goes on.
@@ -111,6 +115,60 @@ fn goes_past(lasts: &[u64; 8]) -> bool
         return false;
     }
     true
+}
+
+// The block whose columns are planned, with metal before it or not: its events, and the pass after it.
+fn planned_block(
+    stretches: &[u64; 1024],
+    links: &[u32],
+    arranged: line_words::Arranged,
+    names: usize,
+    words: &mut [u64],
+    rows: &[u8],
+    line: &[u32],
+    at: &[i32],
+    shape: &[u16],
+    cols: &[u16; COLUMNS],
+    starts: &[u32; COLUMNS],
+    lasts: &[u64; 8],
+    events: &mut [u16; EVENTS],
+    p: Pass,
+    ended: line_columns::Ended,
+    metal: bool,
+) -> Block
+    requires { ⌜ BlockAsk (now stretches) (now links) arranged names (lineLists (now rows) (now line) (now at) (now shape)) (now words) p × BlockEnds names (now rows) (now line) (now cols) (now starts) (now lasts) p ended × (length (now events) ≡ 2 * columns) ⌝ }
+    ensures { λ r. ⌜ BlockMade (now (stretches .entry)) (now (links .entry)) arranged names (lineLists (now (rows .entry)) (now (line .entry)) (now (at .entry)) (now (shape .entry))) (now (words .entry)) p metal (now (words .exit)) (now (cols .entry)) (now (starts .entry)) (now (lasts .entry)) (now (events .exit)) r ⌝ }
+{
+    let from = p.cursor;
+    let next = ended.next;
+    let m = block_events(
+        stretches,
+        links,
+        arranged,
+        names,
+        words,
+        rows,
+        line,
+        at,
+        shape,
+        cols,
+        starts,
+        lasts,
+        from.i,
+        next.c,
+        ended.alone,
+        p.onward,
+        metal,
+        events,
+    );
+    let onward = goes_past(lasts);
+    Block {
+        next: Pass {
+            cursor: next,
+            onward,
+        },
+        events: m,
+    }
 }
 
 // The next block of the pass, with metal before it or not: its columns and its events.
@@ -136,8 +194,8 @@ pub fn next_block(
     ensures { λ r. ⌜ BlockMade (now (stretches .entry)) (now (links .entry)) arranged names (lineLists (now (rows .entry)) (now (line .entry)) (now (at .entry)) (now (shape .entry))) (now (words .entry)) p metal (now (words .exit)) (now (cols .exit)) (now (starts .exit)) (now (lasts .exit)) (now (events .exit)) r ⌝ }
 {
     let from = p.cursor;
-    let next = line_columns::plan(cols, starts, lasts, rows, names, count, line, from);
-    let m = block_events(
+    let ended = line_columns::plan(cols, starts, lasts, rows, names, count, line, from);
+    planned_block(
         stretches,
         links,
         arranged,
@@ -150,20 +208,11 @@ pub fn next_block(
         cols,
         starts,
         lasts,
-        from.i,
-        next.c,
-        p.onward,
-        metal,
         events,
-    );
-    let onward = goes_past(lasts);
-    Block {
-        next: Pass {
-            cursor: next,
-            onward,
-        },
-        events: m,
-    }
+        p,
+        ended,
+        metal,
+    )
 }
 
 // The first line with a shape inside at its start. Where every line starts in air the rows are not looked at.

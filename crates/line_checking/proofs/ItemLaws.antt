@@ -1,13 +1,14 @@
 -- What is asked of one item.
-use Prim.Native.Nat.{ℕ, zero, suc, _+_, _-_, _<_, _≤_, max}
-use native.Mathlib.Nat.{not-suc-le-zero, le-max-left, le-max-right}
+use Prim.Native.Nat.{ℕ, zero, suc, _+_, _-_, _<_, _≤_}
+use native.Mathlib.Nat.{not-suc-le-zero}
 use native.Mathlib.Numerals.{sub-one}
 use native.Mathlib.Omega.{arith}
-use mathlib.Core.Path.{_≡_, refl, sym, ap, _∙_}
-use mathlib.Core.Bool.{Bool, true, false, _||_}
+use mathlib.Core.Path.{_≡_, refl, sym, ap, ap₂, _∙_}
+use mathlib.Core.Bool.{Bool, true, false, cond, _||_, _&&_}
 use mathlib.Core.List.{List, []}
 use borrow.Author.Tests.{ltb-true, ltb-false, le-ltb, lt-ltb, le-leb, lt-leb, eq-eqb, ne-eqb}
-use lib.Dec.{ltb, leb}
+use lib.Bits.{bitAnd, bitOr, or-add-and, and-le-l, and-le-r}
+use lib.Dec.{ltb, leb, eqb}
 use lib.IntN.{ℤ, pos}
 use lib.ListN.{getD, length}
 use lib.Signed.{ltZ, leZ}
@@ -28,6 +29,23 @@ strays-by rows y m n e f = rw (e, f) (grouped (leZ (y .at) low) (leZ high (y .at
     grouped : (a b d : Bool) → (a || (b || d)) ≡ ((a || b) || d)
     grouped true b d = refl
     grouped false b d = refl
+
+-- flags, 1 or 0, and what they are joined to
+left-off : (a b : ℕ) → bitOr a b ≡ 0 → a ≡ 0
+left-off a b h = omega (arith, or-add-and a b, and-le-r a b)
+
+right-off : (a b : ℕ) → bitOr a b ≡ 0 → b ≡ 0
+right-off a b h = omega (arith, or-add-and a b, and-le-l a b)
+
+flag-off : (x : Bool) → _≡_ {A = ℕ} (cond x 1 0) 0 → x ≡ false
+flag-off true h = absurd (omega arith)
+flag-off false h = refl
+
+flags-off : (x y z : Bool) → _≡_ {A = ℕ} (cond x 1 0) 0 → bitAnd (cond y 1 0) (cond z 1 0) ≡ 0 → (x || (y && z)) ≡ false
+flags-off true y z h k = absurd (omega arith)
+flags-off false true true h k = absurd (omega arith)
+flags-off false true false h k = refl
+flags-off false false z h k = refl
 
 module _ (ls : List ℕ) (ps : List ℤ) where
   pub falls-line : (i : ℕ) → 0 < i → getD ls i 0 < getD ls (i - 1) 0 → true ≡ fallsAt ls ps i
@@ -51,11 +69,20 @@ module _ (ls : List ℕ) (ps : List ℤ) where
   falls-any ss zero = refl
   falls-any ss (suc i) = refl
 
-  pub stray-one : (i : ℕ) → StrayAt ls ps i 1
-  stray-one i = record { rises = λ h. absurd (omega arith); inner = λ h. absurd (omega arith) }
-
-  pub stray-none : (i : ℕ) (p : ℤ) (f m : Bool) → p ≡ getD ps i (pos 0) → f ≡ fallsAt ls ps i → m ≡ atMark p → f ≡ false → m ≡ false → StrayAt ls ps i 0
-  stray-none i p f m is e g h k = record { rises = λ z. sym e ∙ h; inner = λ z. ap atMark (sym is) ∙ sym g ∙ k }
+  pub stray-by : (i a b d e : ℕ) (down m : Bool) (p : ℤ) → 0 < i → a ≡ cond (ltb (getD ls i 0) (getD ls (i - 1) 0)) 1 0 → b ≡ cond (eqb (getD ls i 0) (getD ls (i - 1) 0)) 1 0 → down ≡ ltZ (getD ps i (pos 0)) (getD ps (i - 1) (pos 0)) → d ≡ cond down 1 0 → p ≡ getD ps i (pos 0) → m ≡ atMark p → e ≡ cond m 1 0 → StrayAt ls ps i (bitOr (bitOr a (bitAnd b d)) e)
+  unfolding fallsAt
+  stray-by i a b d e down m p after back same falls of at mark on =
+      record {
+        rises = λ z. rises i after back same falls (left-off a (bitAnd b d) (left-off (bitOr a (bitAnd b d)) e z)) (right-off a (bitAnd b d) (left-off (bitOr a (bitAnd b d)) e z));
+        inner = λ z. ap atMark (sym at) ∙ sym mark ∙ flag-off m (sym on ∙ right-off (bitOr a (bitAnd b d)) e z);
+      }
+    where
+      rises : (i : ℕ) → 0 < i → a ≡ cond (ltb (getD ls i 0) (getD ls (i - 1) 0)) 1 0 → b ≡ cond (eqb (getD ls i 0) (getD ls (i - 1) 0)) 1 0 → down ≡ ltZ (getD ps i (pos 0)) (getD ps (i - 1) (pos 0)) → a ≡ 0 → bitAnd b d ≡ 0 → fallsAt ls ps i ≡ false
+      rises zero h x y t n k = absurd (not-suc-le-zero h)
+      rises (suc i) h x y t n k =
+          flags-off (ltb (getD ls (suc i) 0) (getD ls i 0)) (eqb (getD ls (suc i) 0) (getD ls i 0)) (ltZ (getD ps (suc i) (pos 0)) (getD ps i (pos 0)))
+          (sym (rw sub-one at x) ∙ n)
+          (sym (ap₂ bitAnd (rw sub-one at y) (of ∙ ap (λ (f : Bool). cond f 1 0) (rw sub-one at t))) ∙ k)
 
   -- the items up to the i-th are passed
   pub record Passed (i found : ℕ) : Type 0 where
@@ -65,21 +92,15 @@ module _ (ls : List ℕ) (ps : List ℤ) where
   pub none-yet : Passed 1 0
   none-yet = record { begun = omega arith; none = record { each = λ i h k. absurd (omega arith) } }
 
-  pub none-more : (i found s r : ℕ) → Passed i found → StrayAt ls ps i s → r ≡ max found s → Passed (i + 1) r
-  none-more i found s r n a is = record { begun = omega arith; none = record { each = each } }
+  pub none-more : (i found s : ℕ) → Passed i found → StrayAt ls ps i s → Passed (i + 1) (bitOr found s)
+  none-more i found s n a = record { begun = omega arith; none = record { each = each } }
     where
-      less : found ≤ r
-      less = rw is (le-max-left found s)
-
-      more : s ≤ r
-      more = rw is (le-max-right found s)
-
-      each : (j : ℕ) → 0 < j → j < i + 1 → StrayAt ls ps j r
+      each : (j : ℕ) → 0 < j → j < i + 1 → StrayAt ls ps j (bitOr found s)
       each j h k = by (ltb j i) refl
         where
-          by : (t : Bool) → ltb j i ≡ t → StrayAt ls ps j r
-          by true e = let b = n .none .each j h (ltb-true j i e) in record { rises = λ z. b .rises (omega (arith, less)); inner = λ z. b .inner (omega (arith, less)) }
-          by false e = let same : j ≡ i = omega (arith, ltb-false j i e) in rw same (record { rises = λ z. a .rises (omega (arith, more)); inner = λ z. a .inner (omega (arith, more)) })
+          by : (t : Bool) → ltb j i ≡ t → StrayAt ls ps j (bitOr found s)
+          by true e = let b = n .none .each j h (ltb-true j i e) in record { rises = λ z. b .rises (left-off found s z); inner = λ z. b .inner (left-off found s z) }
+          by false e = let same : j ≡ i = omega (arith, ltb-false j i e) in rw same (record { rises = λ z. a .rises (right-off found s z); inner = λ z. a .inner (right-off found s z) })
 
   pub none-all : (i found : ℕ) → Passed i found → length ls ≤ i → NoneStray ls ps (length ls) found
   none-all i found n h = record { each = λ j p k. n .none .each j p (omega arith) }

@@ -1,5 +1,6 @@
 // Judges start rows and crossing lists, and the room in the answer lists: refusals 13, 14, 10, 15, 11 and 9.
 ghost use mathlib.Core.Path.{_≡_};
+ghost use mathlib.Core.Bool.{cond};
 ghost use Prim.Native.Nat.{_<_, max};
 ghost use lib.IntN.{pos};
 ghost use lib.ListN.{getD, length};
@@ -50,38 +51,44 @@ fn at_mark(p: Place) -> bool
     not_beyond(Place { at: 2147483647 }, p)
 }
 
-// The item at i, not the first, falls behind the one before it. The positions are compared in any case: then no branch is needed.
+// The item at i, not the first, falls behind the one before it.
 fn falls_behind(line: &[u32], at: &[i32], i: usize) -> bool
     requires { ⌜ Later (now line) (now at) i ⌝ }
     ensures { λ r. ⌜ r ≡ fallsAt (now (line .entry)) (now (at .entry)) i ⌝ }
 {
     let l0 = line[i - 1];
     let l1 = line[i];
-    let down = below(at, i, i - 1);
     if l1 < l0 {
         return true;
     }
     if l1 == l0 {
-        return down;
+        return below(at, i, i - 1);
     }
     false
 }
 
-// 1 if the item at i, not the first, falls behind the one before it or is at an end mark.
-fn stray(line: &[u32], at: &[i32], i: usize) -> u8
-    requires { ⌜ Later (now line) (now at) i ⌝ }
-    ensures { λ r. ⌜ StrayAt (now (line .entry)) (now (at .entry)) i r ⌝ }
+pub fn one_if(is: bool) -> u32
+    ensures { λ r. ⌜ r ≡ cond is 1 0 ⌝ }
 {
-    let p = spot(at, i);
-    let falls = falls_behind(line, at, i);
-    let mark = at_mark(p);
-    if falls {
-        return 1;
-    }
-    if mark {
+    if is {
         return 1;
     }
     0
+}
+
+// 0 if the item at i, not the first, neither falls behind the one before it nor is at an end mark. Flags and no branch: then many items are looked at at once.
+fn stray(line: &[u32], at: &[i32], i: usize) -> u32
+    requires { ⌜ Later (now line) (now at) i ⌝ }
+    ensures { λ r. ⌜ StrayAt (now (line .entry)) (now (at .entry)) i r ⌝ }
+{
+    let l0 = line[i - 1];
+    let l1 = line[i];
+    let p = spot(at, i);
+    let back = one_if(l1 < l0);
+    let same = one_if(l1 == l0);
+    let down = one_if(below(at, i, i - 1));
+    let mark = one_if(at_mark(p));
+    back | (same & down) | mark
 }
 
 fn larger_byte(a: u8, b: u8) -> u8
@@ -102,16 +109,16 @@ fn larger_shape(a: u16, b: u16) -> u16
     a
 }
 
-// 0 if no item but perhaps the first falls or is at an end mark. No way out before the end: then many items are looked at at once.
-fn strays(line: &[u32], at: &[i32]) -> u8
+// 0 if no item but perhaps the first falls or is at an end mark. No way out before the end, for the same reason.
+fn strays(line: &[u32], at: &[i32]) -> u32
     requires { ⌜ length (now at) ≡ length (now line) ⌝ }
     ensures { λ r. ⌜ NoneStray (now (line .entry)) (now (at .entry)) (length (now (line .entry))) r ⌝ }
 {
-    let mut found: u8 = 0;
+    let mut found: u32 = 0;
     let mut i: usize = 1;
     while i < line.len() {
         let s = stray(line, at, i);
-        found = larger_byte(found, s);
+        found = found | s;
         i += 1;
     }
     found

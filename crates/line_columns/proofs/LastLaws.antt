@@ -7,12 +7,12 @@ use mathlib.Core.List.{List}
 use borrow.Author.Tests.{eqb-true, eqb-false, eq-eqb, ne-eqb, ltb-true, ltb-false}
 use lib.Bits.{bitOr}
 use lib.Dec.{eqb, ltb}
-use lib.ListN.{getD, length, set, length-set}
+use lib.ListN.{getD, length, set}
 use lib.Seq.{getD-set-same, getD-set-other}
 use Rattle.line_strips.specs.Words.{digit, bit}
 use Rattle.line_strips.specs.Strips.{columns, cell}
 use Rattle.line_strips.proofs.Digits.{bit-or, bit-none, bit-below, bit-above}
-use Rattle.line_columns.specs.Steps.{overAt, LastPut, AllOff}
+use Rattle.line_columns.specs.Steps.{overAt, turnsAway, LastPut}
 
 module _ (ls : List ℕ) (l i : ℕ) where
   pub over-end : i ≡ length ls → true ≡ overAt ls l i
@@ -22,6 +22,9 @@ module _ (ls : List ℕ) (l i : ℕ) where
   pub over-on : (w : ℕ) → (i ≡ length ls → ⊥) → w ≡ getD ls i 0 → not (eqb w l) ≡ overAt ls l i
   unfolding overAt
   over-on w ne e = rw (ne-eqb i (length ls) ne, e)
+
+pub turned-away : (ls : List ℕ) (i : ℕ) → i + 1 < length ls → turnsAway ls i ≡ overAt ls (getD ls i 0) (i + 1)
+turned-away ls i h = over-on ls (getD ls i 0) (i + 1) (getD ls (i + 1) 0) (λ e. omega arith) refl
 
 -- ---- one bit put in
 
@@ -53,53 +56,49 @@ flag-bit false w b d e h = rw e (off ∙ sym (and-no (eqb d b)))
     off : bit (0 * 2 ^ b % 2 ^ 64) d ≡ false
     off = let z : 0 * 2 ^ b % 2 ^ 64 ≡ 0 = omega arith in rw z (bit-none d)
 
-pub last-put : (lasts : List ℕ) (c w : ℕ) (last : Bool) → length lasts ≡ 8 → c < columns → w ≡ cond last 1 0
-    → LastPut lasts (set lasts (c / 64) (bitOr (getD lasts (c / 64) 0) (w * 2 ^ (c % 64) % 18446744073709551616))) c last
-unfolding cell
-last-put lasts c w last long h e = record { long = length-set lasts (c / 64) new; same = same; here = here }
+pub last-put : (w f c : ℕ) (last : Bool) → f ≡ cond last 1 0 → LastPut w (bitOr w (f * 2 ^ (c % 64) % 18446744073709551616)) c last
+last-put w f c last e = record { same = same; here = here }
   where
     new : ℕ
-    new = bitOr (getD lasts (c / 64) 0) (w * 2 ^ (c % 64) % 18446744073709551616)
+    new = bitOr w (f * 2 ^ (c % 64) % 18446744073709551616)
 
-    bit-new : (d : ℕ) → d < 64 → bit new d ≡ (bit (getD lasts (c / 64) 0) d || (eqb d (c % 64) && last))
-    bit-new d k = bit-or (getD lasts (c / 64) 0) (w * 2 ^ (c % 64) % 2 ^ 64) d ∙ rw (flag-bit last w (c % 64) d e k)
+    bit-new : (d : ℕ) → d < 64 → bit new d ≡ (bit w d || (eqb d (c % 64) && last))
+    bit-new d k = bit-or w (f * 2 ^ (c % 64) % 2 ^ 64) d ∙ rw (flag-bit last f (c % 64) d e k)
 
     or-none : (t : Bool) → (t || false) ≡ t
     or-none true = refl
     or-none false = refl
 
-    same : (j : ℕ) → j < columns → (j ≡ c → ⊥) → bit (getD (set lasts (c / 64) new) (j / 64) 0) (j % 64) ≡ bit (getD lasts (j / 64) 0) (j % 64)
-    same j k ne = by (eqb (j / 64) (c / 64)) refl
-      where
-        by : (t : Bool) → eqb (j / 64) (c / 64) ≡ t → bit (getD (set lasts (c / 64) new) (j / 64) 0) (j % 64) ≡ bit (getD lasts (j / 64) 0) (j % 64)
-        by true f =
-            let word : j / 64 ≡ c / 64 = eqb-true (j / 64) (c / 64) f in
-            let other : eqb (j % 64) (c % 64) ≡ false = ne-eqb (j % 64) (c % 64) (λ z. ne (omega (arith, word, z))) in
-            rw (word, getD-set-same lasts (c / 64) new 0 (omega arith)) (bit-new (j % 64) (omega arith) ∙ rw other (or-none (bit (getD lasts (c / 64) 0) (j % 64))))
-        by false f = rw (getD-set-other lasts (c / 64) (j / 64) new 0 (eqb-false (j / 64) (c / 64) f))
+    same : (d : ℕ) → d < 64 → (d ≡ c % 64 → ⊥) → bit new d ≡ bit w d
+    same d k ne = bit-new d k ∙ rw (ne-eqb d (c % 64) ne) (or-none (bit w d))
 
-    here : bit (getD lasts (c / 64) 0) (c % 64) ≡ false → bit (getD (set lasts (c / 64) new) (c / 64) 0) (c % 64) ≡ last
-    here off = rw (getD-set-same lasts (c / 64) new 0 (omega arith)) (bit-new (c % 64) (omega arith) ∙ rw (off, eq-eqb (c % 64) (c % 64) refl))
+    here : bit w (c % 64) ≡ false → bit new (c % 64) ≡ last
+    here off = bit-new (c % 64) (omega arith) ∙ rw (off, eq-eqb (c % 64) (c % 64) refl)
 
--- ---- no column is its line's last
+-- ---- a word among the others
 
-pub record OffTo (lasts : List ℕ) (k : ℕ) : Type 0 where
-  pub long : length lasts ≡ 8
-  pub off : (j : ℕ) → j < 64 * k → cell lasts j ≡ false
+module _ (lasts : List ℕ) (k w j : ℕ) where
+  pub cell-within : k < length lasts → j / 64 ≡ k → cell (set lasts k w) j ≡ bit w (j % 64)
+  unfolding cell
+  cell-within h e = rw (e, getD-set-same lasts k w 0 h)
 
-pub off-none : (lasts : List ℕ) → length lasts ≡ 8 → OffTo lasts 0
-off-none lasts e = record { long = e; off = λ j h. absurd (omega arith) }
+  pub cell-without : (j / 64 ≡ k → ⊥) → cell (set lasts k w) j ≡ cell lasts j
+  unfolding cell
+  cell-without ne = rw (getD-set-other lasts k (j / 64) w 0 ne)
 
-pub off-more : (lasts : List ℕ) (k : ℕ) → OffTo lasts k → k < 8 → OffTo (set lasts k 0) (k + 1)
-unfolding cell
-off-more lasts k o h = record { long = length-set lasts k 0 ∙ o .long; off = off }
-  where
-    off : (j : ℕ) → j < 64 * (k + 1) → bit (getD (set lasts k 0) (j / 64) 0) (j % 64) ≡ false
-    off j l = by (eqb (j / 64) k) refl
-      where
-        by : (t : Bool) → eqb (j / 64) k ≡ t → bit (getD (set lasts k 0) (j / 64) 0) (j % 64) ≡ false
-        by true e = rw (eqb-true (j / 64) k e, getD-set-same lasts k 0 0 (omega (arith, o .long))) (bit-none (j % 64))
-        by false e = rw (getD-set-other lasts k (j / 64) 0 0 (eqb-false (j / 64) k e)) (o .off j (omega (arith, eqb-false (j / 64) k e)))
+-- the same list, with the word as it was and as it is
+module _ (lasts : List ℕ) (w w′ c : ℕ) (last : Bool) (long : length lasts ≡ 8) (h : c < columns) (put : LastPut w w′ c last) where
+  pub cell-same : (j : ℕ) → (j ≡ c → ⊥) → cell (set lasts (c / 64) w′) j ≡ cell (set lasts (c / 64) w) j
+  cell-same j ne = by (eqb (j / 64) (c / 64)) refl
+    where
+      by : (t : Bool) → eqb (j / 64) (c / 64) ≡ t → cell (set lasts (c / 64) w′) j ≡ cell (set lasts (c / 64) w) j
+      by true e =
+          let word : j / 64 ≡ c / 64 = eqb-true (j / 64) (c / 64) e in
+          let there : c / 64 < length lasts = omega arith in
+          cell-within lasts (c / 64) w′ j there word ∙ put .same (j % 64) (omega arith) (λ z. ne (omega (arith, word, z))) ∙ sym (cell-within lasts (c / 64) w j there word)
+      by false e =
+          let other : (j / 64 ≡ c / 64 → ⊥) = eqb-false (j / 64) (c / 64) e in
+          cell-without lasts (c / 64) w′ j other ∙ sym (cell-without lasts (c / 64) w j other)
 
-pub off-all : (lasts : List ℕ) (k : ℕ) → OffTo lasts k → 8 ≤ k → AllOff lasts
-off-all lasts k o h = record { long = o .long; off = λ j l. o .off j (omega arith) }
+  pub cell-here : bit w (c % 64) ≡ false → cell (set lasts (c / 64) w′) c ≡ last
+  cell-here off = cell-within lasts (c / 64) w′ c (omega arith) refl ∙ put .here off

@@ -4,5 +4,6 @@ mod RowLaws
 mod LastLaws
 mod PutLaws
 mod PlanLaws
+mod WordLaws
 mod RunLaws
 pub mod CursorLaws

@@ -1,5 +1,5 @@
--- The planning of a block: how it begins, goes on by a column, and ends.
-use Prim.Native.Nat.{ℕ, _+_, _-_, _<_, _≤_}
+-- The planning of a block: how it begins, goes on by a column or a word, and ends.
+use Prim.Native.Nat.{ℕ, _+_, _-_, _%_, _<_, _≤_}
 use native.Mathlib.Omega.{arith}
 use mathlib.Core.Path.{_≡_, refl, sym, ap, _∙_}
 use mathlib.Core.Bool.{Bool, true, false}
@@ -13,10 +13,23 @@ use Rattle.lines.specs.Lines.{LineLists, lineLists, entries, rowCount, startSta
 use Rattle.lines.specs.Columns.{Column, startColumn, crossingColumn}
 use Rattle.lines.specs.Marked.{mark, markAt}
 use Rattle.lines.specs.Steps.{item, groupEndsAt}
-use Rattle.line_strips.specs.Strips.{Plan, planned, columns}
+use Rattle.line_strips.specs.Strips.{Plan, columns, cell}
 use Rattle.line_columns.specs.Planned.{leftAt, startHeld, crossingHeld, heldAt, HeldWithin, PlanSized, BlockPlanned}
-use Rattle.line_columns.specs.Steps.{Plannable, AtCursor, NextInside, WholeRows, StartsNext, overAt, AllOff, ColumnPut, StartReady, StartPut, CrossingReady, CrossingPut, Planning, CanPlan, PlanMade}
+use Rattle.line_columns.specs.Steps.{Plannable, AtCursor, NextInside, WholeRows, StartsNext, overAt, Planning, PlanningOf, CanPlan, WordNext, WordPlanned, PlanMade}
 use Rattle.line_columns.proofs.Lefts.{crossing-first, crossing-last, crossing-ends, start-first, start-last, start-ends, none-left}
+
+-- a plan's first n columns stay
+pub record Kept (p p′ : Plan) (n : ℕ) : Type 0 where
+  pub sized : PlanSized p′
+  pub cols : (j : ℕ) → j < n → getD (p′ .cols) j 0 ≡ getD (p .cols) j 0
+  pub starts : (j : ℕ) → j < n → getD (p′ .starts) j 0 ≡ getD (p .starts) j 0
+  pub lasts : (j : ℕ) → j < n → cell (p′ .lasts) j ≡ cell (p .lasts) j
+
+-- and column n is put
+pub record Put (p p′ : Plan) (n col : ℕ) (last : Bool) : Type 0 where
+  pub kept : Kept p p′ n
+  pub here : getD (p′ .cols) n 0 ≡ col
+  pub flag : cell (p′ .lasts) n ≡ last
 
 module _ (names : ℕ) (c : LineLists) (a : ℕ) where
   held-start : (p : Plan) (j : ℕ) → getD (p .cols) j 0 ≡ 65535 → heldAt names c a p j ≡ startHeld names c p j
@@ -27,16 +40,16 @@ module _ (names : ℕ) (c : LineLists) (a : ℕ) where
   unfolding heldAt
   held-crossing p j e = rw (ne-eqb (getD (p .cols) j 0) 65535 e)
 
-  -- the other columns stay
-  module _ (p p′ : Plan) (n col start : ℕ) (last : Bool) (put : ColumnPut p p′ n col start last) where
-    held-same : (j : ℕ) → j < n → n < columns → heldAt names c a p′ j ≡ heldAt names c a p j
+  -- the columns before n stay
+  module _ (p p′ : Plan) (n : ℕ) (kept : Kept p p′ n) where
+    held-same : (j : ℕ) → j < n → heldAt names c a p′ j ≡ heldAt names c a p j
     unfolding heldAt
-    held-same j h k = rw (put .cols-same j (λ e. omega arith), put .starts-same j (λ e. omega arith), put .lasts .same j (omega arith) (λ e. omega arith))
+    held-same j h = rw (kept .cols j h, kept .starts j h, kept .lasts j h)
 
     within-same : (j : ℕ) → j < n → HeldWithin names c a p j → HeldWithin names c a p′ j
     within-same j h w = record {
-      row = λ e. rw (put .starts-same j (λ z. omega arith)) (w .row (rw (put .cols-same j (λ z. omega arith)) at e));
-      crossing = λ e. rw (put .cols-same j (λ z. omega arith)) (w .crossing (rw (put .cols-same j (λ z. omega arith)) at e));
+      row = λ e. rw (kept .starts j h) (w .row (rw (kept .cols j h) at e));
+      crossing = λ e. rw (kept .cols j h) (w .crossing (rw (kept .cols j h) at e));
     }
 
 -- what is left after one column more
@@ -47,8 +60,8 @@ pub one-more : (n : ℕ) (xs : List Column) (x : Column) (rest : List Column) �
 one-more n xs x rest e h = omega (arith, ap length e, length-drop n xs)
 
 module _ (names : ℕ) (c : LineLists) (ok : Plannable names c) (i q : ℕ) where
-  pub planning-none : (p : Plan) → PlanSized p → AllOff (p .lasts) → AtCursor names c i q → Planning names c i q p 0 i q
-  planning-none p sized off at = record {
+  planning-none : (p : Plan) → PlanSized p → AtCursor names c i q → Planning names c i q p 0 i q
+  planning-none p sized at = record {
     sized = sized;
     narrow = omega arith;
     cursor = at;
@@ -58,15 +71,27 @@ module _ (names : ℕ) (c : LineLists) (ok : Plannable names c) (i q : ℕ) wher
     are = λ j h. absurd (omega arith);
     within = λ j h. absurd (omega arith);
     left = refl;
-    off = λ j h k. off .off j k;
+  }
+
+  planning-kept : (p p′ : Plan) (n i′ q′ : ℕ) → Kept p p′ n → Planning names c i q p n i′ q′ → Planning names c i q p′ n i′ q′
+  planning-kept p p′ n i′ q′ kept t = record {
+    sized = kept .sized;
+    narrow = t .narrow;
+    cursor = t .cursor;
+    on = t .on;
+    gone = t .gone;
+    enough = t .enough;
+    are = λ j h. held-same names c i p p′ n kept j h ∙ t .are j h;
+    within = λ j h. within-same names c i p p′ n kept j h (t .within j h);
+    left = t .left;
   }
 
   -- a column x more, with rest after it
-  module _ (p p′ : Plan) (n i′ q′ i″ q″ col start : ℕ) (last : Bool) (t : Planning names c i q p n i′ q′) (h : n < columns) (put : ColumnPut p p′ n col start last) where
+  module _ (p p′ : Plan) (n i′ q′ i″ q″ : ℕ) (t : Planning names c i q p n i′ q′) (h : n < columns) (kept : Kept p p′ n) where
     more : (x : Column) → leftAt names c i′ q′ ≡ x ∷ leftAt names c i″ q″ → heldAt names c i p′ n ≡ mark (x ∷ leftAt names c i″ q″) → HeldWithin names c i p′ n → AtCursor names c i″ q″ → i ≤ i″ → i″ ≤ i + (n + 1)
         → Planning names c i q p′ (n + 1) i″ q″
     more x first is within at on gone = record {
-      sized = put .sized;
+      sized = kept .sized;
       narrow = omega arith;
       cursor = at;
       on = on;
@@ -75,24 +100,23 @@ module _ (names : ℕ) (c : LineLists) (ok : Plannable names c) (i q : ℕ) wher
       are = λ j k. are j (ltb j n) refl k;
       within = λ j k. there j (ltb j n) refl k;
       left = rest-of n (leftAt names c i q) x (leftAt names c i″ q″) here;
-      off = λ j k l. put .lasts .same j l (λ e. omega arith) ∙ t .off j (omega arith) l;
     }
       where
         here : drop n (leftAt names c i q) ≡ x ∷ leftAt names c i″ q″
         here = sym (t .left) ∙ first
 
         are : (j : ℕ) (b : Bool) → ltb j n ≡ b → j < n + 1 → heldAt names c i p′ j ≡ markAt (leftAt names c i q) j
-        are j true e k = held-same names c i p p′ n col start last put j (ltb-true j n e) h ∙ t .are j (ltb-true j n e)
+        are j true e k = held-same names c i p p′ n kept j (ltb-true j n e) ∙ t .are j (ltb-true j n e)
         are j false e k = let same : j ≡ n = omega (arith, ltb-false j n e) in rw same (is ∙ ap mark (sym here))
 
         there : (j : ℕ) (b : Bool) → ltb j n ≡ b → j < n + 1 → HeldWithin names c i p′ j
-        there j true e k = within-same names c i p p′ n col start last put j (ltb-true j n e) (t .within j (ltb-true j n e))
+        there j true e k = within-same names c i p p′ n kept j (ltb-true j n e) (t .within j (ltb-true j n e))
         there j false e k = let same : j ≡ n = omega (arith, ltb-false j n e) in rw same within
 
   module _ (p p′ : Plan) (n i′ q′ : ℕ) (t : Planning names c i q p n i′ q′) (h : n < columns) where
-    pub planning-start : (q″ : ℕ) (r : Bool) → StartsNext (c .lines) (rowCount names (c .rows)) i′ q′ r → r ≡ true → NextInside names (c .rows) (q′ + 1) q″ → ColumnPut p p′ n 65535 q′ (overAt (c .lines) q′ i′) → Planning names c i q p′ (n + 1) i′ q″
-    planning-start q″ r s on next put =
-        more p p′ n i′ q′ i′ q″ 65535 q′ (overAt (c .lines) q′ i′) t h put (startColumn (startState names (c .rows)) q′) first is within at (t .on) (omega (arith, t .gone))
+    planning-start : (q″ : ℕ) (r : Bool) → StartsNext (c .lines) (rowCount names (c .rows)) i′ q′ r → r ≡ true → NextInside names (c .rows) (q′ + 1) q″ → Put p p′ n 65535 (overAt (c .lines) q′ i′) → getD (p′ .starts) n 0 ≡ q′ → Planning names c i q p′ (n + 1) i′ q″
+    planning-start q″ r s on next put line =
+        more p p′ n i′ q′ i′ q″ t h (put .kept) (startColumn (startState names (c .rows)) q′) first is within at (t .on) (omega (arith, t .gone))
       where
         first : leftAt names c i′ q′ ≡ startColumn (startState names (c .rows)) q′ ∷ leftAt names c i′ q″
         first = start-first names c ok i′ q′ q″ (t .cursor) (s .row on) (s .before on) next
@@ -101,17 +125,17 @@ module _ (names : ℕ) (c : LineLists) (ok : Plannable names c) (i q : ℕ) wher
         marked = rw (start-ends names c ok i′ q′ q″ (t .cursor) (s .row on) (s .before on) next, start-last names c ok i′ q′ q″ (t .cursor) (s .row on) (s .before on) next)
 
         is : heldAt names c i p′ n ≡ mark (startColumn (startState names (c .rows)) q′ ∷ leftAt names c i′ q″)
-        is = held-start names c i p′ n (put .cols-here) ∙ rw (put .starts-here, put .lasts .here (t .off n (omega arith) h)) marked
+        is = held-start names c i p′ n (put .here) ∙ rw (line, put .flag) marked
 
         within : HeldWithin names c i p′ n
-        within = record { row = λ e. rw (put .starts-here) (s .row on); crossing = λ e. absurd (e (put .cols-here)) }
+        within = record { row = λ e. rw line (s .row on); crossing = λ e. absurd (e (put .here)) }
 
         at : AtCursor names c i′ q″
         at = record { crossing = t .cursor .crossing; row = next .row; inside = next .inside }
 
-    pub planning-crossing : (r : Bool) → StartsNext (c .lines) (rowCount names (c .rows)) i′ q′ r → r ≡ false → i′ < length (c .lines) → ColumnPut p p′ n (i′ - i) 0 (overAt (c .lines) (getD (c .lines) i′ 0) (i′ + 1)) → Planning names c i q p′ (n + 1) (i′ + 1) q′
+    planning-crossing : (r : Bool) → StartsNext (c .lines) (rowCount names (c .rows)) i′ q′ r → r ≡ false → i′ < length (c .lines) → Put p p′ n (i′ - i) (overAt (c .lines) (getD (c .lines) i′ 0) (i′ + 1)) → Planning names c i q p′ (n + 1) (i′ + 1) q′
     planning-crossing r s off l put =
-        more p p′ n i′ q′ (i′ + 1) q′ (i′ - i) 0 (overAt (c .lines) (getD (c .lines) i′ 0) (i′ + 1)) t h put x first is within at (omega (arith, t .on)) (omega (arith, t .gone))
+        more p p′ n i′ q′ (i′ + 1) q′ t h (put .kept) x first is within at (omega (arith, t .on)) (omega (arith, t .gone))
       where
         x : Column
         x = crossingColumn (shapeAt (startState names (c .rows)) (entries c)) (item (c .lines) (c .positions) (c .shapes) i′)
@@ -123,16 +147,16 @@ module _ (names : ℕ) (c : LineLists) (ok : Plannable names c) (i q : ℕ) wher
         back = omega (arith, t .on)
 
         few : (getD (p′ .cols) n 0 ≡ 65535 → ⊥)
-        few e = absurd (omega (arith, put .cols-here, t .gone))
+        few e = absurd (omega (arith, put .here, t .gone))
 
         marked : record { column = x; ends = groupEndsAt (c .lines) (c .positions) i′; last = overAt (c .lines) (getD (c .lines) i′ 0) (i′ + 1) } ≡ mark (x ∷ leftAt names c (i′ + 1) q′)
         marked = rw (crossing-ends names c ok i′ q′ l (s .beyond off), crossing-last names c ok i′ q′ l (s .beyond off))
 
         is : heldAt names c i p′ n ≡ mark (x ∷ leftAt names c (i′ + 1) q′)
-        is = held-crossing names c i p′ n few ∙ rw (put .cols-here, back, put .lasts .here (t .off n (omega arith) h)) marked
+        is = held-crossing names c i p′ n few ∙ rw (put .here, back, put .flag) marked
 
         within : HeldWithin names c i p′ n
-        within = record { row = λ e. absurd (few e); crossing = λ e. rw (put .cols-here, back) l }
+        within = record { row = λ e. absurd (few e); crossing = λ e. rw (put .here, back) l }
 
         at : AtCursor names c (i′ + 1) q′
         at = record { crossing = omega arith; row = t .cursor .row; inside = t .cursor .inside }
@@ -141,91 +165,94 @@ module _ (names : ℕ) (c : LineLists) (ok : Plannable names c) (i q : ℕ) wher
     block : (n < columns → leftAt names c i′ q′ ≡ []) → BlockPlanned names c i q p n i′ q′
     block full = record { sized = t .sized; narrow = t .narrow; enough = t .enough; are = t .are; within = t .within; left = t .left; full = full }
 
-    pub planned-full : columns ≤ n → BlockPlanned names c i q p n i′ q′
+    planned-full : columns ≤ n → BlockPlanned names c i q p n i′ q′
     planned-full h = block (λ k. absurd (omega arith))
 
-    pub planned-over : (r : Bool) → StartsNext (c .lines) (rowCount names (c .rows)) i′ q′ r → r ≡ false → length (c .lines) ≤ i′ → BlockPlanned names c i q p n i′ q′
-    planned-over r s off h = block (λ k. none-left names c ok i′ q′ h (rows (ltb q′ (rowCount names (c .rows))) refl))
-      where
-        rows : (b : Bool) → ltb q′ (rowCount names (c .rows)) ≡ b → rowCount names (c .rows) ≤ q′
-        rows true e = absurd (omega (arith, s .after off (ltb-true q′ (rowCount names (c .rows)) e)))
-        rows false e = ltb-false q′ (rowCount names (c .rows)) e
+    planned-over : length (c .lines) ≤ i′ → rowCount names (c .rows) ≤ q′ → BlockPlanned names c i q p n i′ q′
+    planned-over h k = block (λ z. none-left names c ok i′ q′ h k)
 
 -- ---- the same whatever the positions and the shapes are
 
-pub record PlanningOf (names : ℕ) (rows ls : List ℕ) (count : ℕ) (i q : ℕ) (p : Plan) (n i′ q′ : ℕ) : Type 0 where
-  pub whole : WholeRows names rows count
-  pub few : count ≤ 4294967296
-  pub sized : PlanSized p
-  pub narrow : n ≤ columns
-  pub crossing : i′ ≤ length ls
-  pub row : q′ ≤ count
-  pub on : i ≤ i′
-  pub gone : i′ ≤ i + n
-  pub all : (ps : List ℤ) (ss : List ℕ) → Plannable names (lineLists rows ls ps ss) → AtCursor names (lineLists rows ls ps ss) i q → Planning names (lineLists rows ls ps ss) i q p n i′ q′
+-- whole words are planned
+pub record Words (names : ℕ) (rows ls : List ℕ) (count : ℕ) (i q : ℕ) (p : Plan) (n i′ q′ : ℕ) : Type 0 where
+  pub planning : PlanningOf names rows ls count i q p n i′ q′
+  pub words : n % 64 ≡ 0
 
 module _ (names : ℕ) (rows ls : List ℕ) (count i q : ℕ) where
-  pub each-none : (cols starts lasts lasts′ : List ℕ) → CanPlan names rows ls count (planned cols starts lasts) i q → AllOff lasts′ → PlanningOf names rows ls count i q (planned cols starts lasts′) 0 i q
-  each-none cols starts lasts lasts′ can off = record {
-    whole = can .whole;
-    few = can .few;
-    sized = sized;
-    narrow = omega arith;
-    crossing = can .crossing;
-    row = can .row;
-    on = omega arith;
-    gone = omega arith;
-    all = λ ps ss ok at. planning-none names (lineLists rows ls ps ss) ok i q (planned cols starts lasts′) sized off at;
+  pub each-kept : (p p′ : Plan) (n i′ q′ : ℕ) → Kept p p′ n → PlanningOf names rows ls count i q p n i′ q′ → PlanningOf names rows ls count i q p′ n i′ q′
+  each-kept p p′ n i′ q′ kept t = record {
+    whole = t .whole;
+    few = t .few;
+    sized = kept .sized;
+    narrow = t .narrow;
+    crossing = t .crossing;
+    row = t .row;
+    on = t .on;
+    gone = t .gone;
+    all = λ ps ss ok at. planning-kept names (lineLists rows ls ps ss) ok i q p p′ n i′ q′ kept (t .all ps ss ok at);
   }
-    where
-      sized : PlanSized (planned cols starts lasts′)
-      sized = record { cols = can .sized .cols; starts = can .sized .starts; lasts = off .long }
-
-  module _ (p : Plan) (n i′ q′ : ℕ) (t : PlanningOf names rows ls count i q p n i′ q′) (h : n < columns) where
-    pub start-ready : (r : Bool) → StartsNext ls count i′ q′ r → r ≡ true → StartReady names rows ls count p i′ q′ n
-    start-ready r s is = record { whole = t .whole; few = t .few; sized = t .sized; narrow = h; crossing = t .crossing; row = s .row is }
-
-    pub crossing-ready : (i′ ≡ length ls → ⊥) → CrossingReady ls p i i′ n
-    crossing-ready ne = record { sized = t .sized; narrow = h; crossing = omega (arith, t .crossing, ne); on = t .on; gone = t .gone }
 
   module _ (p p′ : Plan) (n i′ q′ : ℕ) (t : PlanningOf names rows ls count i q p n i′ q′) (h : n < columns) (r : Bool) (s : StartsNext ls count i′ q′ r) where
     seen : StartsNext ls (rowCount names rows) i′ q′ r
     seen = rw (← t .whole .are) s
 
-    pub each-start : (i″ q″ n′ : ℕ) → r ≡ true → StartPut names rows ls p p′ i′ q′ n i″ q″ n′ → PlanningOf names rows ls count i q p′ n′ i″ q″
-    each-start i″ q″ n′ is st = rw (st .same, st .more) (record {
+    pub each-start : (q″ : ℕ) → r ≡ true → NextInside names rows (q′ + 1) q″ → Put p p′ n 65535 (overAt ls q′ i′) → getD (p′ .starts) n 0 ≡ q′ → PlanningOf names rows ls count i q p′ (n + 1) i′ q″
+    each-start q″ is next put line = record {
       whole = t .whole;
       few = t .few;
-      sized = st .put .sized;
+      sized = put .kept .sized;
       narrow = omega arith;
       crossing = t .crossing;
-      row = omega (arith, st .next .row, t .whole .are);
+      row = omega (arith, next .row, t .whole .are);
       on = t .on;
       gone = omega (arith, t .gone);
-      all = λ ps ss ok at. planning-start names (lineLists rows ls ps ss) ok i q p p′ n i′ q′ (t .all ps ss ok at) h q″ r seen is (st .next) (st .put);
-    })
+      all = λ ps ss ok at. planning-start names (lineLists rows ls ps ss) ok i q p p′ n i′ q′ (t .all ps ss ok at) h q″ r seen is next put line;
+    }
 
-    pub each-crossing : (i″ q″ n′ : ℕ) → r ≡ false → (i′ ≡ length ls → ⊥) → CrossingPut ls p p′ i i′ q′ n i″ q″ n′ → PlanningOf names rows ls count i q p′ n′ i″ q″
-    each-crossing i″ q″ n′ is ne cr =
-        let l : i′ < length ls = omega (arith, t .crossing, ne) in
-        rw (cr .next, cr .same, cr .more) (record {
-          whole = t .whole;
-          few = t .few;
-          sized = cr .put .sized;
-          narrow = omega arith;
-          crossing = omega arith;
-          row = t .row;
-          on = omega (arith, t .on);
-          gone = omega (arith, t .gone);
-          all = λ ps ss ok at. planning-crossing names (lineLists rows ls ps ss) ok i q p p′ n i′ q′ (t .all ps ss ok at) h r seen is l (cr .put);
-        })
+    pub each-crossing : r ≡ false → i′ < length ls → Put p p′ n (i′ - i) (overAt ls (getD ls i′ 0) (i′ + 1)) → PlanningOf names rows ls count i q p′ (n + 1) (i′ + 1) q′
+    each-crossing is l put = record {
+      whole = t .whole;
+      few = t .few;
+      sized = put .kept .sized;
+      narrow = omega arith;
+      crossing = omega arith;
+      row = t .row;
+      on = omega (arith, t .on);
+      gone = omega (arith, t .gone);
+      all = λ ps ss ok at. planning-crossing names (lineLists rows ls ps ss) ok i q p p′ n i′ q′ (t .all ps ss ok at) h r seen is l put;
+    }
 
-  module _ (p : Plan) (n i′ q′ : ℕ) (t : PlanningOf names rows ls count i q p n i′ q′) where
-    made : ((ps : List ℤ) (ss : List ℕ) → Plannable names (lineLists rows ls ps ss) → AtCursor names (lineLists rows ls ps ss) i q → BlockPlanned names (lineLists rows ls ps ss) i q p n i′ q′) → PlanMade names rows ls p i q n i′ q′
-    made block = record { sized = t .sized; narrow = t .narrow; crossing = t .crossing; row = omega (arith, t .row, t .whole .are); block = block; next = λ ps ss ok at. t .all ps ss ok at .cursor }
+  -- ---- word by word
 
-    pub each-full : columns ≤ n → PlanMade names rows ls p i q n i′ q′
-    each-full h = made (λ ps ss ok at. planned-full names (lineLists rows ls ps ss) ok i q p n i′ q′ (t .all ps ss ok at) h)
+  pub words-none : (p : Plan) → CanPlan names rows ls count p i q → Words names rows ls count i q p 0 i q
+  words-none p can = record {
+    planning = record {
+      whole = can .whole;
+      few = can .few;
+      sized = can .sized;
+      narrow = omega arith;
+      crossing = can .crossing;
+      row = can .row;
+      on = omega arith;
+      gone = omega arith;
+      all = λ ps ss ok at. planning-none names (lineLists rows ls ps ss) ok i q p (can .sized) at;
+    };
+    words = refl;
+  }
 
-    pub each-over : (r : Bool) → StartsNext ls count i′ q′ r → r ≡ false → i′ ≡ length ls → PlanMade names rows ls p i q n i′ q′
-    each-over r s is e = made (λ ps ss ok at. planned-over names (lineLists rows ls ps ss) ok i q p n i′ q′ (t .all ps ss ok at) r (rw (← t .whole .are) s) is (omega arith))
+  module _ (p : Plan) (n i′ q′ : ℕ) where
+    pub words-next : Words names rows ls count i q p n i′ q′ → n < columns → WordNext names rows ls count i q p n i′ q′
+    words-next t h = record { planning = t .planning; words = t .words; more = h }
+
+    made : PlanningOf names rows ls count i q p n i′ q′ → ((ps : List ℤ) (ss : List ℕ) → Plannable names (lineLists rows ls ps ss) → AtCursor names (lineLists rows ls ps ss) i q → BlockPlanned names (lineLists rows ls ps ss) i q p n i′ q′) → PlanMade names rows ls p i q n i′ q′
+    made t block = record { sized = t .sized; narrow = t .narrow; crossing = t .crossing; row = omega (arith, t .row, t .whole .are); block = block; next = λ ps ss ok at. t .all ps ss ok at .cursor }
+
+    pub words-full : Words names rows ls count i q p n i′ q′ → columns ≤ n → PlanMade names rows ls p i q n i′ q′
+    words-full t h = made (t .planning) (λ ps ss ok at. planned-full names (lineLists rows ls ps ss) ok i q p n i′ q′ (t .planning .all ps ss ok at) h)
+
+    module _ (c : ℕ) (t : WordPlanned names rows ls count i q p c n i′ q′) where
+      pub words-more : c % 64 ≡ 0 → c + 64 ≤ n → Words names rows ls count i q p n i′ q′
+      words-more e h = record { planning = t .planning; words = omega (arith, t .most) }
+
+      pub words-over : n < c + 64 → PlanMade names rows ls p i q n i′ q′
+      words-over h = made (t .planning) (λ ps ss ok at. planned-over names (lineLists rows ls ps ss) ok i q p n i′ q′ (t .planning .all ps ss ok at) (t .crossing h) (omega (arith, t .row h, t .planning .whole .are)))

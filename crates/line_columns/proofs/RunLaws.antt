@@ -16,11 +16,12 @@ use Rattle.lines.specs.Columns.{crossingColumn}
 use Rattle.lines.specs.Marked.{mark, markAt}
 use Rattle.lines.specs.Steps.{item}
 use Rattle.line_strips.specs.Words.{digit, bit}
-use Rattle.line_strips.specs.Strips.{Plan, planned, columns, cell}
+use Rattle.line_strips.specs.Strips.{Plan, planned, columns, cell, Alone, SaidAlone}
 use Rattle.line_strips.proofs.Digits.{bit-or, bit-none, bit-below, bit-above}
 use Rattle.line_columns.specs.Planned.{leftAt, heldAt, PlanSized, BlockPlanned}
-use Rattle.line_columns.specs.Steps.{Plannable, AtCursor, overAt, CanPlan, PlanMade, turnsAway, Ends, RunMarked, Rising, RunsOn}
+use Rattle.line_columns.specs.Steps.{Plannable, AtCursor, overAt, CanPlan, PlanMade, turnsAway, Ends, RunMarked, Numbered, RunsOn}
 use Rattle.line_columns.proofs.Lefts.{crossing-first, crossing-last, crossing-ends}
+use Rattle.line_columns.proofs.LastLaws.{turned-away}
 use Rattle.line_columns.proofs.PlanLaws.{held-crossing, rest-of, one-more}
 
 -- t of 64, eights
@@ -126,25 +127,25 @@ module _ (ls : List ℕ) where
 pub run-there : (ls : List ℕ) (count i q : ℕ) (r : Bool) → RunsOn ls count i q r → r ≡ true → i + 512 < length ls
 run-there ls count i q r runs is = runs .more is
 
-pub rising-none : (cols : List ℕ) → length cols ≡ columns → Rising cols 0
-rising-none cols e = record { long = e; are = λ j h. absurd (omega arith) }
+pub numbered-none : (cols : List ℕ) → length cols ≡ columns → Numbered cols 0
+numbered-none cols e = record { long = e; alone = record { are = λ j h. absurd (omega arith) } }
 
-pub rising-more : (cols : List ℕ) (n : ℕ) → Rising cols n → n < columns → Rising (set cols n n) (n + 1)
-rising-more cols n r h = record { long = length-set cols n n ∙ r .long; are = are }
+pub numbered-more : (cols : List ℕ) (n : ℕ) → Numbered cols n → n < columns → Numbered (set cols n n) (n + 1)
+numbered-more cols n r h = record { long = length-set cols n n ∙ r .long; alone = record { are = are } }
   where
     are : (j : ℕ) → j < n + 1 → getD (set cols n n) j 0 ≡ j
     are j l = by (eqb j n) refl
       where
         by : (t : Bool) → eqb j n ≡ t → getD (set cols n n) j 0 ≡ j
         by true e = rw (eqb-true j n e, getD-set-same cols n n 0 (omega (arith, r .long)))
-        by false e = getD-set-other cols n j n 0 (eqb-false j n e) ∙ r .are j (omega (arith, eqb-false j n e))
+        by false e = getD-set-other cols n j n 0 (eqb-false j n e) ∙ r .alone .are j (omega (arith, eqb-false j n e))
 
-pub rising-all : (cols : List ℕ) (n : ℕ) → Rising cols n → columns ≤ n → Rising cols columns
-rising-all cols n r h = record { long = r .long; are = λ j l. r .are j (omega arith) }
+pub numbered-all : (cols : List ℕ) (n : ℕ) → Numbered cols n → columns ≤ n → Numbered cols columns
+numbered-all cols n r h = record { long = r .long; alone = record { are = λ j l. r .alone .are j (omega arith) } }
 
 -- ---- the block
 
-module _ (names : ℕ) (c : LineLists) (ok : Plannable names c) (i q : ℕ) (at : AtCursor names c i q) (p : Plan) (sized : PlanSized p) (cols : Rising (p .cols) columns) (marks : RunMarked (c .lines) i (p .lasts) 8)
+module _ (names : ℕ) (c : LineLists) (ok : Plannable names c) (i q : ℕ) (at : AtCursor names c i q) (p : Plan) (sized : PlanSized p) (cols : Alone (p .cols) columns) (marks : RunMarked (c .lines) i (p .lasts) 8)
     (there : i + 512 < length (c .lines)) (before : q < rowCount names (c .rows) → getD (c .lines) (i + 511) 0 < q) where
   -- lines never fall, so each is before the next start
   short : (j : ℕ) → j < 512 → q < rowCount names (c .rows) → getD (c .lines) (i + j) 0 < q
@@ -175,8 +176,7 @@ module _ (names : ℕ) (c : LineLists) (ok : Plannable names c) (i q : ℕ) (at 
   few j h e = absurd (omega (arith, cols .are j h))
 
   ahead : (j : ℕ) → j < 512 → overAt (c .lines) (getD (c .lines) (i + j) 0) (i + j + 1) ≡ turnsAway (c .lines) (i + j)
-  unfolding overAt
-  ahead j h = rw (ne-eqb (i + j + 1) (length (c .lines)) (λ e. absurd (omega arith)))
+  ahead j h = sym (turned-away (c .lines) (i + j) (omega arith))
 
   are : (j : ℕ) → j < 512 → heldAt names c i p j ≡ markAt (leftAt names c i q) j
   are j h =
@@ -199,19 +199,27 @@ module _ (names : ℕ) (c : LineLists) (ok : Plannable names c) (i q : ℕ) (at 
   run-next = record { crossing = omega arith; row = at .row; inside = at .inside }
 
 pub run-made : (names : ℕ) (rows ls : List ℕ) (count : ℕ) (cols cols′ starts lasts lasts′ : List ℕ) (i q : ℕ) (r : Bool)
-    → CanPlan names rows ls count (planned cols starts lasts) i q → RunsOn ls count i q r → r ≡ true → Rising cols′ columns → RunMarked ls i lasts′ 8
+    → CanPlan names rows ls count (planned cols starts lasts) i q → RunsOn ls count i q r → r ≡ true → Numbered cols′ columns → RunMarked ls i lasts′ 8
     → PlanMade names rows ls (planned cols′ starts lasts′) i q 512 (i + 512) q
-run-made names rows ls count cols cols′ starts lasts lasts′ i q r can runs is rising marks = record {
+run-made names rows ls count cols cols′ starts lasts lasts′ i q r can runs is numbered marks = record {
   sized = sized;
   narrow = omega arith;
   crossing = omega (arith, runs .more is);
   row = omega (arith, can .row, can .whole .are);
-  block = λ ps ss ok at. run-block names (lineLists rows ls ps ss) ok i q at (planned cols′ starts lasts′) sized rising marks (runs .more is) before;
-  next = λ ps ss ok at. run-next names (lineLists rows ls ps ss) ok i q at (planned cols′ starts lasts′) sized rising marks (runs .more is) before;
+  block = λ ps ss ok at. run-block names (lineLists rows ls ps ss) ok i q at (planned cols′ starts lasts′) sized (numbered .alone) marks (runs .more is) before;
+  next = λ ps ss ok at. run-next names (lineLists rows ls ps ss) ok i q at (planned cols′ starts lasts′) sized (numbered .alone) marks (runs .more is) before;
 }
   where
     sized : PlanSized (planned cols′ starts lasts′)
-    sized = record { cols = rising .long; starts = can .sized .starts; lasts = marks .long }
+    sized = record { cols = numbered .long; starts = can .sized .starts; lasts = marks .long }
 
     before : q < rowCount names rows → getD ls (i + 511) 0 < q
     before h = runs .before is (omega (arith, can .whole .are))
+
+-- ---- what is said of it
+
+pub run-said : (ls : List ℕ) (count i q : ℕ) (r : Bool) (cols : List ℕ) → RunsOn ls count i q r → r ≡ true → Numbered cols columns → SaidAlone ls cols i 512 true
+run-said ls count i q r cols runs is numbered = record { are = λ e. numbered .alone; more = λ e. runs .more is }
+
+pub not-said : (ls cols : List ℕ) (a n : ℕ) → SaidAlone ls cols a n false
+not-said ls cols a n = record { are = λ e. absurd (false≢true e); more = λ e. absurd (false≢true e) }

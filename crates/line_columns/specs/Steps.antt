@@ -1,17 +1,17 @@
 -- What the planning of a block keeps.
-use Prim.Native.Nat.{ℕ, _+_, _-_, _*_, _<_, _≤_}
+use Prim.Native.Nat.{ℕ, _+_, _-_, _*_, _/_, _%_, _<_, _≤_}
 use mathlib.Core.Path.{_≡_}
 use mathlib.Core.Bool.{Bool, true, false, not, cond}
 use mathlib.Core.List.{List}
 use lib.Dec.{eqb}
 use lib.IntN.{ℤ}
-use lib.ListN.{getD, length, drop}
+use lib.ListN.{getD, length, drop, set}
 use Rattle.lines.specs.Lines.{LineLists, lineLists, rowCount, startState}
 use Rattle.lines.specs.Columns.{anyInside}
 use Rattle.lines.specs.Marked.{markAt}
 use Rattle.lines.specs.Steps.{Ascending}
 use Rattle.line_strips.specs.Words.{bit}
-use Rattle.line_strips.specs.Strips.{Plan, cell, columns}
+use Rattle.line_strips.specs.Strips.{Plan, planned, cell, columns, Alone}
 use Rattle.line_columns.specs.Planned.{leftAt, heldAt, HeldWithin, PlanSized, BlockPlanned}
 
 -- accepted lists: their rows are whole
@@ -56,16 +56,10 @@ pub record Occupied (row : List ℕ) (r : Bool) : Type 0 where
 unfoldable pub overAt : List ℕ → ℕ → ℕ → Bool
 overAt ls l i = cond (eqb i (length ls)) true (not (eqb (getD ls i 0) l))
 
--- one bit more: those before it stay, those after it are off
-pub record LastPut (lasts lasts′ : List ℕ) (c : ℕ) (last : Bool) : Type 0 where
-  pub long : length lasts′ ≡ length lasts
-  pub same : (j : ℕ) → j < columns → (j ≡ c → ⊥) → cell lasts′ j ≡ cell lasts j
-  pub here : cell lasts c ≡ false → cell lasts′ c ≡ last
-
--- no column is
-pub record AllOff (lasts : List ℕ) : Type 0 where
-  pub long : length lasts ≡ 8
-  pub off : (j : ℕ) → j < columns → cell lasts j ≡ false
+-- column c in its word of lasts: the other columns stay
+pub record LastPut (w w′ c : ℕ) (last : Bool) : Type 0 where
+  pub same : (d : ℕ) → d < 64 → (d ≡ c % 64 → ⊥) → bit w′ d ≡ bit w d
+  pub here : bit w (c % 64) ≡ false → bit w′ (c % 64) ≡ last
 
 -- the start of line q comes before crossing i
 pub record StartsNext (ls : List ℕ) (count i q : ℕ) (r : Bool) : Type 0 where
@@ -74,40 +68,42 @@ pub record StartsNext (ls : List ℕ) (count i q : ℕ) (r : Bool) : Type 0 wher
   pub after : r ≡ false → q < count → i < length ls
   pub beyond : r ≡ false → q < count → getD ls i 0 < q
 
--- column c is put into a plan
-pub record ColumnPut (p p′ : Plan) (c col start : ℕ) (last : Bool) : Type 0 where
-  pub sized : PlanSized p′
-  pub cols-here : getD (p′ .cols) c 0 ≡ col
-  pub starts-here : getD (p′ .starts) c 0 ≡ start
-  pub cols-same : (j : ℕ) → (j ≡ c → ⊥) → getD (p′ .cols) j 0 ≡ getD (p .cols) j 0
-  pub starts-same : (j : ℕ) → (j ≡ c → ⊥) → getD (p′ .starts) j 0 ≡ getD (p .starts) j 0
-  pub lasts : LastPut (p .lasts) (p′ .lasts) c last
+-- column c is put among the columns, and into its word of lasts
+pub record ColumnPut (cols : List ℕ) (w : ℕ) (cols′ : List ℕ) (w′ c col : ℕ) (last : Bool) : Type 0 where
+  pub long : length cols′ ≡ columns
+  pub here : getD cols′ c 0 ≡ col
+  pub same : (j : ℕ) → (j ≡ c → ⊥) → getD cols′ j 0 ≡ getD cols j 0
+  pub lasts : LastPut w w′ c last
 
 -- the start of line q can become column c
-pub record StartReady (names : ℕ) (rows ls : List ℕ) (count : ℕ) (p : Plan) (i q c : ℕ) : Type 0 where
+pub record StartReady (names : ℕ) (rows ls : List ℕ) (count : ℕ) (cols starts : List ℕ) (i q c : ℕ) : Type 0 where
   pub whole : WholeRows names rows count
   pub few : count ≤ 4294967296
-  pub sized : PlanSized p
+  pub wide : length cols ≡ columns
+  pub long : length starts ≡ columns
   pub narrow : c < columns
   pub crossing : i ≤ length ls
   pub row : q < count
 
-pub record StartPut (names : ℕ) (rows ls : List ℕ) (p p′ : Plan) (i q c i′ q′ c′ : ℕ) : Type 0 where
-  pub put : ColumnPut p p′ c 65535 q (overAt ls q i)
+pub record StartPut (names : ℕ) (rows ls cols starts : List ℕ) (w : ℕ) (cols′ starts′ : List ℕ) (w′ i q c i′ q′ c′ : ℕ) : Type 0 where
+  pub put : ColumnPut cols w cols′ w′ c 65535 (overAt ls q i)
+  pub long : length starts′ ≡ columns
+  pub here : getD starts′ c 0 ≡ q
+  pub others : (j : ℕ) → (j ≡ c → ⊥) → getD starts′ j 0 ≡ getD starts j 0
   pub next : NextInside names rows (q + 1) q′
   pub same : i′ ≡ i
   pub more : c′ ≡ c + 1
 
 -- crossing i can become column c of the block that begins at crossing a
-pub record CrossingReady (ls : List ℕ) (p : Plan) (a i c : ℕ) : Type 0 where
-  pub sized : PlanSized p
+pub record CrossingReady (cols : List ℕ) (a i c : ℕ) : Type 0 where
+  pub wide : length cols ≡ columns
   pub narrow : c < columns
-  pub crossing : i < length ls
+  pub few : i < 18446744073709551615
   pub on : a ≤ i
   pub gone : i ≤ a + c
 
-pub record CrossingPut (ls : List ℕ) (p p′ : Plan) (a i q c i′ q′ c′ : ℕ) : Type 0 where
-  pub put : ColumnPut p p′ c (i - a) 0 (overAt ls (getD ls i 0) (i + 1))
+pub record CrossingPut (cols : List ℕ) (w : ℕ) (cols′ : List ℕ) (w′ a : ℕ) (last : Bool) (i q c i′ q′ c′ : ℕ) : Type 0 where
+  pub put : ColumnPut cols w cols′ w′ c (i - a) last
   pub next : i′ ≡ i + 1
   pub same : q′ ≡ q
   pub more : c′ ≡ c + 1
@@ -123,7 +119,71 @@ pub record Planning (names : ℕ) (c : LineLists) (i q : ℕ) (p : Plan) (n i′
   pub are : (j : ℕ) → j < n → heldAt names c i p j ≡ markAt (leftAt names c i q) j
   pub within : (j : ℕ) → j < n → HeldWithin names c i p j
   pub left : leftAt names c i′ q′ ≡ drop n (leftAt names c i q)
-  pub off : (j : ℕ) → n ≤ j → j < columns → cell (p .lasts) j ≡ false
+
+-- the same whatever the positions and the shapes are, if the lists are accepted
+pub record PlanningOf (names : ℕ) (rows ls : List ℕ) (count : ℕ) (i q : ℕ) (p : Plan) (n i′ q′ : ℕ) : Type 0 where
+  pub whole : WholeRows names rows count
+  pub few : count ≤ 4294967296
+  pub sized : PlanSized p
+  pub narrow : n ≤ columns
+  pub crossing : i′ ≤ length ls
+  pub row : q′ ≤ count
+  pub on : i ≤ i′
+  pub gone : i′ ≤ i + n
+  pub all : (ps : List ℤ) (ss : List ℕ) → Plannable names (lineLists rows ls ps ss) → AtCursor names (lineLists rows ls ps ss) i q → Planning names (lineLists rows ls ps ss) i q p n i′ q′
+
+-- a word of columns comes next
+pub record WordNext (names : ℕ) (rows ls : List ℕ) (count : ℕ) (i q : ℕ) (p : Plan) (c i′ q′ : ℕ) : Type 0 where
+  pub planning : PlanningOf names rows ls count i q p c i′ q′
+  pub words : c % 64 ≡ 0
+  pub more : c < columns
+
+-- the word of lasts from column c on is in hand: it is w, and says of no column from n on
+pub record WordPlanning (names : ℕ) (rows ls : List ℕ) (count : ℕ) (i q : ℕ) (lasts : List ℕ) (c : ℕ) (cols starts : List ℕ) (w n i′ q′ : ℕ) : Type 0 where
+  pub planning : PlanningOf names rows ls count i q (planned cols starts (set lasts (c / 64) w)) n i′ q′
+  pub words : c % 64 ≡ 0
+  pub more : c < columns
+  pub from : c ≤ n
+  pub most : n ≤ c + 64
+  pub off : (d : ℕ) → n ≤ c + d → d < 64 → bit w d ≡ false
+
+-- the crossings from i on, to the one before stop, can become the columns from c on
+pub record UntilReady (ls cols : List ℕ) (a stop i c : ℕ) : Type 0 where
+  pub wide : length cols ≡ columns
+  pub room : stop + c ≤ columns + i
+  pub there : stop ≤ length ls
+  pub crossing : i ≤ length ls
+  pub on : a ≤ i
+  pub gone : i ≤ a + c
+
+-- the first of them are columns: whatever block they are of, if its next start is not before line limit
+pub record UntilPut (ls : List ℕ) (a limit stop : ℕ) (cols : List ℕ) (w i q c : ℕ) (cols′ : List ℕ) (w′ i′ q′ c′ : ℕ) : Type 0 where
+  pub further : c ≤ c′
+  pub planning : (names : ℕ) (rows : List ℕ) (count q₀ : ℕ) (lasts : List ℕ) (c₀ : ℕ) (starts : List ℕ) → (q < count → limit ≤ q) → stop + c ≤ c₀ + 64 + i
+      → WordPlanning names rows ls count a q₀ lasts c₀ cols starts w c i q → WordPlanning names rows ls count a q₀ lasts c₀ cols′ starts w′ c′ i′ q′
+
+-- the crossings from i on can become the columns from c to end
+pub record CrossingsReady (ls cols : List ℕ) (a end i c : ℕ) : Type 0 where
+  pub wide : length cols ≡ columns
+  pub narrow : end ≤ columns
+  pub room : c < end
+  pub crossing : i < length ls
+  pub on : a ≤ i
+  pub gone : i ≤ a + c
+
+-- one or more of them are columns: whatever block they are of, if its next start is not before crossing i
+pub record CrossingsPut (ls : List ℕ) (count a end : ℕ) (cols : List ℕ) (w i q c : ℕ) (cols′ : List ℕ) (w′ i′ q′ c′ : ℕ) : Type 0 where
+  pub further : c < c′
+  pub planning : (names : ℕ) (rows : List ℕ) (q₀ : ℕ) (lasts : List ℕ) (c₀ : ℕ) (starts : List ℕ) → StartsNext ls count i q false → end ≡ c₀ + 64
+      → WordPlanning names rows ls count a q₀ lasts c₀ cols starts w c i q → WordPlanning names rows ls count a q₀ lasts c₀ cols′ starts w′ c′ i′ q′
+
+-- the word from column c on is planned, to column n; its columns are fewer than 64 only where nothing is left
+pub record WordPlanned (names : ℕ) (rows ls : List ℕ) (count : ℕ) (i q : ℕ) (p : Plan) (c n i′ q′ : ℕ) : Type 0 where
+  pub planning : PlanningOf names rows ls count i q p n i′ q′
+  pub from : c ≤ n
+  pub most : n ≤ c + 64
+  pub crossing : n < c + 64 → length ls ≤ i′
+  pub row : n < c + 64 → count ≤ q′
 
 -- what a plan is made of: whole rows, a cursor within the lists
 pub record CanPlan (names : ℕ) (rows ls : List ℕ) (count : ℕ) (p : Plan) (i q : ℕ) : Type 0 where
@@ -158,10 +218,10 @@ pub record RunMarked (ls : List ℕ) (i : ℕ) (lasts : List ℕ) (k : ℕ) : Ty
   pub long : length lasts ≡ 8
   pub are : (j : ℕ) → j < 64 * k → cell lasts j ≡ turnsAway ls (i + j)
 
--- the first n numbers
-pub record Rising (cols : List ℕ) (n : ℕ) : Type 0 where
+-- the first n of a block's columns are numbered
+pub record Numbered (cols : List ℕ) (n : ℕ) : Type 0 where
   pub long : length cols ≡ columns
-  pub are : (j : ℕ) → j < n → getD cols j 0 ≡ j
+  pub alone : Alone cols n
 
 -- the next 512 columns are crossings, and more crossings follow
 pub record RunsOn (ls : List ℕ) (count i q : ℕ) (r : Bool) : Type 0 where

@@ -5,19 +5,34 @@ ghost use Prim.Native.Nat.{_+_, _<_, _≤_};
 ghost use lib.ListN.{length};
 ghost use Rattle.lines.specs.Lines.{startState};
 ghost use Rattle.lines.specs.Columns.{anyInside};
-ghost use Rattle.line_strips.specs.Strips.{columns, planned};
-ghost use Rattle.line_columns.specs.Steps.{NextInside, WholeRows, RowThere, Occupied, StartsNext, overAt, LastPut, AllOff, StartReady, StartPut, CrossingReady, CrossingPut, CanPlan, PlanMade, Ends, RunMarked, Rising, RunsOn};
+ghost use Rattle.line_strips.specs.Strips.{columns, planned, SaidAlone};
+ghost use Rattle.line_columns.specs.Steps.{NextInside, WholeRows, RowThere, Occupied, StartsNext, overAt, turnsAway, LastPut, StartReady, StartPut, CrossingReady, CrossingPut, UntilReady, UntilPut, CrossingsReady, CrossingsPut, CanPlan, WordNext, WordPlanned, PlanMade, Ends, RunMarked, Numbered, RunsOn};
 
 const COLUMNS: usize = 512;
 
 // A line's start among the columns.
 const START: u16 = 65535;
 
+// Beyond every line.
+const NO_LINE: usize = 4294967296;
+
 // The next crossing, the next line with a shape inside at its start, or the number of lines, and the columns of the block so far.
 pub struct Cursor {
     pub i: usize,
     pub q: usize,
     pub c: usize,
+}
+
+// A cursor, and the lasts of the 64 columns that it stands in.
+struct Word {
+    next: Cursor,
+    lasts: u64,
+}
+
+// The cursor after a block, and whether its columns are crossings alone, with more to follow.
+pub struct Ended {
+    pub next: Cursor,
+    pub alone: bool,
 }
 
 // Some byte of a start row is not 0.
@@ -73,14 +88,12 @@ fn one_if(last: bool) -> u64
     0
 }
 
-// Column c is its line's last, or is not; nothing was said of it before.
-fn put_last(lasts: &mut [u64; 8], c: usize, last: bool)
-    requires { ⌜ (length (now lasts) ≡ 8) × (c < columns) ⌝ }
-    ensures { λ _. ⌜ LastPut (now (lasts .entry)) (now (lasts .exit)) c last ⌝ }
+// Column c is its line's last, or is not; nothing was said of it before in its word of lasts.
+fn put_last(lasts: u64, c: usize, last: bool) -> u64
+    ensures { λ r. ⌜ LastPut lasts r c last ⌝ }
 {
-    let k = c / 64;
     let b = c % 64;
-    lasts[k] = lasts[k] | (one_if(last) << b);
+    lasts | (one_if(last) << b)
 }
 
 // The next column is the start of line q.
@@ -99,19 +112,121 @@ fn is_start(line: &[u32], count: usize, f: Cursor) -> bool
     q <= basics::wide_long(line[i])
 }
 
-fn clear(lasts: &mut [u64; 8])
-    requires { ⌜ length (now lasts) ≡ 8 ⌝ }
-    ensures { λ _. ⌜ AllOff (now (lasts .exit)) ⌝ }
+// The start of line q becomes column c; the cursor and the lasts after it.
+fn start_column(
+    cols: &mut [u16; COLUMNS],
+    starts: &mut [u32; COLUMNS],
+    rows: &[u8],
+    names: usize,
+    count: usize,
+    line: &[u32],
+    at: Word,
+) -> Word
+    requires { ⌜ StartReady names (now rows) (now line) count (now cols) (now starts) (at .next .i) (at .next .q) (at .next .c) ⌝ }
+    ensures { λ r. ⌜ StartPut names (now (rows .entry)) (now (line .entry)) (now (cols .entry)) (now (starts .entry)) (at .lasts) (now (cols .exit)) (now (starts .exit)) (r .lasts) (at .next .i) (at .next .q) (at .next .c) (r .next .i) (r .next .q) (r .next .c) ⌝ }
 {
-    let mut k: usize = 0;
-    while k < 8 {
-        lasts[k] = 0;
-        k += 1;
+    let i = at.next.i;
+    let q = at.next.q;
+    let c = at.next.c;
+    let last = is_over(line, q, i);
+    cols[c] = START;
+    starts[c] = q as u32;
+    let lasts = put_last(at.lasts, c, last);
+    let after = next_inside(rows, names, count, q + 1);
+    Word {
+        next: Cursor {
+            i,
+            q: after,
+            c: c + 1,
+        },
+        lasts,
     }
 }
 
-// The start of line q becomes column c; the cursor after it.
-fn start_column(
+// The next crossing becomes column c of the block that begins at crossing a; the cursor and the lasts after it.
+fn crossing_column(cols: &mut [u16; COLUMNS], a: usize, last: bool, at: Word) -> Word
+    requires { ⌜ CrossingReady (now cols) a (at .next .i) (at .next .c) ⌝ }
+    ensures { λ r. ⌜ CrossingPut (now (cols .entry)) (at .lasts) (now (cols .exit)) (r .lasts) a last (at .next .i) (at .next .q) (at .next .c) (r .next .i) (r .next .q) (r .next .c) ⌝ }
+{
+    let i = at.next.i;
+    let q = at.next.q;
+    let c = at.next.c;
+    cols[c] = (i - a) as u16;
+    let lasts = put_last(at.lasts, c, last);
+    Word {
+        next: Cursor {
+            i: i + 1,
+            q,
+            c: c + 1,
+        },
+        lasts,
+    }
+}
+
+// The crossing at i, which is not the list's last, is its line's last.
+fn turns_away(line: &[u32], i: usize) -> bool
+    requires { ⌜ i + 1 < length (now line) ⌝ }
+    ensures { λ r. ⌜ r ≡ turnsAway (now (line .entry)) i ⌝ }
+{
+    line[i + 1] != line[i]
+}
+
+// The line of the next start, or a line beyond all.
+fn start_line(count: usize, q: usize) -> usize
+    ensures { λ r. ⌜ (q < count → r ≤ q) ⌝ }
+{
+    if q < count {
+        return q;
+    }
+    NO_LINE
+}
+
+// As long as the next crossing is before line `limit`, and another one comes before `stop`, it becomes a column. Most columns are made here, so little is asked of each.
+fn cross_until(
+    cols: &mut [u16; COLUMNS],
+    line: &[u32],
+    a: usize,
+    limit: usize,
+    stop: usize,
+    from: Word,
+) -> Word
+    requires { ⌜ UntilReady (now line) (now cols) a stop (from .next .i) (from .next .c) ⌝ }
+    ensures { λ r. ⌜ UntilPut (now (line .entry)) a limit stop (now (cols .entry)) (from .lasts) (from .next .i) (from .next .q) (from .next .c) (now (cols .exit)) (r .lasts) (r .next .i) (r .next .q) (r .next .c) ⌝ }
+{
+    let mut at = from;
+    while at.next.i + 1 < stop {
+        let i = at.next.i;
+        if limit <= basics::wide_long(line[i]) {
+            return at;
+        }
+        let last = turns_away(line, i);
+        at = crossing_column(cols, a, last, at);
+    }
+    at
+}
+
+// The next crossing becomes a column, and those after it before the next start, to column `end` at most.
+fn crossings(
+    cols: &mut [u16; COLUMNS],
+    line: &[u32],
+    count: usize,
+    a: usize,
+    end: usize,
+    at: Word,
+) -> Word
+    requires { ⌜ CrossingsReady (now line) (now cols) a end (at .next .i) (at .next .c) ⌝ }
+    ensures { λ r. ⌜ CrossingsPut (now (line .entry)) count a end (now (cols .entry)) (at .lasts) (at .next .i) (at .next .q) (at .next .c) (now (cols .exit)) (r .lasts) (r .next .i) (r .next .q) (r .next .c) ⌝ }
+{
+    let i = at.next.i;
+    let stop = basics::part_end(i, line.len(), end - at.next.c);
+    let limit = start_line(count, at.next.q);
+    let last = is_over(line, basics::wide_long(line[i]), i + 1);
+    let first = crossing_column(cols, a, last, at);
+    cross_until(cols, line, a, limit, stop, first)
+}
+
+// The next 64 columns of the block that begins at `from`, or all that are left. Their lasts are written once, so that no column waits for the one before it.
+fn plan_word(
     cols: &mut [u16; COLUMNS],
     starts: &mut [u32; COLUMNS],
     lasts: &mut [u64; 8],
@@ -119,53 +234,34 @@ fn start_column(
     names: usize,
     count: usize,
     line: &[u32],
-    f: Cursor,
+    from: Cursor,
+    first: Cursor,
 ) -> Cursor
-    requires { ⌜ StartReady names (now rows) (now line) count (planned (now cols) (now starts) (now lasts)) (f .i) (f .q) (f .c) ⌝ }
-    ensures { λ r. ⌜ StartPut names (now (rows .entry)) (now (line .entry)) (planned (now (cols .entry)) (now (starts .entry)) (now (lasts .entry))) (planned (now (cols .exit)) (now (starts .exit)) (now (lasts .exit))) (f .i) (f .q) (f .c) (r .i) (r .q) (r .c) ⌝ }
+    requires { ⌜ WordNext names (now rows) (now line) count (from .i) (from .q) (planned (now cols) (now starts) (now lasts)) (first .c) (first .i) (first .q) ⌝ }
+    ensures { λ r. ⌜ WordPlanned names (now (rows .entry)) (now (line .entry)) count (from .i) (from .q) (planned (now (cols .exit)) (now (starts .exit)) (now (lasts .exit))) (first .c) (r .c) (r .i) (r .q) ⌝ }
 {
-    let i = f.i;
-    let c = f.c;
-    let q = f.q;
-    let last = is_over(line, q, i);
-    cols[c] = START;
-    starts[c] = q as u32;
-    put_last(lasts, c, last);
-    let next = next_inside(rows, names, count, q + 1);
-    Cursor {
-        i,
-        q: next,
-        c: c + 1,
+    let k = first.c / 64;
+    let end = first.c + 64;
+    let mut at = Word {
+        next: first,
+        lasts: 0,
+    };
+    while at.next.c < end {
+        if is_start(line, count, at.next) {
+            at = start_column(cols, starts, rows, names, count, line, at);
+            continue;
+        }
+        if at.next.i == line.len() {
+            lasts[k] = at.lasts;
+            return at.next;
+        }
+        at = crossings(cols, line, count, from.i, end, at);
     }
+    lasts[k] = at.lasts;
+    at.next
 }
 
-// The next crossing becomes column c of the block that begins at crossing a; the cursor after it.
-fn crossing_column(
-    cols: &mut [u16; COLUMNS],
-    starts: &mut [u32; COLUMNS],
-    lasts: &mut [u64; 8],
-    line: &[u32],
-    a: usize,
-    f: Cursor,
-) -> Cursor
-    requires { ⌜ CrossingReady (now line) (planned (now cols) (now starts) (now lasts)) a (f .i) (f .c) ⌝ }
-    ensures { λ r. ⌜ CrossingPut (now (line .entry)) (planned (now (cols .entry)) (now (starts .entry)) (now (lasts .entry))) (planned (now (cols .exit)) (now (starts .exit)) (now (lasts .exit))) a (f .i) (f .q) (f .c) (r .i) (r .q) (r .c) ⌝ }
-{
-    let c = f.c;
-    let i = f.i;
-    let q = f.q;
-    let last = is_over(line, basics::wide_long(line[i]), i + 1);
-    cols[c] = (i - a) as u16;
-    starts[c] = 0;
-    put_last(lasts, c, last);
-    Cursor {
-        i: i + 1,
-        q,
-        c: c + 1,
-    }
-}
-
-// The columns of a block one by one.
+// The columns of a block one by one, 64 to a word of lasts.
 fn plan_each(
     cols: &mut [u16; COLUMNS],
     starts: &mut [u32; COLUMNS],
@@ -179,22 +275,17 @@ fn plan_each(
     requires { ⌜ CanPlan names (now rows) (now line) count (planned (now cols) (now starts) (now lasts)) (from .i) (from .q) ⌝ }
     ensures { λ r. ⌜ PlanMade names (now (rows .entry)) (now (line .entry)) (planned (now (cols .exit)) (now (starts .exit)) (now (lasts .exit))) (from .i) (from .q) (r .c) (r .i) (r .q) ⌝ }
 {
-    clear(lasts);
-    let a = from.i;
     let mut f = Cursor {
-        i: a,
+        i: from.i,
         q: from.q,
         c: 0,
     };
     while f.c < COLUMNS {
-        if is_start(line, count, f) {
-            f = start_column(cols, starts, lasts, rows, names, count, line, f);
-            continue;
-        }
-        if f.i == line.len() {
+        let end = f.c + 64;
+        f = plan_word(cols, starts, lasts, rows, names, count, line, from, f);
+        if f.c < end {
             return f;
         }
-        f = crossing_column(cols, starts, lasts, line, a, f);
     }
     f
 }
@@ -260,7 +351,7 @@ fn mark_run(lasts: &mut [u64; 8], line: &[u32], i: usize)
 
 fn number(cols: &mut [u16; COLUMNS])
     requires { ⌜ length (now cols) ≡ columns ⌝ }
-    ensures { λ _. ⌜ Rising (now (cols .exit)) columns ⌝ }
+    ensures { λ _. ⌜ Numbered (now (cols .exit)) columns ⌝ }
 {
     let mut c: usize = 0;
     while c < COLUMNS {
@@ -285,7 +376,7 @@ fn is_run(line: &[u32], count: usize, f: Cursor) -> bool
     basics::wide_long(line[i + 511]) < q
 }
 
-// The columns of the block that begins at a cursor, and the cursor after it. A block of crossings alone is marked many at a time.
+// The columns of the block that begins at a cursor, and how it ends. A block of crossings alone is marked many at a time.
 pub fn plan(
     cols: &mut [u16; COLUMNS],
     starts: &mut [u32; COLUMNS],
@@ -295,20 +386,24 @@ pub fn plan(
     count: usize,
     line: &[u32],
     from: Cursor,
-) -> Cursor
+) -> Ended
     requires { ⌜ CanPlan names (now rows) (now line) count (planned (now cols) (now starts) (now lasts)) (from .i) (from .q) ⌝ }
-    ensures { λ r. ⌜ PlanMade names (now (rows .entry)) (now (line .entry)) (planned (now (cols .exit)) (now (starts .exit)) (now (lasts .exit))) (from .i) (from .q) (r .c) (r .i) (r .q) ⌝ }
+    ensures { λ r. ⌜ PlanMade names (now (rows .entry)) (now (line .entry)) (planned (now (cols .exit)) (now (starts .exit)) (now (lasts .exit))) (from .i) (from .q) (r .next .c) (r .next .i) (r .next .q) × SaidAlone (now (line .entry)) (now (cols .exit)) (from .i) (r .next .c) (r .alone) ⌝ }
 {
     if is_run(line, count, from) {
         let i = from.i;
         let q = from.q;
         number(cols);
         mark_run(lasts, line, i);
-        return Cursor {
-            i: i + COLUMNS,
-            q,
-            c: COLUMNS,
+        return Ended {
+            next: Cursor {
+                i: i + COLUMNS,
+                q,
+                c: COLUMNS,
+            },
+            alone: true,
         };
     }
-    plan_each(cols, starts, lasts, rows, names, count, line, from)
+    let next = plan_each(cols, starts, lasts, rows, names, count, line, from);
+    Ended { next, alone: false }
 }

@@ -52,8 +52,8 @@ pub record Filling (names : ℕ) (turns : ℕ → State) (last : ℕ → Bool) (
   pub room : 256 * wide ≤ length ws′
   pub advances : Advances names turns last n 1 k ws ws′
 
-pub filling-none : (names : ℕ) (turns : ℕ → State) (last : ℕ → Bool) (goesOn : Bool) (rows shapes cols starts lasts : List ℕ) (a n : ℕ) (ws ws₁ : List ℕ) → Starts names turns last goesOn n ws ws₁ → Fillable names rows shapes cols starts lasts a n ws → Filling names turns last n 1 ws₁ ws₁
-filling-none names turns last goesOn rows shapes cols starts lasts a n ws ws₁ s f =
+pub filling-none : (names : ℕ) (turns : ℕ → State) (last : ℕ → Bool) (goesOn : Bool) (rows shapes cols starts lasts : List ℕ) (a n : ℕ) (told : Bool) (ws ws₁ : List ℕ) → Starts names turns last goesOn n ws ws₁ → Fillable names rows shapes cols starts lasts a n told ws → Filling names turns last n 1 ws₁ ws₁
+filling-none names turns last goesOn rows shapes cols starts lasts a n told ws ws₁ s f =
     record {
       some = omega arith;
       far = omega arith;
@@ -71,8 +71,8 @@ filling-more names turns last n k ws ws₁ ws₂ f a h few =
     }
 
 -- what a later word needs
-pub fillable-on : (names : ℕ) (rows shapes cols starts lasts : List ℕ) (a n : ℕ) (ws ws′ : List ℕ) → Fillable names rows shapes cols starts lasts a n ws → 256 * wide ≤ length ws′ → Fillable names rows shapes cols starts lasts a n ws′
-fillable-on names rows shapes cols starts lasts a n ws ws′ f h = record { legible = f .legible; lastsLong = f .lastsLong; some = f .some; room = h }
+pub fillable-on : (names : ℕ) (rows shapes cols starts lasts : List ℕ) (a n : ℕ) (told : Bool) (ws ws′ : List ℕ) → Fillable names rows shapes cols starts lasts a n told ws → 256 * wide ≤ length ws′ → Fillable names rows shapes cols starts lasts a n told ws′
+fillable-on names rows shapes cols starts lasts a n told ws ws′ f h = record { legible = f .legible; alone = f .alone; lastsLong = f .lastsLong; some = f .some; room = h }
 
 pub filling-blank : (names : ℕ) (turns : ℕ → State) (last : ℕ → Bool) (n k : ℕ) (ws ws′ : List ℕ) → Filling names turns last n k ws ws′ → Blank names (64 * k) ws′
 filling-blank names turns last n k ws ws′ f = f .advances .blank

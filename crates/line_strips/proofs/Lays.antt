@@ -1,5 +1,5 @@
 -- A word's columns laid one after another.
-use Prim.Native.Nat.{ℕ, suc, _+_, _-_, _*_, _/_, _%_, _≤_, _<_}
+use Prim.Native.Nat.{ℕ, suc, _+_, _-_, _*_, _/_, _%_, _^_, _≤_, _<_}
 use mathlib.Core.Path.{_≡_, refl, sym, ap, _∙_}
 use mathlib.Core.Bool.{Bool, true, false, not, _&&_, cond}
 use mathlib.Core.List.{List}
@@ -11,10 +11,10 @@ use Rattle.lines.specs.Lines.{startState}
 use Rattle.lines.specs.Columns.{only}
 use Rattle.line_strips.specs.Words.{bit}
 use Rattle.line_strips.specs.Strips.{wide, columns, cell, on, entering, leaving}
-use Rattle.line_strips.specs.Steps.{Legible, turnsOf, none, From, Moved, Span, Spans, Flips, SpanTurned, SpanFlips, Laid, Lays, LaysSome, Bytes}
-use Rattle.line_strips.proofs.Spans.{none-from, from-last}
+use Rattle.line_strips.specs.Steps.{Legible, turnsOf, none, One, Moved, Inner, Span, Spans, Flips, SpanTurned, SpanFlips, Laid, Lays, LaysSome, Layable, Named, LaysRun, Bytes}
+use Rattle.line_strips.proofs.Spans.{none-from, one-small}
 use Rattle.line_strips.proofs.Stores.{same?, apart-none, apart-more}
-use Rattle.line_strips.proofs.Turns.{legible-less, row-there, row-bytes, start-turns, crossing-there, crossing-named, crossing-turns}
+use Rattle.line_strips.proofs.Turns.{legible-less, legible-next, row-there, row-bytes, start-turns, crossing-there, crossing-named, crossing-turns}
 
 -- ---- the states from one column to the next
 pub entering-last : (turns : ℕ → State) (last : ℕ → Bool) (first : State) (j s : ℕ) → last j ≡ true → entering turns last first (suc j) s ≡ false
@@ -41,13 +41,13 @@ pub span-column : (lasts : List ℕ) (k j m b : ℕ) → Span (getD lasts k 0) j
 span-column lasts k j m b p l h = p .is b h ∙ rw (le-leb j b l) (none-word lasts k j (b - j) (omega arith))
 
 -- shapes turned at a span
-pub span-flips : (names : ℕ) (turns : State) (k w from m : ℕ) (ws ws′ : List ℕ) → Spans w from m → Flips names turns k m ws ws′ → SpanFlips names turns k w from ws ws′
-span-flips names turns k w from m ws ws′ p f =
+pub span-flips : (names : ℕ) (turns : State) (k rest one m : ℕ) (ws ws′ : List ℕ) → Spans rest one m → Flips names turns k m ws ws′ → SpanFlips names turns k rest one ws ws′
+span-flips names turns k rest one m ws ws′ p f =
     record {
-      is = λ j g.
+      is = λ w j i o l.
           record {
             apart = f .apart;
-            here = λ s b n h. f .here s b n h ∙ ap (λ (t : Bool). cond (turns s && t) (not (on ws s (64 * k + b))) (on ws s (64 * k + b))) (p .is j g .is b h);
+            here = λ s b n h. f .here s b n h ∙ ap (λ (t : Bool). cond (turns s && t) (not (on ws s (64 * k + b))) (on ws s (64 * k + b))) (p .is w j i o l .is b h);
           };
     }
 
@@ -113,24 +113,33 @@ module _ (names : ℕ) (turns : ℕ → State) (lasts : List ℕ) (first : State
         ahead = laid-ahead;
       }
 
+-- one column more
+lays-more : (names : ℕ) (turns : ℕ → State) (lasts : List ℕ) (k j i : ℕ) (ws ws₁ ws₂ : List ℕ) → Lays names turns (cell lasts) k j i ws ws₁ → SpanTurned names (turns (64 * k + i)) k i (getD lasts k 0) ws₁ ws₂ → i < 64 → Lays names turns (cell lasts) k j (i + 1) ws ws₂
+lays-more names turns lasts k j i ws ws₁ ws₂ l f fits =
+    record {
+      apart = apart-more names k ws ws₁ ws₂ (l .apart) (f .apart);
+      laid = λ first t. laid-more names turns lasts first k i ws₁ ws₂ (l .laid first t) f fits;
+    }
+
 -- ---- the loop over them: those from j on, as far as i
-pub record Laying (names : ℕ) (rows shapes cols starts lasts : List ℕ) (a k j m from i : ℕ) (ws ws′ : List ℕ) : Type 0 where
+pub record Laying (names : ℕ) (rows shapes cols starts lasts : List ℕ) (a k j m rest one i : ℕ) (ws ws′ : List ℕ) : Type 0 where
   pub least : j ≤ i
   pub far : i ≤ m
-  pub bits : From from i
+  pub inner : Inner (getD lasts k 0) rest
+  pub place : One one i
   pub room : 256 * wide ≤ length ws′
   pub lays : Lays names (turnsOf names rows shapes cols starts a) (cell lasts) k j i ws ws′
 
 module _ (names : ℕ) (rows shapes cols starts lasts : List ℕ) (a k j m : ℕ) (legible : Legible names rows shapes cols starts a (64 * k + m)) (short : m ≤ 64) where
-  pub laying-none : (from : ℕ) (ws : List ℕ) → From from j → j < m → 256 * wide ≤ length ws → Laying names rows shapes cols starts lasts a k j m from j ws ws
-  laying-none from ws f h room = record { least = omega arith; far = omega arith; bits = f; room = room; lays = record { apart = apart-none names k ws; laid = λ first l. l } }
+  pub laying-none : (rest one : ℕ) (ws : List ℕ) → Inner (getD lasts k 0) rest → One one j → j < m → 256 * wide ≤ length ws → Laying names rows shapes cols starts lasts a k j m rest one j ws ws
+  laying-none rest one ws n f h room = record { least = omega arith; far = omega arith; inner = n; place = f; room = room; lays = record { apart = apart-none names k ws; laid = λ first l. l } }
 
   column-legible : (i : ℕ) → i < m → Legible names rows shapes cols starts a (64 * k + i + 1)
   column-legible i h = legible-less names rows shapes cols starts a (64 * k + m) (64 * k + i + 1) legible (omega arith)
 
-  module _ (from i : ℕ) (ws ws₁ : List ℕ) (y : Laying names rows shapes cols starts lasts a k j m from i ws ws₁) (more : i < m) where
-    pub laying-bit : bit from 63 ≡ true
-    laying-bit = from-last from i (y .bits) (omega arith)
+  module _ (rest one i : ℕ) (ws ws₁ : List ℕ) (y : Laying names rows shapes cols starts lasts a k j m rest one i ws ws₁) (more : i < m) where
+    pub laying-bit : one ≤ 2 ^ 63
+    laying-bit = one-small one i (y .place) (omega arith)
 
     pub laying-column : 64 * k + i < length cols
     laying-column = omega (arith, legible .colsLong, legible .most)
@@ -151,39 +160,36 @@ module _ (names : ℕ) (rows shapes cols starts lasts : List ℕ) (a k j m : ℕ
     laying-named = crossing-named names rows shapes cols starts a (64 * k + i) (column-legible i more)
 
     laid-one : (ws₂ : List ℕ) → SpanTurned names (turnsOf names rows shapes cols starts a (64 * k + i)) k i (getD lasts k 0) ws₁ ws₂ → Lays names (turnsOf names rows shapes cols starts a) (cell lasts) k j (i + 1) ws ws₂
-    laid-one ws₂ f =
-        record {
-          apart = apart-more names k ws ws₁ ws₂ (y .lays .apart) (f .apart);
-          laid = λ first t. laid-more names (turnsOf names rows shapes cols starts a) lasts first k i ws₁ ws₂ (y .lays .laid first t) f (omega arith);
-        }
+    laid-one ws₂ f = lays-more names (turnsOf names rows shapes cols starts a) lasts k j i ws ws₁ ws₂ (y .lays) f (omega arith)
 
-    pub laying-ends : (q : ℕ) (ws₂ : List ℕ) → SpanFlips names (startState names rows q) k (getD lasts k 0) from ws₁ ws₂ → getD cols (64 * k + i) 0 ≡ 65535 → q ≡ getD starts (64 * k + i) 0 → LaysSome names (turnsOf names rows shapes cols starts a) (cell lasts) k j m (i + 1) ws ws₂
+    pub laying-ends : (q : ℕ) (ws₂ : List ℕ) → SpanFlips names (startState names rows q) k rest one ws₁ ws₂ → getD cols (64 * k + i) 0 ≡ 65535 → q ≡ getD starts (64 * k + i) 0 → LaysSome names (turnsOf names rows shapes cols starts a) (cell lasts) k j m (i + 1) ws ws₂
     laying-ends q ws₂ f e same =
         record {
           more = omega (arith, y .least);
           most = omega arith;
           lays =
               laid-one ws₂
-              (turned-same names (startState names rows q) (turnsOf names rows shapes cols starts a (64 * k + i)) k i (getD lasts k 0) ws₁ ws₂ (f .is i (y .bits))
-              (λ s n. start-turns names rows shapes cols starts a (64 * k + i) q e same s));
+              (turned-same names (startState names rows q) (turnsOf names rows shapes cols starts a (64 * k + i)) k i (getD lasts k 0) ws₁ ws₂ (f .is (getD lasts k 0) i (y .inner) (y .place) (omega arith))
+              (λ s l. start-turns names rows shapes cols starts a (64 * k + i) q e same s));
         }
 
-    pub laying-more : (o from′ : ℕ) (ws₂ : List ℕ) → SpanFlips 256 (only (getD shapes (a + o) 0)) k (getD lasts k 0) from ws₁ ws₂ → (getD cols (64 * k + i) 0 ≡ 65535 → ⊥) → o ≡ getD cols (64 * k + i) 0 → Moved from from′ → Laying names rows shapes cols starts lasts a k j m from′ (i + 1) ws ws₂
-    laying-more o from′ ws₂ f e same g =
-        let one : SpanTurned 256 (only (getD shapes (a + o) 0)) k i (getD lasts k 0) ws₁ ws₂ = f .is i (y .bits) in
+    pub laying-more : (o one′ : ℕ) (ws₂ : List ℕ) → SpanFlips 256 (only (getD shapes (a + o) 0)) k rest one ws₁ ws₂ → (getD cols (64 * k + i) 0 ≡ 65535 → ⊥) → o ≡ getD cols (64 * k + i) 0 → Moved one one′ → Laying names rows shapes cols starts lasts a k j m rest one′ (i + 1) ws ws₂
+    laying-more o one′ ws₂ f e same g =
+        let turned : SpanTurned 256 (only (getD shapes (a + o) 0)) k i (getD lasts k 0) ws₁ ws₂ = f .is (getD lasts k 0) i (y .inner) (y .place) (omega arith) in
         record {
           least = omega (arith, y .least);
           far = omega arith;
-          bits = g .is i (y .bits);
-          room = omega (arith, y .room, one .apart .long);
+          inner = y .inner;
+          place = g .is i (y .place);
+          room = omega (arith, y .room, turned .apart .long);
           lays =
               laid-one ws₂
-              (turned-same names (only (getD shapes (a + o) 0)) (turnsOf names rows shapes cols starts a (64 * k + i)) k i (getD lasts k 0) ws₁ ws₂ (fewer names (only (getD shapes (a + o) 0)) k i (getD lasts k 0) ws₁ ws₂ one (legible .few))
-              (λ s n. crossing-turns names rows shapes cols starts a (64 * k + i) o e same s));
+              (turned-same names (only (getD shapes (a + o) 0)) (turnsOf names rows shapes cols starts a (64 * k + i)) k i (getD lasts k 0) ws₁ ws₂ (fewer names (only (getD shapes (a + o) 0)) k i (getD lasts k 0) ws₁ ws₂ turned (legible .few))
+              (λ s l. crossing-turns names rows shapes cols starts a (64 * k + i) o e same s));
         }
 
-pub laying-end : (names : ℕ) (rows shapes cols starts lasts : List ℕ) (a k j m from i : ℕ) (ws ws′ : List ℕ) → Laying names rows shapes cols starts lasts a k j m from i ws ws′ → m ≤ i → j < m → LaysSome names (turnsOf names rows shapes cols starts a) (cell lasts) k j m i ws ws′
-laying-end names rows shapes cols starts lasts a k j m from i ws ws′ y h l = record { more = omega arith; most = y .far; lays = y .lays }
+pub laying-end : (names : ℕ) (rows shapes cols starts lasts : List ℕ) (a k j m rest one i : ℕ) (ws ws′ : List ℕ) → Laying names rows shapes cols starts lasts a k j m rest one i ws ws′ → m ≤ i → j < m → LaysSome names (turnsOf names rows shapes cols starts a) (cell lasts) k j m i ws ws′
+laying-end names rows shapes cols starts lasts a k j m rest one i ws ws′ y h l = record { more = omega arith; most = y .far; lays = y .lays }
 
 -- ---- all columns of a word
 pub record Word (names : ℕ) (turns : ℕ → State) (last : ℕ → Bool) (k m j : ℕ) (ws ws′ : List ℕ) : Type 0 where
@@ -204,3 +210,68 @@ word-more names turns last k m j e ws ws₁ ws₂ w s =
 
 pub word-end : (names : ℕ) (turns : ℕ → State) (last : ℕ → Bool) (k m j : ℕ) (ws ws′ : List ℕ) → Word names turns last k m j ws ws′ → m ≤ j → Lays names turns last k 0 m ws ws′
 word-end names turns last k m j ws ws′ w h = let e : j ≡ m = omega (arith, w .far) in rw e at (w .lays)
+
+-- ---- crossings alone
+pub record Running (shapes lasts : List ℕ) (a k m rest one i : ℕ) (ws ws′ : List ℕ) : Type 0 where
+  pub far : i ≤ m
+  pub inner : Inner (getD lasts k 0) rest
+  pub place : One one i
+  pub room : 256 * wide ≤ length ws′
+  pub lays : LaysRun shapes lasts a k i ws ws′
+
+pub running-none : (shapes lasts : List ℕ) (a k m rest one : ℕ) (ws : List ℕ) → Inner (getD lasts k 0) rest → One one 0 → 256 * wide ≤ length ws → Running shapes lasts a k m rest one 0 ws ws
+running-none shapes lasts a k m rest one ws n f room =
+    record { far = omega arith; inner = n; place = f; room = room; lays = record { long = refl; lays = λ names turns few same. record { apart = apart-none names k ws; laid = λ first l. l } } }
+
+module _ (shapes lasts : List ℕ) (a k m rest one i : ℕ) (ws ws₁ : List ℕ) (y : Running shapes lasts a k m rest one i ws ws₁) (more : i < m) (short : m ≤ 64) where
+  pub running-bit : one ≤ 2 ^ 63
+  running-bit = one-small one i (y .place) (omega arith)
+
+  pub running-more : (one′ : ℕ) (ws₂ : List ℕ) → SpanFlips 256 (only (getD shapes (a + (64 * k + i)) 0)) k rest one ws₁ ws₂ → Moved one one′ → Running shapes lasts a k m rest one′ (i + 1) ws ws₂
+  running-more one′ ws₂ f g =
+      let turned : SpanTurned 256 (only (getD shapes (a + (64 * k + i)) 0)) k i (getD lasts k 0) ws₁ ws₂ = f .is (getD lasts k 0) i (y .inner) (y .place) (omega arith) in
+      record {
+        far = omega arith;
+        inner = y .inner;
+        place = g .is i (y .place);
+        room = omega (arith, y .room, turned .apart .long);
+        lays =
+            record {
+              long = turned .apart .long ∙ y .lays .long;
+              lays = λ names turns few same.
+                  lays-more names turns lasts k 0 i ws ws₁ ws₂ (y .lays .lays names turns few (λ c s h. same c s (omega arith)))
+                  (turned-same names (only (getD shapes (a + (64 * k + i)) 0)) (turns (64 * k + i)) k i (getD lasts k 0) ws₁ ws₂ (fewer names (only (getD shapes (a + (64 * k + i)) 0)) k i (getD lasts k 0) ws₁ ws₂ turned few)
+                  (λ s l. same (64 * k + i) s (omega arith)))
+                  (omega arith);
+            };
+      }
+
+pub running-there : (shapes : List ℕ) (a k m i : ℕ) → Named shapes a (64 * k + m) → i < m → a + (64 * k + i) < length shapes
+running-there shapes a k m i n h = n .there (64 * k + i) (omega arith)
+
+pub running-named : (shapes : List ℕ) (a k m i : ℕ) → Named shapes a (64 * k + m) → i < m → getD shapes (a + (64 * k + i)) 0 < 256
+running-named shapes a k m i n h = n .named (64 * k + i) (omega arith)
+
+pub running-end : (shapes lasts : List ℕ) (a k m rest one i : ℕ) (ws ws′ : List ℕ) → Running shapes lasts a k m rest one i ws ws′ → m ≤ i → LaysRun shapes lasts a k m ws ws′
+running-end shapes lasts a k m rest one i ws ws′ y h = let e : i ≡ m = omega (arith, y .far) in rw e at (y .lays)
+
+-- the columns said to be crossings alone
+module _ (names : ℕ) (rows shapes cols starts : List ℕ) (a k m : ℕ) (told : Bool) (ok : Layable names rows shapes cols starts a k m told) (yes-alone : told ≡ true) where
+  own : (c : ℕ) → c < 64 * k + m → c ≡ getD cols c 0
+  own c h = sym (ok .alone yes-alone .are c h)
+
+  no-start : (c : ℕ) → c < 64 * k + m → getD cols c 0 ≡ 65535 → ⊥
+  no-start c h e = absurd (omega (arith, own c h, ok .legible .most))
+
+  as-far : (c : ℕ) → c < 64 * k + m → Legible names rows shapes cols starts a (c + 1)
+  as-far c h = legible-next names rows shapes cols starts a (64 * k + m) c (ok .legible) h
+
+  pub alone-named : Named shapes a (64 * k + m)
+  alone-named =
+      record {
+        there = λ c h. crossing-there names rows shapes cols starts a c (as-far c h) c (no-start c h) (own c h);
+        named = λ c h. crossing-named names rows shapes cols starts a c (as-far c h) c (no-start c h) (own c h);
+      }
+
+  pub alone-lays : (lasts ws ws′ : List ℕ) → LaysRun shapes lasts a k m ws ws′ → Lays names (turnsOf names rows shapes cols starts a) (cell lasts) k 0 m ws ws′
+  alone-lays lasts ws ws′ r = r .lays names (turnsOf names rows shapes cols starts a) (ok .legible .few) (λ c s h. crossing-turns names rows shapes cols starts a c c (no-start c h) (own c h) s)

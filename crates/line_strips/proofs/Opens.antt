@@ -10,9 +10,9 @@ use borrow.Author.Tests.{eq-eqb, ne-eqb}
 use Rattle.formula.specs.States.{State}
 use Rattle.line_strips.specs.Words.{bit}
 use Rattle.line_strips.specs.Strips.{wide, columns, cell, on, entering}
-use Rattle.line_strips.specs.Steps.{none, From, Span, Spans, Since, Apart, Flips, Blank, Right, Within, Replayed, Masked, Carried, Row, Opened, Opens, Begins}
+use Rattle.line_strips.specs.Steps.{none, Inner, Span, Spans, Since, Apart, Flips, Blank, Right, Within, Replayed, Masked, Carried, Row, Opened, Opens, Begins}
 use Rattle.line_strips.proofs.Digits.{shift-bit}
-use Rattle.line_strips.proofs.Spans.{from-ones, from-last}
+use Rattle.line_strips.proofs.Spans.{one-first}
 use Rattle.line_strips.proofs.Stores.{same?, on-word, store-here, store-other, off-word, apart-none, apart-more}
 use Rattle.line_strips.proofs.Lays.{entering-last, entering-more, cell-word, span-column}
 
@@ -151,18 +151,18 @@ module _ (names : ℕ) (turns : ℕ → State) (lasts : List ℕ) (k : ℕ) (ws 
   goes-on : (getD lasts (k - 1) 0 / 2 ^ 63 % 2 ≡ 1 → ⊥) → cell lasts (64 * (k - 1) + 63) ≡ false
   goes-on h = sym past-last ∙ sym (shift-bit (getD lasts (k - 1) 0) 63) ∙ ne-eqb (getD lasts (k - 1) 0 / 2 ^ 63 % 2) 1 h
 
-  pub opens-carried : (w m from : ℕ) → w ≡ getD lasts k 0 → (getD lasts (k - 1) 0 / 2 ^ 63 % 2 ≡ 1 → ⊥) → Spans w from m → From from 0 → Carried names (k - 1) k m ws ws′ → Opens names turns (cell lasts) k ws ws′
-  opens-carried w m from e″ h p f d =
-      opens-by (record { long = d .long; other = λ s j n c q. d .other s j c q }) m (rw e″ at (p .is 0 f))
+  pub opens-carried : (w rest m : ℕ) → w ≡ getD lasts k 0 → (getD lasts (k - 1) 0 / 2 ^ 63 % 2 ≡ 1 → ⊥) → Inner w rest → Spans rest 1 m → Carried names (k - 1) k m ws ws′ → Opens names turns (cell lasts) k ws ws′
+  opens-carried w rest m e″ h f p d =
+      opens-by (record { long = d .long; other = λ s j n c q. d .other s j c q }) m (rw e″ at (p .is w 0 f one-first (omega arith)))
       (λ first n far right s b g c.
       let z : 64 * k ≡ suc (64 * (k - 1) + 63) = omega arith in
       let e : on ws s (64 * (k - 1) + 63) ≡ entering turns (cell lasts) first (64 * k) s = right .is s (64 * (k - 1) + 63) g (omega arith) (omega arith) ∙ rw z (sym (entering-more turns (cell lasts) first (64 * (k - 1) + 63) s (goes-on h))) in
       d .here s b g c ∙ ap (λ (t : Bool). t && bit m b) e)
 
-  pub opens-replayed : (past w m from j : ℕ) → past ≡ getD lasts (k - 1) 0 → w ≡ getD lasts k 0 → Spans w from m → From from 0 → Since past j → 0 < j → Replayed names turns k m (64 * (k - 1) + j) (64 * k) ws ws′ → Opens names turns (cell lasts) k ws ws′
-  opens-replayed past w m from j e′ e″ p f since′ some r =
+  pub opens-replayed : (past w rest m j : ℕ) → past ≡ getD lasts (k - 1) 0 → w ≡ getD lasts k 0 → Inner w rest → Spans rest 1 m → Since past j → 0 < j → Replayed names turns k m (64 * (k - 1) + j) (64 * k) ws ws′ → Opens names turns (cell lasts) k ws ws′
+  opens-replayed past w rest m j e′ e″ f p since′ some r =
       let since : Since (getD lasts (k - 1) 0) j = rw e′ at since′ in
-      opens-by (r .apart) m (rw e″ at (p .is 0 f))
+      opens-by (r .apart) m (rw e″ at (p .is w 0 f one-first (omega arith)))
       (λ first n far right s b g c. r .here (cell lasts) first
       (record {
         begins = λ u h.
@@ -278,9 +278,6 @@ pub opening-end : (names m s : ℕ) (ws ws′ : List ℕ) → Opening names m s 
 opening-end names m s ws ws′ o h = let e : s ≡ names = omega (arith, o .far) in rw e at (o .done)
 
 -- ---- a block opened
-pub ones-last : bit (2 ^ 64 - 1) 63 ≡ true
-ones-last = from-last (2 ^ 64 - 1) 0 from-ones (omega arith)
-
 pub begins-off : (names : ℕ) (lasts : List ℕ) (goesOn : Bool) (ws ws′ : List ℕ) → goesOn ≡ false → length ws′ ≡ length ws → Blank names 0 ws′ → Begins names (cell lasts) goesOn ws ws′
 unfolding entering
 begins-off names lasts goesOn ws ws′ e l blank =
@@ -294,9 +291,9 @@ begins-off names lasts goesOn ws ws′ e l blank =
           };
     }
 
-pub begins-on : (names : ℕ) (lasts : List ℕ) (goesOn : Bool) (m from : ℕ) (ws ws′ : List ℕ) → goesOn ≡ true → Spans (getD lasts 0 0) from m → From from 0 → Opened names m ws ws′ → Begins names (cell lasts) goesOn ws ws′
+pub begins-on : (names : ℕ) (lasts : List ℕ) (goesOn : Bool) (rest m : ℕ) (ws ws′ : List ℕ) → goesOn ≡ true → Inner (getD lasts 0 0) rest → Spans rest 1 m → Opened names m ws ws′ → Begins names (cell lasts) goesOn ws ws′
 unfolding entering
-begins-on names lasts goesOn m from ws ws′ e p f o =
+begins-on names lasts goesOn rest m ws ws′ e f p o =
     record {
       long = o .long;
       blank = record { off = λ s j n h c. o .rest s j n h c };
@@ -305,6 +302,6 @@ begins-on names lasts goesOn m from ws ws′ e p f o =
             done = λ s b n h. absurd (omega arith);
             ahead = λ s b n h c.
                 let z : 64 * 0 + b ≡ b = omega arith in
-                rw z (o .first s b n c ∙ ap (λ (t : Bool). t && bit m b) (entered .kept e s n) ∙ and-swap (first s) (bit m b) ∙ rw (span-column lasts 0 0 m b (p .is 0 f) h c));
+                rw z (o .first s b n c ∙ ap (λ (t : Bool). t && bit m b) (entered .kept e s n) ∙ and-swap (first s) (bit m b) ∙ rw (span-column lasts 0 0 m b (p .is (getD lasts 0 0) 0 f one-first (omega arith)) h c));
           };
     }

@@ -1,14 +1,17 @@
 -- From a bit to the first one that is on.
 use Prim.Native.Nat.{ℕ, zero, suc, _+_, _-_, _*_, _/_, _%_, _^_, _≤_, _<_}
 use mathlib.Core.Path.{_≡_, refl, sym, ap, _∙_}
-use mathlib.Core.Bool.{Bool, true, false, not, _&&_, _||_, true≢false}
+use mathlib.Core.Bool.{Bool, true, false, not, _&&_, _||_}
 use native.Mathlib.Omega.{arith}
+use native.Mathlib.Nat.{pow-suc}
 use lib.Dec.{eqb, leb}
-use lib.Bits.{bitAnd, bitOr, bitXor, differ, xor-step, xor-self}
+use lib.Bits.{bitOr, bitXor, xor-step, xor-self, xor-shr, xor-lt, or-lt}
+use lib.Pow.{pow-add, pow-lt, pow-mono, shl-exact}
 use borrow.Author.Tests.{eq-eqb, ne-eqb, leb-true, leb-false, le-leb, lt-leb}
+use Rattle.formula.specs.Formula.{exclusive, meaning}
 use Rattle.line_strips.specs.Words.{digit, bit}
-use Rattle.line_strips.specs.Steps.{none, From, Moved, Spans, Since, Masked}
-use Rattle.line_strips.proofs.Digits.{bit-and, bit-or, bit-ones, bit-none, bit-top, bit-top-on, bit-first, bit-moved, shifted-low, shifted-high, shift-bit}
+use Rattle.line_strips.specs.Steps.{none, One, Moved, Inner, Spans, Since, Masked}
+use Rattle.line_strips.proofs.Digits.{bit-or, bit-xor, bit-ones, bit-none, bit-top, bit-top-on, small-word, shift-bit}
 
 -- ---- none of some
 none-later : (f : ℕ → Bool) (i d : ℕ) → none f (suc i) d ≡ none (λ x. f (suc x)) i d
@@ -32,144 +35,124 @@ none-same f g i (suc d) h =
     rw (h i (omega arith) (omega arith))
     (ap (λ (x : Bool). not (g i) && x) (none-same f g (suc i) d (λ x l m. h x (omega arith) (omega arith))))
 
--- those that are off are passed over
-none-pass : (f : ℕ → Bool) (i e d : ℕ) → ((x : ℕ) → i ≤ x → x < i + e → f x ≡ false) → none f i (e + d) ≡ none f (i + e) d
-unfolding none
-none-pass f i zero d h = let z : zero + d ≡ d = omega arith in let w : i + zero ≡ i = omega arith in rw (z, w)
-none-pass f i (suc e) d h =
-    let z : suc e + d ≡ suc (e + d) = omega arith in
-    let w : suc i + e ≡ i + suc e = omega arith in
-    ap (none f i) z ∙ ap (λ (x : Bool). not x && none f (suc i) (e + d)) (h i (omega arith) (omega arith))
-    ∙ none-pass f (suc i) e d (λ x l m. h x (omega arith) (omega arith)) ∙ ap (λ (x : ℕ). none f x d) w
+-- ---- the bits that a carry turns
+abbrev off : ℕ → ℕ → Bool
+off x c = not (bit x c)
 
--- ---- the lowest bit that is on, and those below it
-module _ (y : ℕ) (some : 1 ≤ y) where
-  odd-half : y % 2 ≡ 1 → bitXor y (y - 1) / 2 ≡ 0
-  odd-half e =
-      let h : (y - 1) / 2 ≡ y / 2 = omega arith in
-      let d : (y - 1) % 2 ≡ 0 = omega arith in
-      let s : bitXor y (y - 1) ≡ bitXor (y / 2) ((y - 1) / 2) * 2 + differ (y % 2) ((y - 1) % 2) = xor-step y (y - 1) in
-      let t : bitXor y (y - 1) ≡ 0 * 2 + 1 = s ∙ rw (e, d, h, xor-self (y / 2)) in
-      omega (arith, t)
-
-  even-half : y % 2 ≡ 0 → bitXor y (y - 1) / 2 ≡ bitXor (y / 2) (y / 2 - 1)
+module _ (x : ℕ) where
+  even-half : x % 2 ≡ 0 → bitXor (x + 1) x / 2 ≡ 0
   even-half e =
-      let h : (y - 1) / 2 ≡ y / 2 - 1 = omega arith in
-      let d : (y - 1) % 2 ≡ 1 = omega arith in
-      let s : bitXor y (y - 1) ≡ bitXor (y / 2) ((y - 1) / 2) * 2 + differ (y % 2) ((y - 1) % 2) = xor-step y (y - 1) in
-      let t : bitXor y (y - 1) ≡ bitXor (y / 2) (y / 2 - 1) * 2 + 1 = s ∙ rw (e, d, h) in
+      let h : (x + 1) / 2 ≡ x / 2 = omega arith in
+      let d : (x + 1) % 2 ≡ 1 = omega arith in
+      let t : bitXor (x + 1) x ≡ 0 * 2 + 1 = xor-step (x + 1) x ∙ rw (e, d, h, xor-self (x / 2)) in
       omega (arith, t)
 
-  xor-odd : bitXor y (y - 1) % 2 ≡ 1
-  xor-odd = go (y % 2) refl
+  odd-half : x % 2 ≡ 1 → bitXor (x + 1) x / 2 ≡ bitXor (x / 2 + 1) (x / 2)
+  odd-half e =
+      let h : (x + 1) / 2 ≡ x / 2 + 1 = omega arith in
+      let d : (x + 1) % 2 ≡ 0 = omega arith in
+      let t : bitXor (x + 1) x ≡ bitXor (x / 2 + 1) (x / 2) * 2 + 1 = xor-step (x + 1) x ∙ rw (e, d, h) in
+      omega (arith, t)
+
+  xor-odd : bitXor (x + 1) x % 2 ≡ 1
+  xor-odd = go (x % 2) refl
     where
-      go : (r : ℕ) → y % 2 ≡ r → bitXor y (y - 1) % 2 ≡ 1
+      go : (r : ℕ) → x % 2 ≡ r → bitXor (x + 1) x % 2 ≡ 1
       go zero e =
-          let d : (y - 1) % 2 ≡ 1 = omega arith in
-          let t : bitXor y (y - 1) ≡ bitXor (y / 2) ((y - 1) / 2) * 2 + 1 = xor-step y (y - 1) ∙ rw (e, d) in
+          let d : (x + 1) % 2 ≡ 1 = omega arith in
+          let t : bitXor (x + 1) x ≡ bitXor ((x + 1) / 2) (x / 2) * 2 + 1 = xor-step (x + 1) x ∙ rw (e, d) in
           omega (arith, t)
       go (suc zero) e =
-          let d : (y - 1) % 2 ≡ 0 = omega arith in
-          let t : bitXor y (y - 1) ≡ bitXor (y / 2) ((y - 1) / 2) * 2 + 1 = xor-step y (y - 1) ∙ rw (e, d) in
+          let d : (x + 1) % 2 ≡ 0 = omega arith in
+          let t : bitXor (x + 1) x ≡ bitXor ((x + 1) / 2) (x / 2) * 2 + 1 = xor-step (x + 1) x ∙ rw (e, d) in
           omega (arith, t)
       go (suc (suc r)) e = absurd (omega arith)
 
-lowest : (b y : ℕ) → 1 ≤ y → bit (bitXor y (y - 1)) b ≡ none (bit y) 0 b
+carry-first : (b x : ℕ) → bit (bitXor (x + 1) x) b ≡ none (off x) 0 b
 unfolding none digit
-lowest zero y some = eq-eqb (bitXor y (y - 1) % 2) 1 (xor-odd y some)
-lowest (suc b) y some = go (y % 2) refl (lowest b (y / 2))
+carry-first zero x = eq-eqb (bitXor (x + 1) x % 2) 1 (xor-odd x)
+carry-first (suc b) x = go (x % 2) refl (carry-first b (x / 2))
   where
-    go : (r : ℕ) → y % 2 ≡ r → (1 ≤ y / 2 → bit (bitXor (y / 2) (y / 2 - 1)) b ≡ none (bit (y / 2)) 0 b) → eqb (digit (bitXor y (y - 1) / 2) b) 1 ≡ (not (eqb (y % 2) 1) && none (bit y) 1 b)
-    go zero e ih = ap (λ (x : ℕ). bit x b) (even-half y some e) ∙ ih (omega arith) ∙ sym (none-later (bit y) 0 b) ∙ rw e
-    go (suc zero) e ih = ap (λ (x : ℕ). bit x b) (odd-half y some e) ∙ bit-none b ∙ rw e
+    go : (r : ℕ) → x % 2 ≡ r → bit (bitXor (x / 2 + 1) (x / 2)) b ≡ none (off (x / 2)) 0 b → eqb (digit (bitXor (x + 1) x / 2) b) 1 ≡ (not (not (eqb (x % 2) 1)) && none (off x) 1 b)
+    go zero e ih = ap (λ (y : ℕ). bit y b) (even-half x e) ∙ bit-none b ∙ rw e
+    go (suc zero) e ih = ap (λ (y : ℕ). bit y b) (odd-half x e) ∙ ih ∙ sym (none-later (off x) 0 b) ∙ rw e
     go (suc (suc r)) e ih = absurd (omega arith)
 
--- ---- the bits from j on
-pub from-ones : From (2 ^ 64 - 1) 0
-from-ones = record { is = λ b h. bit-ones b h ∙ sym (le-leb 0 b (omega arith)) }
+exclusive-self : (t : Bool) → meaning exclusive t t ≡ false
+exclusive-self true = refl
+exclusive-self false = refl
 
-pub from-shifted : (j : ℕ) → From ((2 ^ 64 - 1) * 2 ^ j % 2 ^ 64) j
-from-shifted j = record { is = λ b h. go b h (leb j b) refl }
-  where
-    go : (b : ℕ) → b < 64 → (t : Bool) → leb j b ≡ t → bit ((2 ^ 64 - 1) * 2 ^ j % 2 ^ 64) b ≡ leb j b
-    go b h true e = shifted-high j b h (leb-true j b e) ∙ sym e
-    go b h false e = shifted-low j b h (leb-false j b e) ∙ sym e
-
-leb-suc : (j b : ℕ) → leb j b ≡ leb (j + 1) (suc b)
+leb-suc : (j b : ℕ) → leb j b ≡ leb (suc j) (suc b)
 leb-suc j b = go (leb j b) refl
   where
-    go : (t : Bool) → leb j b ≡ t → leb j b ≡ leb (j + 1) (suc b)
-    go true e = e ∙ sym (le-leb (j + 1) (suc b) (omega (arith, leb-true j b e)))
-    go false e = e ∙ sym (lt-leb (j + 1) (suc b) (omega (arith, leb-false j b e)))
+    go : (t : Bool) → leb j b ≡ t → leb j b ≡ leb (suc j) (suc b)
+    go true e = e ∙ sym (le-leb (suc j) (suc b) (omega (arith, leb-true j b e)))
+    go false e = e ∙ sym (lt-leb (suc j) (suc b) (omega (arith, leb-false j b e)))
 
-from-moved : (w j : ℕ) → From w j → From (w * 2 ^ 1 % 2 ^ 64) (j + 1)
-from-moved w j f = record { is = go }
-  where
-    go : (b : ℕ) → b < 64 → bit (w * 2 ^ 1 % 2 ^ 64) b ≡ leb (j + 1) b
-    go zero h = bit-first w ∙ sym (lt-leb (j + 1) 0 (omega arith))
-    go (suc b) h = bit-moved w b h ∙ f .is b (omega arith) ∙ leb-suc j b
+carry-bit : (j b x : ℕ) → bit (bitXor (x + 2 ^ j) x) b ≡ (leb j b && none (off x) j (b - j))
+unfolding digit
+carry-bit zero b x = let z : b - 0 ≡ b = omega arith in rw (z, le-leb 0 b (omega arith)) (carry-first b x)
+carry-bit (suc j) zero x =
+    let e : (x + 2 ^ suc j) % 2 ≡ x % 2 = omega (arith, pow-suc 2 j) in
+    bit-xor (x + 2 ^ suc j) x 0 ∙ ap (λ (y : ℕ). meaning exclusive (eqb y 1) (eqb (x % 2) 1)) e ∙ exclusive-self (eqb (x % 2) 1)
+    ∙ rw (lt-leb (suc j) 0 (omega arith))
+carry-bit (suc j) (suc b) x =
+    let h : (x + 2 ^ suc j) / 2 ≡ x / 2 + 2 ^ j = omega (arith, pow-suc 2 j) in
+    let z : suc b - suc j ≡ b - j = omega arith in
+    ap (λ (y : ℕ). bit y b) (xor-shr (x + 2 ^ suc j) x 1 ∙ ap (λ (y : ℕ). bitXor y (x / 2)) h) ∙ carry-bit j b (x / 2)
+    ∙ rw (leb-suc j b, z) (ap (λ (t : Bool). leb (suc j) (suc b) && t) (sym (none-later (off x) j (b - j))))
 
-pub moved-one : (w : ℕ) → Moved w (w * 2 ^ 1 % 2 ^ 64)
-moved-one w = record { is = from-moved w }
+-- ---- a bit alone
+pub one-first : One 1 0
+one-first = record { is = λ h. refl }
 
-pub from-last : (w j : ℕ) → From w j → j < 64 → bit w 63 ≡ true
-from-last w j f h = f .is 63 (omega arith) ∙ le-leb j 63 (omega arith)
+pub one-shifted : (j : ℕ) → One (1 * 2 ^ j % 2 ^ 64) j
+one-shifted j = record { is = λ h. shl-exact {a = 1} 1 j 64 (omega arith) (omega arith) ∙ omega arith }
+
+one-moved : (one j : ℕ) → One one j → One (one * 2 ^ 1 % 2 ^ 64) (j + 1)
+one-moved one j o = record { is = λ h. rw (o .is (omega arith)) (shl-exact {a = 2 ^ j} (j + 1) 1 64 (pow-lt (omega arith)) (omega arith) ∙ sym (pow-add 2 j 1)) }
+
+pub moved-one : (one : ℕ) → Moved one (one * 2 ^ 1 % 2 ^ 64)
+moved-one one = record { is = one-moved one }
+
+pub one-small : (one j : ℕ) → One one j → j < 64 → one ≤ 2 ^ 63
+one-small one j o h = rw (o .is h) (pow-mono {i = j} {j = 63} (omega arith))
+
+-- ---- the bits at which no span ends
+flipped : (t : Bool) → meaning exclusive (t || false) true ≡ not t
+flipped true = refl
+flipped false = refl
+
+ended : (t : Bool) → meaning exclusive (t || true) true ≡ false
+ended true = refl
+ended false = refl
+
+module _ (w : ℕ) where
+  inner-bit : (b : ℕ) → b < 63 → bit (bitXor (bitOr w 0x8000000000000000) 0xFFFFFFFFFFFFFFFF) b ≡ not (bit w b)
+  inner-bit b h = bit-xor (bitOr w 0x8000000000000000) 0xFFFFFFFFFFFFFFFF b ∙ rw (bit-or w 0x8000000000000000 b, bit-top b h, bit-ones b (omega arith)) (flipped (bit w b))
+
+  inner-last : bit (bitXor (bitOr w 0x8000000000000000) 0xFFFFFFFFFFFFFFFF) 63 ≡ false
+  inner-last = bit-xor (bitOr w 0x8000000000000000) 0xFFFFFFFFFFFFFFFF 63 ∙ rw (bit-or w 0x8000000000000000 63, bit-top-on, bit-ones 63 (omega arith)) (ended (bit w 63))
+
+  pub inners : w < 2 ^ 64 → Inner w (bitXor (bitOr w 0x8000000000000000) 0xFFFFFFFFFFFFFFFF)
+  inners h = record { small = small-word _ (xor-lt 64 (bitOr w 0x8000000000000000) 0xFFFFFFFFFFFFFFFF (or-lt 64 w 0x8000000000000000 h (omega arith)) (omega arith)) inner-last; is = inner-bit }
 
 -- ---- spans
-and-none : (x : Bool) → (x && false) ≡ false
-and-none true = refl
-and-none false = refl
+off-again : (t u : Bool) → u ≡ not t → not u ≡ t
+off-again true u e = rw e
+off-again false u e = rw e
 
-and-all : (x : Bool) → (x && true) ≡ x
-and-all true = refl
-and-all false = refl
-
-or-none : (x : Bool) → (x || false) ≡ x
-or-none true = refl
-or-none false = refl
-
-or-all : (x : Bool) → (x || true) ≡ true
-or-all true = refl
-or-all false = refl
-
-pub span-some : (w from : ℕ) → bit from 63 ≡ true → 1 ≤ bitAnd (bitOr w 0x8000000000000000) from
-span-some w from h = go (bitAnd (bitOr w 0x8000000000000000) from) refl
+span-bit : (w rest j b : ℕ) → Inner w rest → b < 64 → bit (bitXor (rest + 2 ^ j) rest) b ≡ (leb j b && none (bit w) j (b - j))
+span-bit w rest j b i h = carry-bit j b rest ∙ go (leb j b) refl
   where
-    on : bit (bitAnd (bitOr w 0x8000000000000000) from) 63 ≡ true
-    on = bit-and (bitOr w 0x8000000000000000) from 63 ∙ rw (h, bit-or w 0x8000000000000000 63, bit-top-on, or-all (bit w 63))
+    go : (t : Bool) → leb j b ≡ t → (leb j b && none (off rest) j (b - j)) ≡ (leb j b && none (bit w) j (b - j))
+    go false e = rw e
+    go true e =
+        ap (λ (t : Bool). leb j b && t)
+        (none-same (off rest) (bit w) j (b - j) (λ x l m. off-again (bit w x) (bit rest x) (i .is x (omega (arith, leb-true j b e)))))
 
-    go : (y : ℕ) → bitAnd (bitOr w 0x8000000000000000) from ≡ y → 1 ≤ y
-    go zero e = absurd (true≢false (sym on ∙ ap (λ (x : ℕ). bit x 63) e ∙ bit-none 63))
-    go (suc y) e = omega arith
-
-module _ (w from j b : ℕ) (f : From from j) (fits : b < 64) (some : 1 ≤ bitAnd (bitOr w 0x8000000000000000) from) where
-  y : ℕ
-  y = bitAnd (bitOr w 0x8000000000000000) from
-
-  y-low : (x : ℕ) → 0 ≤ x → x < 0 + j → j ≤ b → bit (bitAnd (bitOr w 0x8000000000000000) from) x ≡ false
-  y-low x l h m = bit-and (bitOr w 0x8000000000000000) from x ∙ ap (λ (t : Bool). bit (bitOr w 0x8000000000000000) x && t) (f .is x (omega arith) ∙ lt-leb j x (omega arith)) ∙ and-none (bit (bitOr w 0x8000000000000000) x)
-
-  y-high : (x : ℕ) → j ≤ x → x < b → bit (bitAnd (bitOr w 0x8000000000000000) from) x ≡ bit w x
-  y-high x l h =
-      bit-and (bitOr w 0x8000000000000000) from x ∙ ap (λ (t : Bool). bit (bitOr w 0x8000000000000000) x && t) (f .is x (omega arith) ∙ le-leb j x l)
-      ∙ and-all (bit (bitOr w 0x8000000000000000) x) ∙ bit-or w 0x8000000000000000 x ∙ ap (λ (t : Bool). bit w x || t) (bit-top x (omega arith)) ∙ or-none (bit w x)
-
-  span-bit : bit (bitAnd (bitXor (bitAnd (bitOr w 0x8000000000000000) from) (bitAnd (bitOr w 0x8000000000000000) from - 1)) from) b ≡ (leb j b && none (bit w) j (b - j))
-  span-bit = bit-and _ from b ∙ ap (λ (t : Bool). t && bit from b) (lowest b (bitAnd (bitOr w 0x8000000000000000) from) some) ∙ ap (λ (t : Bool). none (bit (bitAnd (bitOr w 0x8000000000000000) from)) 0 b && t) (f .is b fits) ∙ go (leb j b) refl
-    where
-      go : (t : Bool) → leb j b ≡ t → (none (bit (bitAnd (bitOr w 0x8000000000000000) from)) 0 b && leb j b) ≡ (leb j b && none (bit w) j (b - j))
-      go false e = rw e (and-none (none (bit (bitAnd (bitOr w 0x8000000000000000) from)) 0 b))
-      go true e =
-          let h : j ≤ b = leb-true j b e in
-          let z : j + (b - j) ≡ b = omega arith in
-          let o : 0 + j ≡ j = omega arith in
-          rw e
-          (and-all (none (bit (bitAnd (bitOr w 0x8000000000000000) from)) 0 b) ∙ ap (none (bit (bitAnd (bitOr w 0x8000000000000000) from)) 0) (sym z)
-          ∙ none-pass (bit (bitAnd (bitOr w 0x8000000000000000) from)) 0 j (b - j) (λ x l m. y-low x l m h) ∙ ap (λ (i : ℕ). none (bit (bitAnd (bitOr w 0x8000000000000000) from)) i (b - j)) o
-          ∙ none-same (bit (bitAnd (bitOr w 0x8000000000000000) from)) (bit w) j (b - j) (λ x l m. y-high x l (omega arith)))
-
-pub spans : (w from : ℕ) → bit from 63 ≡ true → Spans w from (bitAnd (bitXor (bitAnd (bitOr w 0x8000000000000000) from) (bitAnd (bitOr w 0x8000000000000000) from - 1)) from)
-spans w from h = record { is = λ j f. record { is = λ b l. span-bit w from j b f l (span-some w from h) } }
+pub spans : (rest one : ℕ) → Spans rest one (bitXor (rest + one) rest)
+spans rest one = record { is = λ w j i o h. record { is = λ b l. rw (o .is h) (span-bit w rest j b i l) } }
 
 -- ---- the last bit that is on
 pub record NoneFrom (w j : ℕ) : Type 0 where

@@ -13,7 +13,7 @@ use Rattle.lines.specs.Lines.{startState}
 use Rattle.lines.specs.Columns.{only}
 use Rattle.line_strips.specs.Words.{bit}
 use Rattle.line_strips.specs.Strips.{wide, turnsAt}
-use Rattle.line_strips.specs.Steps.{Turnable, Legible, Fillable, turnsOf, insideTo, Bytes, Quiet, Flips, GoesOn, InWord}
+use Rattle.line_strips.specs.Steps.{Turnable, Legible, Fillable, turnsOf, insideTo, Bytes, Quiet, Flips, GoesOn, InWord, Layable}
 use Rattle.line_strips.proofs.Digits.{bit-times}
 use Rattle.line_strips.proofs.Stores.{same?, flips-none, flips-same, flips-more}
 
@@ -180,14 +180,16 @@ pub legible-next : (names : ℕ) (rows shapes cols starts : List ℕ) (a n c : �
 legible-next names rows shapes cols starts a n c l h = legible-less names rows shapes cols starts a n (c + 1) l (omega arith)
 
 -- as far as word k, and as its last column
-pub legible-word : (names : ℕ) (rows shapes cols starts lasts : List ℕ) (a n k : ℕ) (ws : List ℕ) → Fillable names rows shapes cols starts lasts a n ws → 64 * k < n → Legible names rows shapes cols starts a (64 * k)
-legible-word names rows shapes cols starts lasts a n k ws f h = legible-less names rows shapes cols starts a n (64 * k) (f .legible) (omega arith)
+pub legible-word : (names : ℕ) (rows shapes cols starts lasts : List ℕ) (a n k : ℕ) (told : Bool) (ws : List ℕ) → Fillable names rows shapes cols starts lasts a n told ws → 64 * k < n → Legible names rows shapes cols starts a (64 * k)
+legible-word names rows shapes cols starts lasts a n k told ws f h = legible-less names rows shapes cols starts a n (64 * k) (f .legible) (omega arith)
 
-pub legible-first : (names : ℕ) (rows shapes cols starts lasts : List ℕ) (a n m : ℕ) (ws : List ℕ) → Fillable names rows shapes cols starts lasts a n ws → InWord n 0 m → Legible names rows shapes cols starts a (64 * 0 + m)
-legible-first names rows shapes cols starts lasts a n m ws f w = legible-less names rows shapes cols starts a n (64 * 0 + m) (f .legible) (w .within)
-
-pub legible-part : (names : ℕ) (rows shapes cols starts lasts : List ℕ) (a n k m : ℕ) (ws : List ℕ) → Fillable names rows shapes cols starts lasts a n ws → InWord n k m → Legible names rows shapes cols starts a (64 * k + m)
-legible-part names rows shapes cols starts lasts a n k m ws f w = legible-less names rows shapes cols starts a n (64 * k + m) (f .legible) (w .within)
+pub layable-word : (names : ℕ) (rows shapes cols starts lasts : List ℕ) (a n k m : ℕ) (told : Bool) (ws : List ℕ) → Fillable names rows shapes cols starts lasts a n told ws → InWord n k m → Layable names rows shapes cols starts a k m told
+layable-word names rows shapes cols starts lasts a n k m told ws f w =
+    record {
+      short = w .most;
+      legible = legible-less names rows shapes cols starts a n (64 * k + m) (f .legible) (w .within);
+      alone = λ e. record { are = λ j h. f .alone e .are j (omega (arith, w .within)) };
+    }
 
 -- what turns there
 pub start-turns : (names : ℕ) (rows shapes cols starts : List ℕ) (a c q : ℕ) → getD cols c 0 ≡ 65535 → q ≡ getD starts c 0 → (s : ℕ) → turnsOf names rows shapes cols starts a c s ≡ startState names rows q s

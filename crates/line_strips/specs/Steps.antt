@@ -1,5 +1,5 @@
 -- What a fill needs and gives, and what its steps keep: the shapes' rows word by word.
-use Prim.Native.Nat.{ℕ, zero, suc, _+_, _-_, _*_, _/_, _≤_, _<_}
+use Prim.Native.Nat.{ℕ, zero, suc, _+_, _-_, _*_, _/_, _^_, _≤_, _<_}
 use mathlib.Core.Path.{_≡_}
 use mathlib.Core.Bool.{Bool, true, false, not, _&&_, cond}
 use mathlib.Core.List.{List, []}
@@ -7,8 +7,9 @@ use lib.Dec.{eqb, ltb, leb}
 use lib.ListN.{length, getD}
 use Rattle.formula.specs.States.{State}
 use Rattle.lines.specs.Lines.{LineLists, lineLists}
+use Rattle.lines.specs.Columns.{only}
 use Rattle.line_strips.specs.Words.{bit}
-use Rattle.line_strips.specs.Strips.{wide, columns, on, planned, turnsAt, lastAt, entering, leaving, Filled}
+use Rattle.line_strips.specs.Strips.{wide, columns, cell, on, planned, turnsAt, lastAt, entering, leaving, Filled, Alone}
 
 -- ---- a fill
 
@@ -28,8 +29,9 @@ pub record Legible (names : ℕ) (rows shapes cols starts : List ℕ) (a n : ℕ
   pub column : (j : ℕ) → j < n → Turnable names rows shapes cols starts a j
 
 -- What a fill needs.
-pub record Fillable (names : ℕ) (rows shapes cols starts lasts : List ℕ) (a n : ℕ) (words : List ℕ) : Type 0 where
+pub record Fillable (names : ℕ) (rows shapes cols starts lasts : List ℕ) (a n : ℕ) (told : Bool) (words : List ℕ) : Type 0 where
   pub legible : Legible names rows shapes cols starts a n
+  pub alone : told ≡ true → Alone cols n
   pub lastsLong : length lasts ≡ wide
   pub some : 1 ≤ n
   pub room : 256 * wide ≤ length words
@@ -68,20 +70,25 @@ unfoldable pub none : (ℕ → Bool) → ℕ → ℕ → Bool
 none f i zero = true
 none f i (suc d) = not (f i) && none f (suc i) d
 
--- A word whose bits are on from j on.
-pub record From (w j : ℕ) : Type 0 where
-  pub is : (b : ℕ) → b < 64 → bit w b ≡ leb j b
+-- A word with bit j alone, if it has one.
+pub record One (one j : ℕ) : Type 0 where
+  pub is : j < 64 → one ≡ 2 ^ j
 
-pub record Moved (w r : ℕ) : Type 0 where
-  pub is : (j : ℕ) → From w j → From r (j + 1)
+pub record Moved (one r : ℕ) : Type 0 where
+  pub is : (j : ℕ) → One one j → One r (j + 1)
+
+-- The bits of w that are off, but for the last.
+pub record Inner (w rest : ℕ) : Type 0 where
+  pub small : rest < 2 ^ 63
+  pub is : (b : ℕ) → b < 63 → bit rest b ≡ not (bit w b)
 
 -- A word whose bits are on from j to the first one that is on in w, or to the last.
 pub record Span (w j m : ℕ) : Type 0 where
   pub is : (b : ℕ) → b < 64 → bit m b ≡ (leb j b && none (bit w) j (b - j))
 
--- Whatever bit j it is from which those of `from` are on.
-pub record Spans (w from m : ℕ) : Type 0 where
-  pub is : (j : ℕ) → From from j → Span w j m
+-- Whatever word w has the bits of `rest` off, and whatever bit j is that of `one`.
+pub record Spans (rest one m : ℕ) : Type 0 where
+  pub is : (w j : ℕ) → Inner w rest → One one j → j < 64 → Span w j m
 
 -- The last bit that is on is the one before r; with r 0 nothing is said.
 pub record Since (w r : ℕ) : Type 0 where
@@ -104,9 +111,9 @@ pub record SpanTurned (names : ℕ) (turns : State) (k j w : ℕ) (words words�
   pub apart : Apart names k words words′
   pub here : (s b : ℕ) → s < names → b < 64 → on words′ s (64 * k + b) ≡ cond (turns s && (leb j b && none (bit w) j (b - j))) (not (on words s (64 * k + b))) (on words s (64 * k + b))
 
--- Whatever bit j it is from which those of `from` are on.
-pub record SpanFlips (names : ℕ) (turns : State) (k w from : ℕ) (words words′ : List ℕ) : Type 0 where
-  pub is : (j : ℕ) → From from j → SpanTurned names turns k j w words words′
+-- Whatever word w has the bits of `rest` off, and whatever bit j is that of `one`.
+pub record SpanFlips (names : ℕ) (turns : State) (k rest one : ℕ) (words words′ : List ℕ) : Type 0 where
+  pub is : (w j : ℕ) → Inner w rest → One one j → j < 64 → SpanTurned names turns k j w words words′
 
 -- A start row that was turned up to byte a is now turned up to byte e.
 pub record GoesOn (row : List ℕ) (k m a e : ℕ) (words words′ : List ℕ) : Type 0 where
@@ -135,6 +142,22 @@ pub record LaysSome (names : ℕ) (turns : ℕ → State) (last : ℕ → Bool) 
   pub more : j < e
   pub most : e ≤ m
   pub lays : Lays names turns last k j e words words′
+
+-- The first m columns of word k can turn their shapes; where they are said to be crossings alone, so are all columns as far as that.
+pub record Layable (names : ℕ) (rows shapes cols starts : List ℕ) (a k m : ℕ) (told : Bool) : Type 0 where
+  pub short : m ≤ 64
+  pub legible : Legible names rows shapes cols starts a (64 * k + m)
+  pub alone : told ≡ true → Alone cols (64 * k + m)
+
+-- The n crossings from a on are there, and have names.
+pub record Named (shapes : List ℕ) (a n : ℕ) : Type 0 where
+  pub there : (c : ℕ) → c < n → a + c < length shapes
+  pub named : (c : ℕ) → c < n → getD shapes (a + c) 0 < 256
+
+-- The first m columns of word k laid as the crossings from a on: right wherever all columns as far as that turn as those crossings do.
+pub record LaysRun (shapes lasts : List ℕ) (a k m : ℕ) (words words′ : List ℕ) : Type 0 where
+  pub long : length words′ ≡ length words
+  pub lays : (names : ℕ) (turns : ℕ → State) → names ≤ 256 → ((c s : ℕ) → c < 64 * k + m → turns c s ≡ only (getD shapes (a + c) 0) s) → Lays names turns (cell lasts) k 0 m words words′
 
 -- All are outside before column c, and no column from there to e is its line's last.
 pub record Within (names : ℕ) (turns : ℕ → State) (last : ℕ → Bool) (first : State) (c e : ℕ) : Type 0 where

@@ -29,7 +29,7 @@ noted-one {v} {count} {metal} {events} room at is =
       metal-after = refl;
     }
 
-noted-both : {new more : List ℕ} {k k′ k″ : ℕ} {events events′ events″ : List ℕ} → Noted new k events k′ events′ → Noted more k′ events′ k″ events″ → Noted (new ++ more) k events k″ events″
+pub noted-both : {new more : List ℕ} {k k′ k″ : ℕ} {events events′ events″ : List ℕ} → Noted new k events k′ events′ → Noted more k′ events′ k″ events″ → Noted (new ++ more) k events k″ events″
 noted-both {new} {more} {k} {events = events} a b =
     record {
       sized = b .sized ∙ a .sized;

@@ -2,3 +2,5 @@ mod BitLaws
 mod EndLaws
 pub mod ListedLaws
 mod EventLaws
+mod MarkedLaws
+mod AloneLaws

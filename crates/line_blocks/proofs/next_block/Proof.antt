@@ -1,5 +1,5 @@
--- The block planned, its events, and the pass after them.
-use Rattle.line_blocks.proofs.PassBlocks.{ask-can-plan, ask-evaluable, ask-fillable, ask-can-sweep, block-made}
+-- The block planned, then made.
+use Rattle.line_blocks.proofs.PassBlocks.{ask-can-plan}
 use borrow.Author.Needs.{needs}
 use Rattle.line_blocks.proofs.next_block.Statement.{statement}
 use Rattle.line_blocks.proofs.next_block.Tie as tie
@@ -7,17 +7,14 @@ use Rattle.line_blocks.proofs.next_block.Tie as tie
 plan-requires : tie.Need-plan-requires
 plan-requires c κs = search ask-can-plan
 
-block-events-requires : tie.Need-block-events-requires
-block-events-requires c κs = (search ask-evaluable, search ask-fillable, search ask-can-sweep)
-
-goes-past-requires : tie.Need-goes-past-requires
-goes-past-requires c κs = search needs
+planned-block-requires : tie.Need-planned-block-requires
+planned-block-requires c κs = search needs
 
 same-length : tie.Need-same-length
 same-length c = search needs
 
 returns : tie.Need-returns
-returns c = search block-made
+returns c = search needs
 
 pub next-block-spec : {M : Type 1} → statement M
-next-block-spec = tie.close (tie.spec plan-requires block-events-requires goes-past-requires same-length returns)
+next-block-spec = tie.close (tie.spec plan-requires planned-block-requires same-length returns)

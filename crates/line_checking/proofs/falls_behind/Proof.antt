@@ -19,14 +19,14 @@ mul-l1 c = search needs
 shared-slice-read-l1 : tie.Need-shared-slice-read-l1
 shared-slice-read-l1 c = search needs
 
+returns : tie.Need-returns
+returns c = search (falls-line, needs)
+
 sub-below : tie.Need-sub-below
 sub-below c = search needs
 
 below-requires : tie.Need-below-requires
 below-requires c κs = search needs
-
-returns : tie.Need-returns
-returns c = search (falls-line, needs)
 
 returns-2 : tie.Need-returns-2
 returns-2 c = search (falls-place, needs)
@@ -43,8 +43,8 @@ falls-behind-spec =
     shared-slice-read-l0
     mul-l1
     shared-slice-read-l1
+    returns
     sub-below
     below-requires
-    returns
     returns-2
     returns-3)

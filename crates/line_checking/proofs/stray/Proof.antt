@@ -1,33 +1,66 @@
--- Falls, or at a mark.
-use Rattle.line_checking.proofs.ItemLaws.{stray-one, stray-none}
+-- No flag is on only if it neither falls nor is at a mark.
+use Rattle.line_checking.proofs.ItemLaws.{stray-by}
 use borrow.Author.Needs.{needs}
 use Rattle.line_checking.proofs.stray.Statement.{statement}
 use Rattle.line_checking.proofs.stray.Tie as tie
-use Rattle.line_checking.proofs.stray.Reads as reads
-use Rattle.line_checking.proofs.stray.Lts as lts
-use Rattle.line_checking.proofs.at_mark.Reads as at-mark-reads
-use Rattle.line_checking.proofs.falls_behind.Reads as falls-behind-reads
-use Rattle.line_checking.proofs.spot.Reads as spot-reads
+
+sub-l0 : tie.Need-sub-l0
+sub-l0 c = search needs
+
+mul-l0 : tie.Need-mul-l0
+mul-l0 c = search needs
+
+shared-slice-read-l0 : tie.Need-shared-slice-read-l0
+shared-slice-read-l0 c = search needs
+
+mul-l1 : tie.Need-mul-l1
+mul-l1 c = search needs
+
+shared-slice-read-l1 : tie.Need-shared-slice-read-l1
+shared-slice-read-l1 c = search needs
 
 spot-requires : tie.Need-spot-requires
 spot-requires c κs = search needs
 
-falls-behind-requires : tie.Need-falls-behind-requires
-falls-behind-requires c κs = search needs
+one-if-requires : tie.Need-one-if-requires
+one-if-requires c κs = search needs
+
+one-if-requires-2 : tie.Need-one-if-requires-2
+one-if-requires-2 c κs = search needs
+
+sub-below : tie.Need-sub-below
+sub-below c = search needs
+
+below-requires : tie.Need-below-requires
+below-requires c κs = search needs
+
+one-if-requires-3 : tie.Need-one-if-requires-3
+one-if-requires-3 c κs = search needs
 
 at-mark-requires : tie.Need-at-mark-requires
 at-mark-requires c κs = search needs
 
+one-if-requires-4 : tie.Need-one-if-requires-4
+one-if-requires-4 c κs = search needs
+
 returns : tie.Need-returns
-returns c = search (stray-one, needs)
-
-returns-2 : tie.Need-returns-2
-returns-2 c = search (stray-one, needs)
-
-returns-3 : tie.Need-returns-3
-returns-3 c = search (stray-none, needs)
+returns c = search (stray-by, needs)
 
 pub stray-spec : {M : Type 1} → statement M
 stray-spec =
     tie.close
-    (tie.spec spot-requires falls-behind-requires at-mark-requires returns returns-2 returns-3)
+    (tie.spec
+    sub-l0
+    mul-l0
+    shared-slice-read-l0
+    mul-l1
+    shared-slice-read-l1
+    spot-requires
+    one-if-requires
+    one-if-requires-2
+    sub-below
+    below-requires
+    one-if-requires-3
+    at-mark-requires
+    one-if-requires-4
+    returns)

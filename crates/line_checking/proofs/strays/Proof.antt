@@ -18,9 +18,6 @@ loop-holds c = search (none-yet, needs)
 stray-requires : tie.Need-stray-requires Inv-loop μ-loop
 stray-requires c κs = search needs
 
-larger-byte-requires : tie.Need-larger-byte-requires Inv-loop μ-loop
-larger-byte-requires c κs = search needs
-
 add-i : tie.Need-add-i Inv-loop μ-loop
 add-i c = search needs
 
@@ -41,7 +38,6 @@ strays-spec =
     μ-loop
     loop-holds
     stray-requires
-    larger-byte-requires
     add-i
     loop-less
     loop-again

@@ -1,19 +1,19 @@
 -- Number by number.
 use borrow.Author.Needs.{needs}
 use Prim.Native.Nat.{_-_}
-use Rattle.line_columns.specs.Steps.{Rising}
-use Rattle.line_columns.proofs.RunLaws.{rising-none, rising-more, rising-all}
+use Rattle.line_columns.specs.Steps.{Numbered}
+use Rattle.line_columns.proofs.RunLaws.{numbered-none, numbered-more, numbered-all}
 use Rattle.line_columns.proofs.number.Statement.{statement}
 use Rattle.line_columns.proofs.number.Tie as tie
 
 abbrev Inv-loop : tie.InvT-loop
-Inv-loop cols₀ c₀ cols c = Rising cols c
+Inv-loop cols₀ c₀ cols c = Numbered cols c
 
 abbrev μ-loop : tie.MeasureT-loop
 μ-loop cols₀ c₀ cols c = 512 - c
 
 loop-holds : tie.Need-loop-holds Inv-loop μ-loop
-loop-holds c = search (rising-none, needs)
+loop-holds c = search (numbered-none, needs)
 
 cast-cols : tie.Need-cast-cols Inv-loop μ-loop
 cast-cols c = search needs
@@ -31,10 +31,10 @@ loop-less : tie.Need-loop-less Inv-loop μ-loop
 loop-less c = search needs
 
 loop-again : tie.Need-loop-again Inv-loop μ-loop
-loop-again c = search (rising-more, needs)
+loop-again c = search (numbered-more, needs)
 
 returns : tie.Need-returns Inv-loop μ-loop
-returns c = search (rising-all, needs)
+returns c = search (numbered-all, needs)
 
 pub number-spec : {M : Type 1} → statement M
 number-spec =

@@ -1,5 +1,5 @@
 -- `line_strips::first_word` meets its contract.
-use Rattle.line_strips.proofs.Turns.{legible-first}
+use Rattle.line_strips.proofs.Turns.{layable-word}
 use Rattle.line_strips.proofs.Blocks.{word-starts}
 use borrow.Author.Needs.{needs}
 use Rattle.line_strips.proofs.first_word.Statement.{statement}
@@ -17,7 +17,7 @@ open-block-requires : tie.Need-open-block-requires
 open-block-requires c κs = search needs
 
 lay-requires : tie.Need-lay-requires
-lay-requires c κs = (search needs, search needs, search needs, search needs, search (legible-first, needs))
+lay-requires c κs = (search needs, search needs, search needs, search (layable-word, needs))
 
 same-length : tie.Need-same-length
 same-length c = search needs

@@ -3,18 +3,24 @@ use borrow.Author.Needs.{needs}
 use Prim.Native.Nat.{_-_}
 use Rattle.line_strips.specs.Strips.{cell}
 use Rattle.line_strips.specs.Steps.{turnsOf}
-use Rattle.line_strips.proofs.Lays.{Word, word-none, word-more, word-end}
+use Rattle.line_strips.proofs.Lays.{Word, word-none, word-more, word-end, alone-named, alone-lays}
 use Rattle.line_strips.proofs.lay.Statement.{statement}
 use Rattle.line_strips.proofs.lay.Tie as tie
-use Rattle.line_strips.proofs.lay.Reads as reads
-use Rattle.line_strips.proofs.lay.Lts as lts
-use Rattle.line_strips.proofs.lay_some.Reads as lay-some-reads
 
 abbrev Inv-loop : tie.InvT-loop
-Inv-loop words₀ names rows shape cols starts lasts a k m j₀ words j = Word names (turnsOf names rows shape cols starts a) (cell lasts) k m j words₀ words
+Inv-loop words₀ names rows shape cols starts lasts a k m alone j₀ words j = Word names (turnsOf names rows shape cols starts a) (cell lasts) k m j words₀ words
 
 abbrev μ-loop : tie.MeasureT-loop
-μ-loop words₀ names rows shape cols starts lasts a k m j₀ words j = m - j
+μ-loop words₀ names rows shape cols starts lasts a k m alone j₀ words j = m - j
+
+lay-run-requires : tie.Need-lay-run-requires Inv-loop μ-loop
+lay-run-requires c κs = (search needs, search needs, search needs, search needs, search (alone-named, needs))
+
+same-length : tie.Need-same-length Inv-loop μ-loop
+same-length c = search needs
+
+returns : tie.Need-returns Inv-loop μ-loop
+returns c = search (alone-lays, needs)
 
 loop-holds : tie.Need-loop-holds Inv-loop μ-loop
 loop-holds c = search (word-none, needs)
@@ -28,11 +34,11 @@ loop-less c = search needs
 loop-again : tie.Need-loop-again Inv-loop μ-loop
 loop-again c = search (word-more, needs)
 
-same-length : tie.Need-same-length Inv-loop μ-loop
-same-length c = search needs
+same-length-2 : tie.Need-same-length-2 Inv-loop μ-loop
+same-length-2 c = search needs
 
-returns : tie.Need-returns Inv-loop μ-loop
-returns c = search (word-end, needs)
+returns-2 : tie.Need-returns-2 Inv-loop μ-loop
+returns-2 c = search (word-end, needs)
 
 pub lay-spec : {M : Type 1} → statement M
 lay-spec =
@@ -40,9 +46,12 @@ lay-spec =
     (tie.spec
     Inv-loop
     μ-loop
+    lay-run-requires
+    same-length
+    returns
     loop-holds
     lay-some-requires
     loop-less
     loop-again
-    same-length
-    returns)
+    same-length-2
+    returns-2)

@@ -1,7 +1,7 @@
 -- `line_strips::lay_some` meets its contract.
 use borrow.Author.Needs.{needs}
 use Prim.Native.Nat.{_-_}
-use Rattle.line_strips.proofs.Spans.{from-shifted}
+use Rattle.line_strips.proofs.Spans.{one-shifted}
 use Rattle.line_strips.proofs.Lays.{Laying, laying-none, laying-bit, laying-column, laying-start, laying-row, laying-bytes, laying-crossing, laying-named, laying-ends, laying-more, laying-end}
 use Rattle.line_strips.proofs.lay_some.Statement.{statement}
 use Rattle.line_strips.proofs.lay_some.Tie as tie
@@ -9,27 +9,31 @@ use Rattle.line_strips.proofs.lay_some.Reads as reads
 use Rattle.line_strips.proofs.lay_some.Lts as lts
 use Rattle.basics.proofs.wide.Reads as wide-reads
 use Rattle.basics.proofs.wide_long.Reads as wide-long-reads
+use Rattle.line_strips.proofs.inner.Reads as inner-reads
 use Rattle.line_strips.proofs.moved.Reads as moved-reads
 use Rattle.line_strips.proofs.span_crossing.Reads as span-crossing-reads
 use Rattle.line_strips.proofs.span_start.Reads as span-start-reads
 
 abbrev Inv-loop : tie.InvT-loop
-Inv-loop words₀ names rows shape cols starts lasts a k j m w from₀ i₀ words from i = Laying names rows shape cols starts lasts a k j m from i words₀ words
+Inv-loop words₀ names rows shape cols starts lasts a k j m rest one₀ i₀ words one i = Laying names rows shape cols starts lasts a k j m rest one i words₀ words
 
 abbrev μ-loop : tie.MeasureT-loop
-μ-loop words₀ names rows shape cols starts lasts a k j m w from₀ i₀ words from i = m - i
+μ-loop words₀ names rows shape cols starts lasts a k j m rest one₀ i₀ words one i = m - i
 
-mul-w : tie.Need-mul-w Inv-loop μ-loop
-mul-w c = search needs
+mul-inner : tie.Need-mul-inner Inv-loop μ-loop
+mul-inner c = search needs
 
-element-copy-out-w : tie.Need-element-copy-out-w Inv-loop μ-loop
-element-copy-out-w c = search needs
+element-copy-out-inner : tie.Need-element-copy-out-inner Inv-loop μ-loop
+element-copy-out-inner c = search needs
 
-shl-from : tie.Need-shl-from Inv-loop μ-loop
-shl-from c = search needs
+inner-requires : tie.Need-inner-requires Inv-loop μ-loop
+inner-requires c κs = search needs
+
+shl-one : tie.Need-shl-one Inv-loop μ-loop
+shl-one c = search needs
 
 loop-holds : tie.Need-loop-holds Inv-loop μ-loop
-loop-holds c = search (laying-none, from-shifted, needs)
+loop-holds c = search (laying-none, one-shifted, needs)
 
 mul-c : tie.Need-mul-c Inv-loop μ-loop
 mul-c c = search needs
@@ -53,7 +57,7 @@ wide-long-requires : tie.Need-wide-long-requires Inv-loop μ-loop
 wide-long-requires c κs = search needs
 
 span-start-requires : tie.Need-span-start-requires Inv-loop μ-loop
-span-start-requires c κs = (search needs, search needs, search (laying-bit, needs), search (laying-row, needs), search (laying-bytes, needs))
+span-start-requires c κs = (search needs, search needs, search needs, search (laying-bit, needs), search (laying-row, needs), search (laying-bytes, needs))
 
 add-result : tie.Need-add-result Inv-loop μ-loop
 add-result c = search needs
@@ -68,7 +72,7 @@ wide-requires : tie.Need-wide-requires Inv-loop μ-loop
 wide-requires c κs = search needs
 
 span-crossing-requires : tie.Need-span-crossing-requires Inv-loop μ-loop
-span-crossing-requires c κs = (search needs, search needs, search (laying-bit, needs), search (laying-crossing, needs), search (laying-named, needs))
+span-crossing-requires c κs = (search needs, search needs, search needs, search (laying-bit, needs), search (laying-crossing, needs), search (laying-named, needs))
 
 moved-requires : tie.Need-moved-requires Inv-loop μ-loop
 moved-requires c κs = search needs
@@ -94,9 +98,10 @@ lay-some-spec =
     (tie.spec
     Inv-loop
     μ-loop
-    mul-w
-    element-copy-out-w
-    shl-from
+    mul-inner
+    element-copy-out-inner
+    inner-requires
+    shl-one
     loop-holds
     mul-c
     add-c

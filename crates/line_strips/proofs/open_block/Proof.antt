@@ -1,20 +1,23 @@
 -- `line_strips::open_block` meets its contract.
-use Rattle.line_strips.proofs.Spans.{from-ones}
-use Rattle.line_strips.proofs.Opens.{ones-last, begins-on, begins-off}
+use Rattle.line_strips.proofs.Opens.{begins-on, begins-off}
 use borrow.Author.Needs.{needs}
 use Rattle.line_strips.proofs.open_block.Statement.{statement}
 use Rattle.line_strips.proofs.open_block.Tie as tie
 use Rattle.line_strips.proofs.open_block.Reads as reads
 use Rattle.line_strips.proofs.open_block.Lts as lts
 use Rattle.line_strips.proofs.clear.Reads as clear-reads
+use Rattle.line_strips.proofs.inner.Reads as inner-reads
 use Rattle.line_strips.proofs.open_rows.Reads as open-rows-reads
 use Rattle.line_strips.proofs.span.Reads as span-reads
 
-element-copy-out-span : tie.Need-element-copy-out-span
-element-copy-out-span c = search needs
+element-copy-out-inner : tie.Need-element-copy-out-inner
+element-copy-out-inner c = search needs
+
+inner-requires : tie.Need-inner-requires
+inner-requires c κs = search needs
 
 span-requires : tie.Need-span-requires
-span-requires c κs = ones-last
+span-requires c κs = search needs
 
 open-rows-requires : tie.Need-open-rows-requires
 open-rows-requires c κs = search needs
@@ -23,7 +26,7 @@ same-length : tie.Need-same-length
 same-length c = search needs
 
 returns : tie.Need-returns
-returns c = search (begins-on, from-ones, needs)
+returns c = search (begins-on, needs)
 
 clear-requires : tie.Need-clear-requires
 clear-requires c κs = search needs
@@ -38,7 +41,8 @@ pub open-block-spec : {M : Type 1} → statement M
 open-block-spec =
     tie.close
     (tie.spec
-    element-copy-out-span
+    element-copy-out-inner
+    inner-requires
     span-requires
     open-rows-requires
     same-length

@@ -1,12 +1,12 @@
 -- `line_strips::open_word` meets its contract.
-use Rattle.line_strips.proofs.Spans.{from-ones}
-use Rattle.line_strips.proofs.Opens.{ones-last, opens-last, opens-replayed, opens-carried}
+use Rattle.line_strips.proofs.Opens.{opens-last, opens-replayed, opens-carried}
 use borrow.Author.Needs.{needs}
 use Rattle.line_strips.proofs.open_word.Statement.{statement}
 use Rattle.line_strips.proofs.open_word.Tie as tie
 use Rattle.line_strips.proofs.open_word.Reads as reads
 use Rattle.line_strips.proofs.open_word.Lts as lts
 use Rattle.line_strips.proofs.carry.Reads as carry-reads
+use Rattle.line_strips.proofs.inner.Reads as inner-reads
 use Rattle.line_strips.proofs.line_start.Reads as line-start-reads
 use Rattle.line_strips.proofs.replay.Reads as replay-reads
 use Rattle.line_strips.proofs.span.Reads as span-reads
@@ -23,14 +23,17 @@ element-copy-out-past c = search needs
 returns : tie.Need-returns
 returns c = search (opens-last, needs)
 
-mul-span : tie.Need-mul-span
-mul-span c = search needs
+mul-inner : tie.Need-mul-inner
+mul-inner c = search needs
 
-element-copy-out-span : tie.Need-element-copy-out-span
-element-copy-out-span c = search needs
+element-copy-out-inner : tie.Need-element-copy-out-inner
+element-copy-out-inner c = search needs
+
+inner-requires : tie.Need-inner-requires
+inner-requires c κs = search needs
 
 span-requires : tie.Need-span-requires
-span-requires c κs = ones-last
+span-requires c κs = search needs
 
 line-start-requires : tie.Need-line-start-requires
 line-start-requires c κs = search needs
@@ -51,7 +54,7 @@ same-length : tie.Need-same-length
 same-length c = search needs
 
 returns-2 : tie.Need-returns-2
-returns-2 c = search (opens-replayed, from-ones, needs)
+returns-2 c = search (opens-replayed, needs)
 
 sub-carry : tie.Need-sub-carry
 sub-carry c = search needs
@@ -63,7 +66,7 @@ same-length-2 : tie.Need-same-length-2
 same-length-2 c = search needs
 
 returns-3 : tie.Need-returns-3
-returns-3 c = search (opens-carried, from-ones, needs)
+returns-3 c = search (opens-carried, needs)
 
 pub open-word-spec : {M : Type 1} → statement M
 open-word-spec =
@@ -73,8 +76,9 @@ open-word-spec =
     mul-past
     element-copy-out-past
     returns
-    mul-span
-    element-copy-out-span
+    mul-inner
+    element-copy-out-inner
+    inner-requires
     span-requires
     line-start-requires
     sub-c

@@ -1,15 +1,16 @@
 -- Word by word.
 use Prim.Native.Nat.{_-_}
 use Rattle.line_sweeping.proofs.EventLaws.{Worded, worded-start, worded-some, word-part, worded-sweepable, worded-swept, worded-more, worded-end}
+use Rattle.line_sweeping.proofs.AloneLaws.{said-less}
 use borrow.Author.Needs.{needs}
 use Rattle.line_sweeping.proofs.sweep.Statement.{statement}
 use Rattle.line_sweeping.proofs.sweep.Tie as tie
 
 abbrev Inv-loop : tie.InvT-loop
-Inv-loop row lasts line at a cols n metal events₀ f₀ k₀ e₀ events f k e = Worded line at a cols row lasts metal n k e events f
+Inv-loop row lasts line at a cols n alone metal events₀ f₀ k₀ e₀ events f k e = Worded line at a cols row lasts metal n k e events f
 
 abbrev μ-loop : tie.MeasureT-loop
-μ-loop row lasts line at a cols n metal events₀ f₀ k₀ e₀ events f k e = n - e
+μ-loop row lasts line at a cols n alone metal events₀ f₀ k₀ e₀ events f k e = n - e
 
 loop-holds : tie.Need-loop-holds Inv-loop μ-loop
 loop-holds c = search (worded-start, needs)
@@ -20,8 +21,8 @@ mul-part-end c = search needs
 part-end-requires : tie.Need-part-end-requires Inv-loop μ-loop
 part-end-requires c κs = search (worded-some, needs)
 
-sweep-word-requires : tie.Need-sweep-word-requires Inv-loop μ-loop
-sweep-word-requires c κs = (search (word-part, needs), search (worded-sweepable, needs), search (worded-swept, needs))
+sweep-part-requires : tie.Need-sweep-part-requires Inv-loop μ-loop
+sweep-part-requires c κs = (search (word-part, needs), search (worded-sweepable, needs), search (said-less, needs), search (worded-swept, needs))
 
 add-k : tie.Need-add-k Inv-loop μ-loop
 add-k c = search needs
@@ -47,7 +48,7 @@ sweep-spec =
     loop-holds
     mul-part-end
     part-end-requires
-    sweep-word-requires
+    sweep-part-requires
     add-k
     loop-less
     loop-again
