@@ -19,8 +19,8 @@ use Rattle.labels.specs.Steps.{Chains}
 use Rattle.labels.proofs.Root.{root-label}
 use Rattle.labels.proofs.Held.{held-records, held-shaped}
 use Rattle.toggles.specs.Toggles.{Steps, steps, toggle}
-use Rattle.toggles.specs.Ran.{ToggleRoom}
 use Rattle.toggles.proofs.Runs.{toggle-more}
+use Rattle.toggle_run.specs.Ran.{ToggleRoom}
 use Rattle.edit_labels.proofs.ArrayLaws.{chains-kept}
 use Rattle.edit_run.specs.Edits.{editedBy, rootsAfter, countsAfter, editCounts}
 use Rattle.edit_run.specs.Ran.{Rises}

@@ -13,8 +13,8 @@ use Rattle.contraction.specs.Rounds.{dwarf}
 use Rattle.labels.specs.Labels.{labels}
 use Rattle.labels.specs.Arrays.{Tree}
 use Rattle.labels.proofs.Held.{held-records}
-use Rattle.toggles.specs.Steps.{Tables}
 use Rattle.toggles.proofs.Runs.{none-done}
+use Rattle.toggle_run.specs.Steps.{Tables}
 use Rattle.edits.proofs.Codes.{is-operation}
 use Rattle.edit_places.specs.Places.{Built, Buildable, PlacesFilled}
 use Rattle.edit_run.specs.Edits.{Edit, editsOf, after, rootsAfter, countsAfter, editCounts}

@@ -5,7 +5,7 @@ use mathlib.Core.List.{List, [], _∷_}
 use lib.ListN.{length, getD, take}
 use Rattle.outcome.specs.Lent.{filled}
 use Rattle.formula.specs.Formula.{firstOperation, Formula}
-use Rattle.toggles.specs.Ran.{ToggleRoom}
+use Rattle.toggle_run.specs.Ran.{ToggleRoom}
 use Rattle.edits.specs.Changes.{operations}
 use Rattle.edit_places.specs.Places.{Built, Buildable}
 use Rattle.edit_run.specs.Edits.{Edit, editsOf, Answers, answersOf}

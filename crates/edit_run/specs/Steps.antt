@@ -14,8 +14,8 @@ use Rattle.labels.specs.Labels.{labels}
 use Rattle.labels.specs.Arrays.{Holds}
 use Rattle.labels.specs.Steps.{Rules, Parents, Linked, Chains}
 use Rattle.toggles.specs.Toggles.{steps, toggle}
-use Rattle.toggles.specs.Ran.{ToggleRoom}
 use Rattle.toggles.specs.Steps.{Toggles}
+use Rattle.toggle_run.specs.Ran.{ToggleRoom}
 use Rattle.edit_places.specs.Places.{Places}
 use Rattle.edit_run.specs.Edits.{Edit, editsOf, answersOf, editedBy, rootsAfter, countsAfter, editCounts}
 use Rattle.edit_run.specs.Ran.{Operations, Rises, Listed, EditedRun}

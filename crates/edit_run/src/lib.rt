@@ -124,7 +124,7 @@ fn toggle_one(
         labels,
         s,
     );
-    roots[i] = toggles::root(labels, nodes);
+    roots[i] = toggle_run::root(labels, nodes);
 }
 
 // The edits after i toggles, from edit number k on, and then toggle i: the number of the first edit that waits.
@@ -312,7 +312,7 @@ fn run_filled(
         counts,
         edit_counts,
     );
-    toggles::copy_labels(current, nodes, labels);
+    toggle_run::copy_labels(current, nodes, labels);
 }
 
 // The run where the node of each position is known: its tables are filled first.
@@ -341,7 +341,7 @@ fn run_placed(
     let mut parents = [0u16; 3072];
     let mut heads = [0u16; 256];
     let mut nexts = [0u16; 1024];
-    toggles::fill_tables(
+    toggle_run::fill_tables(
         &mut rules,
         kinds,
         firsts,

@@ -17,7 +17,7 @@ use Rattle.tree_dwarf.specs.declared.Figures.{Figures}
 use Rattle.labels.proofs.Links.{cases}
 use Rattle.labels.proofs.Afresh.{length-labels}
 use Rattle.toggles.specs.Named.{firstWrong}
-use Rattle.toggles.proofs.RanLaws.{none-wrong}
+use Rattle.toggle_run.proofs.RanLaws.{none-wrong}
 use Rattle.accepting.specs.Accepting.{accepted}
 use Rattle.accepting.specs.Prepared.{Stands, Says}
 use Rattle.accepting.specs.declared.Prepared.{Prepared}

@@ -39,7 +39,7 @@ fn check(
             place: 0,
         };
     }
-    let wrong = toggles::first_wrong(toggles, names);
+    let wrong = toggle_run::first_wrong(toggles, names);
     if wrong < toggles.len() {
         return Checked::Refused {
             number: 10,

@@ -19,8 +19,8 @@ use Rattle.labels.proofs.Links.{cases}
 use Rattle.labels.proofs.Afresh.{length-labels}
 use Rattle.toggles.specs.Toggles.{Answers}
 use Rattle.toggles.specs.Named.{firstWrong}
-use Rattle.toggles.specs.Ran.{RunRoom, TreeRun}
-use Rattle.toggles.proofs.RanLaws.{none-wrong}
+use Rattle.toggle_run.specs.Ran.{RunRoom, TreeRun}
+use Rattle.toggle_run.proofs.RanLaws.{none-wrong}
 use Rattle.accepting.specs.Accepting.{accepted}
 use Rattle.accepting.specs.Prepared.{Stands, Says}
 use Rattle.accepting.specs.declared.Prepared.{Prepared}

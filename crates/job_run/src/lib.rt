@@ -33,7 +33,7 @@ pub fn run_toggles(
         → Ran (toggling g names (now (toggles .entry)) (length (now (roots .entry))) (length (now (counts .entry))) (length (now (labels .entry))))
         (now (roots .entry)) (now (counts .entry)) (now (labels .entry)) r (now (roots .exit)) (now (counts .exit)) (now (labels .exit))) ⌝ }
 {
-    let wrong = toggles::first_wrong(toggles, names);
+    let wrong = toggle_run::first_wrong(toggles, names);
     if wrong < toggles.len() {
         return RunAnswer::Refused {
             number: 10,
@@ -61,7 +61,7 @@ pub fn run_toggles(
             place: nodes,
         };
     }
-    toggles::run_tree(k, f, s, leaves, nodes, toggles, roots, counts, labels);
+    toggle_run::run_tree(k, f, s, leaves, nodes, toggles, roots, counts, labels);
     RunAnswer::Ran { nodes }
 }
 

@@ -4,10 +4,11 @@ use native.Mathlib.Decide.{decLt}
 use native.Mathlib.Nat.{mul-le-mul-right}
 use native.Mathlib.Omega.{arith}
 use mathlib.Core.Path.{_≡_, refl, sym, ap, _∙_, fun-ext, subst}
-use mathlib.Core.Bool.{Bool, true, false, not, true≢false, false≢true}
+use mathlib.Core.Bool.{Bool, true, false, not, _&&_, true≢false, false≢true}
 use mathlib.Core.List.{List, _++_}
 use mathlib.Core.Option.{Option, none, some}
-use borrow.Author.Tests.{ne-eqb, lt-ltb, le-ltb}
+use borrow.Author.Tests.{eqb-true, eqb-false, ne-eqb, lt-ltb, le-ltb}
+use lib.Dec.{eqb}
 use lib.IntN.{ℤ}
 use lib.ListN.{length, getD, take}
 use Rattle.formula.specs.Formula.{Formula, inside, postfix, Over}
@@ -24,9 +25,10 @@ use Rattle.line_words.specs.Stretches.{StandFor}
 use Rattle.line_words.specs.declared.Arranged.{Arranged}
 use Rattle.line_columns.specs.Planned.{leftAt, heldAt, BlockPlanned}
 use Rattle.line_columns.specs.Steps.{Plannable}
-use Rattle.line_sweeping.specs.Events.{endsIn, eventsAfter}
-use Rattle.line_sweeping.specs.Steps.{ColumnThere, Listed}
-use Rattle.line_sweeping.proofs.ListedLaws.{EventOf, listed-each}
+use Rattle.line_events.specs.Events.{endsIn, eventsAfter}
+use Rattle.line_events.specs.Steps.{Listed}
+use Rattle.line_sweeping.specs.Steps.{ColumnThere}
+use Rattle.line_events.proofs.ListedLaws.{EventOf, listed-each}
 use Rattle.line_shapes.specs.Groups.{GroupEnd}
 use Rattle.line_shapes.proofs.GroupLaws.{group-end}
 use Rattle.line_turns.specs.Turns.{Held, held, columnOf, eventLine, eventEdge, wallsBy, openBy, isOpen}
@@ -152,16 +154,10 @@ module _ (names : ℕ) (rows ls : List ℕ) (ps : List ℤ) (ss : List ℕ) (col
           beyond : Passed f names c (done ++ wallsAfter at (cell row) from n) (stateAfter at state n) (openAfter at (cell row) from n) (leftAt names c i′ q′)
           beyond = subst (λ (xs : List Column). Passed f names c (done ++ wallsAfter at (cell row) from n) (stateAfter at state n) (openAfter at (cell row) from n) xs) (sym (block .left)) (pass-block f names c done state from (leftAt names c i q) (pass .passed) at (cell row) n lit)
 
-          entered-next : (onward : Bool) → onward ≡ not (lastAt p (columns - 1)) → 0 < length (leftAt names c i′ q′) → Entered names onward words′ (stateAfter at state n)
-          entered-next onward is left = by (lastAt p (columns - 1)) refl
+          -- a block that is full
+          entered-full : n ≡ columns → (onward : Bool) → onward ≡ not (lastAt p (columns - 1)) → Entered names onward words′ (stateAfter at state n)
+          entered-full full onward is = by (lastAt p (columns - 1)) refl
             where
-              full : n ≡ columns
-              full = go (decLt n columns)
-                where
-                  go : Dec (n < columns) → n ≡ columns
-                  go (yes h) = absurd (omega (arith, ap length (block .full h)))
-                  go (no h) = omega (arith, block .narrow)
-
               last-is : stateAfter at state n ≡ elim (lastAt p (columns - 1)) [ true ↦ outside | false ↦ turned (at (columns - 1) .column .turns) (stateAfter at state (columns - 1)) ]
               last-is = ap (stateAfter at state) full ∙ state-more at state (columns - 1) ∙ rw (held-last names rows ls ps ss i cols starts lasts (columns - 1))
 
@@ -179,5 +175,19 @@ module _ (names : ℕ) (rows ls : List ℕ) (ps : List ℤ) (ss : List ℕ) (col
                     none = λ o. absurd (true≢false (sym (is ∙ ap not e) ∙ o));
                   }
 
-          pub block-next : (onward : Bool) → onward ≡ not (lastAt p (columns - 1)) → Passing f names c i′ q′ onward words′ (openBy edge from (take m events)) (done ++ wallsBy edge line from (take m events))
+          -- or one that ends with its line
+          entered-short : lastAt p (n - 1) ≡ true → Entered names false words′ (stateAfter at state n)
+          entered-short e =
+              let one : n ≡ suc (n - 1) = omega (arith, some) in
+              let now-is : stateAfter at state n ≡ outside = ap (stateAfter at state) one ∙ state-more at state (n - 1) ∙ rw (held-last names rows ls ps ss i cols starts lasts (n - 1), e) in
+              record { kept = λ o. absurd (false≢true o); none = λ o s h. ap (λ (u : State). u s) now-is }
+
+          entered-next : (onward : Bool) → onward ≡ (eqb n columns && not (lastAt p (columns - 1))) → 0 < length (leftAt names c i′ q′) → Entered names onward words′ (stateAfter at state n)
+          entered-next onward is left = by (eqb n columns) refl
+            where
+              by : (t : Bool) → eqb n columns ≡ t → Entered names onward words′ (stateAfter at state n)
+              by true e = entered-full (eqb-true n columns e) onward (rw e at is)
+              by false e = rw (rw e at is) (entered-short (block .full (omega (arith, eqb-false n columns e, block .narrow)) left .1))
+
+          pub block-next : (onward : Bool) → onward ≡ (eqb n columns && not (lastAt p (columns - 1))) → Passing f names c i′ q′ onward words′ (openBy edge from (take m events)) (done ++ wallsBy edge line from (take m events))
           block-next onward is = record { state = stateAfter at state n; passed = rw (new-open, new-walls) beyond; entered = entered-next onward is }

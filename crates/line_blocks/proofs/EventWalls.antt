@@ -9,8 +9,8 @@ use Rattle.lines.specs.Lines.{high, Wall, Edge, openEnd, opened, closed}
 use Rattle.lines.specs.Marked.{Marked, columnEdge, openNext, finished, openAfter, wallsAfter}
 use Rattle.lines.proofs.BlockWalls.{open-zero, open-more, walls-zero, walls-more}
 use Rattle.line_strips.specs.Strips.{columns}
-use Rattle.line_sweeping.specs.Events.{eventsAt, metalNext, metalAfter, eventsAfter}
-use Rattle.line_sweeping.proofs.ListedLaws.{events-zero, events-more, metal-zero, metal-more}
+use Rattle.line_events.specs.Events.{eventsAt, metalNext, metalAfter, eventsAfter}
+use Rattle.line_events.proofs.ListedLaws.{events-zero, events-more, metal-zero, metal-more}
 use Rattle.line_turns.specs.Turns.{wallsBy, openBy, isOpen}
 use Rattle.line_turns.proofs.TurnLaws.{walls-app, open-app}
 

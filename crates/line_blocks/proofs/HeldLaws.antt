@@ -15,7 +15,7 @@ use Rattle.lines.specs.Marked.{Marked, columnEdge, stateNext, stateAfter}
 use Rattle.lines.proofs.BlockWalls.{state-zero, state-more}
 use Rattle.line_strips.specs.Strips.{Plan, planned, turnsAt, lastAt, entering, columns}
 use Rattle.line_columns.specs.Planned.{startHeld, crossingHeld, heldAt}
-use Rattle.line_sweeping.specs.Events.{endsIn}
+use Rattle.line_events.specs.Events.{endsIn}
 use Rattle.line_turns.specs.Turns.{Held, held, columnLine, edgeThere, eventLine, eventEdge}
 use Rattle.line_blocks.proofs.EventWalls.{Told}
 

@@ -3,19 +3,19 @@ use Prim.Native.Nat.{ℕ, _-_, _*_, _/_, _%_, _^_, _<_, _≤_}
 use native.Mathlib.Decide.{decLt}
 use native.Mathlib.Omega.{arith}
 use mathlib.Core.Path.{_≡_, sym, ap, _∙_}
-use mathlib.Core.Bool.{Bool, true, false, not}
+use mathlib.Core.Bool.{Bool, true, false, not, _&&_}
 use mathlib.Core.List.{List}
 use borrow.Author.Tests.{eq-eqb, ne-eqb}
 use lib.Dec.{eqb}
 use lib.IntN.{ℤ}
 use lib.ListN.{length, getD, length-drop}
 use Rattle.lines.specs.Lines.{LineLists, lineLists, rowCount}
-use Rattle.line_strips.specs.Strips.{columns, cell, planned}
+use Rattle.line_strips.specs.Strips.{wide, columns, cell, planned}
 use Rattle.line_strips.specs.Steps.{Fillable}
 use Rattle.line_strips.proofs.Digits.{shift-bit}
 use Rattle.line_words.specs.Steps.{Evaluable}
 use Rattle.line_words.specs.declared.Arranged.{Arranged}
-use Rattle.line_columns.specs.Planned.{BlockPlanned}
+use Rattle.line_columns.specs.Planned.{leftAt, BlockPlanned}
 use Rattle.line_columns.specs.Steps.{Plannable, CanPlan}
 use Rattle.line_columns.specs.declared.Ended.{Ended}
 use Rattle.line_columns.proofs.CursorLaws.{judged-plannable}
@@ -25,15 +25,21 @@ use Rattle.line_blocks.proofs.BlockLaws.{block-fillable, block-can-swee
 
 -- ---- the last column
 
-cell-last : (lasts : List ℕ) → eqb (getD lasts 7 0 / 2 ^ 63 % 2) 1 ≡ cell lasts (columns - 1)
+abbrev lastWord : List ℕ → ℕ
+lastWord lasts = getD lasts (wide - 1) 0
+
+cell-last : (lasts : List ℕ) → eqb (lastWord lasts / 2 ^ 63 % 2) 1 ≡ cell lasts (columns - 1)
 unfolding cell
-cell-last lasts = shift-bit (getD lasts 7 0) 63
+cell-last lasts = shift-bit (lastWord lasts) 63
 
-pub past-no : (lasts : List ℕ) → getD lasts 7 0 / 2 ^ 63 % 2 ≡ 1 → false ≡ not (cell lasts (columns - 1))
-past-no lasts e = ap not (sym (eq-eqb (getD lasts 7 0 / 2 ^ 63 % 2) 1 e) ∙ cell-last lasts)
+pub past-short : (lasts : List ℕ) (n : ℕ) → (n ≡ columns → ⊥) → false ≡ (eqb n columns && not (cell lasts (columns - 1)))
+past-short lasts n h = rw (ne-eqb n columns h)
 
-pub past-yes : (lasts : List ℕ) → (getD lasts 7 0 / 2 ^ 63 % 2 ≡ 1 → ⊥) → true ≡ not (cell lasts (columns - 1))
-past-yes lasts e = ap not (sym (ne-eqb (getD lasts 7 0 / 2 ^ 63 % 2) 1 e) ∙ cell-last lasts)
+pub past-no : (lasts : List ℕ) (n : ℕ) → n ≡ columns → lastWord lasts / 2 ^ 63 % 2 ≡ 1 → false ≡ (eqb n columns && not (cell lasts (columns - 1)))
+past-no lasts n h e = rw (eq-eqb n columns h) (ap not (sym (eq-eqb (lastWord lasts / 2 ^ 63 % 2) 1 e) ∙ cell-last lasts))
+
+pub past-yes : (lasts : List ℕ) (n : ℕ) → n ≡ columns → (lastWord lasts / 2 ^ 63 % 2 ≡ 1 → ⊥) → true ≡ (eqb n columns && not (cell lasts (columns - 1)))
+past-yes lasts n h e = rw (eq-eqb n columns h) (ap not (sym (ne-eqb (lastWord lasts / 2 ^ 63 % 2) 1 e) ∙ cell-last lasts))
 
 plannable : {stretches links : List ℕ} {arranged : Arranged} {names : ℕ} {c : LineLists} {words : List ℕ} {p : Pass} → Going stretches links arranged names c words p → Plannable names c
 plannable {names = names} {c = c} g = judged-plannable names c (g .taken .some) (g .taken .few) (g .taken .judged-so)
@@ -61,7 +67,11 @@ module _ {stretches links : List ℕ} {arranged : Arranged} {names : ℕ} {rows 
     has-one = by (decLt (ended .next .c) columns)
       where
         by : Dec (ended .next .c < columns) → 1 ≤ ended .next .c
-        by (yes h) = omega (arith, ask .left, ap length (sym (block-is .left) ∙ block-is .full h), length-drop (ended .next .c) (leftOf names (lineLists rows ls ps ss) p))
+        by (yes h) = go (decLt 0 (length (leftAt names (lineLists rows ls ps ss) (ended .next .i) (ended .next .q))))
+          where
+            go : Dec (0 < length (leftAt names (lineLists rows ls ps ss) (ended .next .i) (ended .next .q))) → 1 ≤ ended .next .c
+            go (yes l) = block-is .full h l .0
+            go (no l) = omega (arith, ask .left, ap length (block-is .left), length-drop (ended .next .c) (leftOf names (lineLists rows ls ps ss) p))
         by (no h) = omega arith
 
     pub ask-fillable : Fillable names rows ss cols starts lasts (p .cursor .i) (ended .next .c) (ended .alone) words
@@ -71,7 +81,7 @@ module _ {stretches links : List ℕ} {arranged : Arranged} {names : ℕ} {rows 
     ask-can-sweep {events} sized = block-can-sweep names rows ls ps ss cols starts lasts (p .cursor .i) (p .cursor .q) (ended .next .c) (ended .next .i) (ended .next .q) (plannable (ask .going)) (ask .going .taken .few) block-is events (ended .alone) sized (ends .said)
 
     module _ {metal : Bool} {words′ events : List ℕ} {m : ℕ} (made : EventsMade stretches links arranged names rows ls ps ss cols starts lasts (p .cursor .i) (ended .next .c) (p .onward) metal words words′ events m) where
-      pub block-made : {onward : Bool} → onward ≡ not (cell lasts (columns - 1))
+      pub block-made : {onward : Bool} → onward ≡ (eqb (ended .next .c) columns && not (cell lasts (columns - 1)))
           → BlockMade stretches links arranged names (lineLists rows ls ps ss) words p metal words′ cols starts lasts events (record { next = record { cursor = ended .next; onward = onward }; events = m })
       block-made {onward} is =
           let g = ask .going in

@@ -94,10 +94,10 @@ module _ {codes : List ℕ} {n names : ℕ} {air : Bool} {c : LineLists} {stretc
         said = good .said;
       }
 
-  pub few-rows : arranged .rows ≤ 16 → length words ≡ 2176 → CanPass stretches links arranged names air c words
+  pub few-rows : arranged .rows ≤ 16 → length words ≡ 272 * wide + 1 → CanPass stretches links arranged names air c words
   few-rows few long = can-pass (omega (arith, few, long))
 
-  pub all-rows : length words ≡ 7504 → CanPass stretches links arranged names air c words
+  pub all-rows : length words ≡ 938 * wide + 1 → CanPass stretches links arranged names air c words
   all-rows long = can-pass (omega (arith, w .enough, long))
 
 -- ---- the judgement

@@ -21,8 +21,9 @@ use Rattle.line_words.specs.declared.Arranged.{Arranged}
 use Rattle.line_columns.specs.Planned.{leftAt, PlanSized}
 use Rattle.line_columns.specs.Steps.{AtCursor, NextInside, PlanMade}
 use Rattle.line_columns.specs.declared.Ended.{Ended}
-use Rattle.line_sweeping.specs.Events.{endsIn}
-use Rattle.line_sweeping.specs.Steps.{ColumnThere, Listed}
+use Rattle.line_events.specs.Events.{endsIn}
+use Rattle.line_events.specs.Steps.{Listed}
+use Rattle.line_sweeping.specs.Steps.{ColumnThere}
 use Rattle.line_turns.specs.Turns.{Held, held, eventEdge, eventLine, wallsBy, openBy, isOpen}
 use Rattle.line_turns.specs.Steps.{EventHeld}
 use Rattle.line_blocks.specs.declared.Pass.{Pass}

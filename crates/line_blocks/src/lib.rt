@@ -1,19 +1,23 @@
 // The pass over a call's columns, block by block: a block's columns, its row of metal, and its events. What is done with the walls is the caller's.
 ghost use mathlib.Core.Path.{_≡_};
-ghost use mathlib.Core.Bool.{not, _||_};
-ghost use lib.Dec.{ltb};
+ghost use mathlib.Core.Bool.{not, _&&_, _||_};
+ghost use lib.Dec.{eqb, ltb};
 ghost use Prim.Native.Nat.{_-_, _*_};
 ghost use lib.ListN.{length};
 ghost use Rattle.lines.specs.Lines.{lineLists, rowCount};
-ghost use Rattle.line_strips.specs.Strips.{columns, cell};
+ghost use Rattle.line_strips.specs.Strips.{wide, columns, cell};
 ghost use Rattle.line_strips.specs.Steps.{Fillable};
 ghost use Rattle.line_words.specs.Steps.{Evaluable};
 ghost use Rattle.line_columns.specs.Steps.{WholeRows, NextInside};
 ghost use Rattle.line_blocks.specs.Blocks.{RowMade, CanSweep, EventsMade, Sized, BlockAsk, BlockEnds, BlockMade, SaidOf, Begun};
 
+const W: usize = line_strips::W;
+
+const LAST: usize = W - 1;
+
 const COLUMNS: usize = line_strips::COLUMNS;
 
-const EVENTS: usize = line_sweeping::EVENTS;
+const EVENTS: usize = line_events::EVENTS;
 
 // How far the pass has come: the cursor of the next block, and whether its first column is on the line of the last one before it.
 pub struct Pass {
@@ -38,12 +42,12 @@ fn block_row(
     shape: &[u16],
     cols: &[u16; COLUMNS],
     starts: &[u32; COLUMNS],
-    lasts: &[u64; 8],
+    lasts: &[u64; W],
     a: usize,
     n: usize,
     alone: bool,
     goes_on: bool,
-) -> [u64; 8]
+) -> [u64; W]
     requires { ⌜ Evaluable (now stretches) (now links) (now words) arranged × Fillable names (now rows) (now shape) (now cols) (now starts) (now lasts) a n alone (now words) ⌝ }
     ensures { λ r. ⌜ RowMade (now (stretches .entry)) (now (links .entry)) arranged names (now (rows .entry)) (now (shape .entry)) (now (cols .entry)) (now (starts .entry)) (now (lasts .entry)) a n «goes_on» (now (words .entry)) (now (words .exit)) r ⌝ }
 {
@@ -76,7 +80,7 @@ fn block_events(
     shape: &[u16],
     cols: &[u16; COLUMNS],
     starts: &[u32; COLUMNS],
-    lasts: &[u64; 8],
+    lasts: &[u64; W],
     a: usize,
     n: usize,
     alone: bool,
@@ -106,12 +110,15 @@ fn block_events(
     line_sweeping::sweep(&row, lasts, line, at, a, cols, n, alone, metal, events)
 }
 
-// The line of a full block's last column goes on.
-fn goes_past(lasts: &[u64; 8]) -> bool
-    requires { ⌜ length (now lasts) ≡ 8 ⌝ }
-    ensures { λ r. ⌜ r ≡ not (cell (now (lasts .entry)) (columns - 1)) ⌝ }
+// The line of the last of n columns goes on: only where the block is full.
+fn goes_past(lasts: &[u64; W], n: usize) -> bool
+    requires { ⌜ length (now lasts) ≡ wide ⌝ }
+    ensures { λ r. ⌜ r ≡ (eqb n columns && not (cell (now (lasts .entry)) (columns - 1))) ⌝ }
 {
-    if (lasts[7] >> 63) % 2 == 1 {
+    if n != COLUMNS {
+        return false;
+    }
+    if (lasts[LAST] >> 63) % 2 == 1 {
         return false;
     }
     true
@@ -130,7 +137,7 @@ fn planned_block(
     shape: &[u16],
     cols: &[u16; COLUMNS],
     starts: &[u32; COLUMNS],
-    lasts: &[u64; 8],
+    lasts: &[u64; W],
     events: &mut [u16; EVENTS],
     p: Pass,
     ended: line_columns::Ended,
@@ -161,7 +168,7 @@ fn planned_block(
         metal,
         events,
     );
-    let onward = goes_past(lasts);
+    let onward = goes_past(lasts, next.c);
     Block {
         next: Pass {
             cursor: next,
@@ -185,7 +192,7 @@ pub fn next_block(
     shape: &[u16],
     cols: &mut [u16; COLUMNS],
     starts: &mut [u32; COLUMNS],
-    lasts: &mut [u64; 8],
+    lasts: &mut [u64; W],
     events: &mut [u16; EVENTS],
     p: Pass,
     metal: bool,

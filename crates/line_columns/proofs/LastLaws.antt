@@ -10,7 +10,7 @@ use lib.Dec.{eqb, ltb}
 use lib.ListN.{getD, length, set}
 use lib.Seq.{getD-set-same, getD-set-other}
 use Rattle.line_strips.specs.Words.{digit, bit}
-use Rattle.line_strips.specs.Strips.{columns, cell}
+use Rattle.line_strips.specs.Strips.{wide, columns, cell}
 use Rattle.line_strips.proofs.Digits.{bit-or, bit-none, bit-below, bit-above}
 use Rattle.line_columns.specs.Steps.{overAt, turnsAway, LastPut}
 
@@ -28,7 +28,7 @@ turned-away ls i h = over-on ls (getD ls i 0) (i + 1) (getD ls (i + 1) 0) (λ e.
 
 -- ---- one bit put in
 
-one-bit : (b d : ℕ) → d < 64 → bit (1 * 2 ^ b % 2 ^ 64) d ≡ eqb d b
+pub one-bit : (b d : ℕ) → d < 64 → bit (1 * 2 ^ b % 2 ^ 64) d ≡ eqb d b
 unfolding digit
 one-bit b d h = by (ltb d b) refl (eqb d b) refl
   where
@@ -87,7 +87,7 @@ module _ (lasts : List ℕ) (k w j : ℕ) where
   cell-without ne = rw (getD-set-other lasts k (j / 64) w 0 ne)
 
 -- the same list, with the word as it was and as it is
-module _ (lasts : List ℕ) (w w′ c : ℕ) (last : Bool) (long : length lasts ≡ 8) (h : c < columns) (put : LastPut w w′ c last) where
+module _ (lasts : List ℕ) (w w′ c : ℕ) (last : Bool) (long : length lasts ≡ wide) (h : c < columns) (put : LastPut w w′ c last) where
   pub cell-same : (j : ℕ) → (j ≡ c → ⊥) → cell (set lasts (c / 64) w′) j ≡ cell (set lasts (c / 64) w) j
   cell-same j ne = by (eqb (j / 64) (c / 64)) refl
     where

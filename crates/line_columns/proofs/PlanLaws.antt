@@ -13,7 +13,7 @@ use Rattle.lines.specs.Lines.{LineLists, lineLists, entries, rowCount, startSta
 use Rattle.lines.specs.Columns.{Column, startColumn, crossingColumn}
 use Rattle.lines.specs.Marked.{mark, markAt}
 use Rattle.lines.specs.Steps.{item, groupEndsAt}
-use Rattle.line_strips.specs.Strips.{Plan, columns, cell}
+use Rattle.line_strips.specs.Strips.{Plan, lastAt, columns, cell}
 use Rattle.line_columns.specs.Planned.{leftAt, startHeld, crossingHeld, heldAt, HeldWithin, PlanSized, BlockPlanned}
 use Rattle.line_columns.specs.Steps.{Plannable, AtCursor, NextInside, WholeRows, StartsNext, overAt, Planning, PlanningOf, CanPlan, WordNext, WordPlanned, PlanMade}
 use Rattle.line_columns.proofs.Lefts.{crossing-first, crossing-last, crossing-ends, start-first, start-last, start-ends, none-left}
@@ -162,14 +162,14 @@ module _ (names : ℕ) (c : LineLists) (ok : Plannable names c) (i q : ℕ) wher
         at = record { crossing = omega arith; row = t .cursor .row; inside = t .cursor .inside }
 
   module _ (p : Plan) (n i′ q′ : ℕ) (t : Planning names c i q p n i′ q′) where
-    block : (n < columns → leftAt names c i′ q′ ≡ []) → BlockPlanned names c i q p n i′ q′
+    block : (n < columns → 0 < length (leftAt names c i′ q′) → (1 ≤ n) × (lastAt p (n - 1) ≡ true)) → BlockPlanned names c i q p n i′ q′
     block full = record { sized = t .sized; narrow = t .narrow; enough = t .enough; are = t .are; within = t .within; left = t .left; full = full }
 
     planned-full : columns ≤ n → BlockPlanned names c i q p n i′ q′
-    planned-full h = block (λ k. absurd (omega arith))
+    planned-full h = block (λ k z. absurd (omega arith))
 
     planned-over : length (c .lines) ≤ i′ → rowCount names (c .rows) ≤ q′ → BlockPlanned names c i q p n i′ q′
-    planned-over h k = block (λ z. none-left names c ok i′ q′ h k)
+    planned-over h k = block (λ z some. absurd (omega (arith, ap length (none-left names c ok i′ q′ h k))))
 
 -- ---- the same whatever the positions and the shapes are
 

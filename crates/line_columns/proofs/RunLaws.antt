@@ -1,6 +1,7 @@
--- A block of crossings alone: its marks, and that it is the block that is planned.
+-- Crossings alone: their marks, and that they are the block that is planned.
 use Prim.Native.Nat.{ℕ, zero, suc, _+_, _-_, _*_, _/_, _%_, _^_, _<_, _≤_}
 use native.Mathlib.Omega.{arith}
+use native.Mathlib.Decide.{decLt}
 use mathlib.Core.Path.{_≡_, refl, sym, ap, _∙_}
 use mathlib.Core.Bool.{Bool, true, false, _&&_, _||_, false≢true}
 use mathlib.Core.List.{List, _∷_}
@@ -16,12 +17,13 @@ use Rattle.lines.specs.Columns.{crossingColumn}
 use Rattle.lines.specs.Marked.{mark, markAt}
 use Rattle.lines.specs.Steps.{item}
 use Rattle.line_strips.specs.Words.{digit, bit}
-use Rattle.line_strips.specs.Strips.{Plan, planned, columns, cell, Alone, SaidAlone}
+use Rattle.line_strips.specs.Strips.{Plan, planned, wide, columns, cell, lastAt, Alone, SaidAlone}
+use Rattle.line_strips.specs.Steps.{Since}
 use Rattle.line_strips.proofs.Digits.{bit-or, bit-none, bit-below, bit-above}
 use Rattle.line_columns.specs.Planned.{leftAt, heldAt, PlanSized, BlockPlanned}
-use Rattle.line_columns.specs.Steps.{Plannable, AtCursor, overAt, CanPlan, PlanMade, turnsAway, Ends, RunMarked, Numbered, RunsOn}
+use Rattle.line_columns.specs.Steps.{Plannable, AtCursor, overAt, CanPlan, PlanMade, turnsAway, endsLine, Ends, LineEnds, RunMarked, Numbered, RunsOn, CutTo}
 use Rattle.line_columns.proofs.Lefts.{crossing-first, crossing-last, crossing-ends}
-use Rattle.line_columns.proofs.LastLaws.{turned-away}
+use Rattle.line_columns.proofs.LastLaws.{over-end, turned-away, one-bit}
 use Rattle.line_columns.proofs.PlanLaws.{held-crossing, rest-of, one-more}
 
 -- t of 64, eights
@@ -29,6 +31,21 @@ pub record FlagsTo (ls : List ℕ) (i t w : ℕ) : Type 0 where
   pub eights : t % 8 ≡ 0
   pub within : t ≤ 64
   pub are : Ends ls i t w
+
+-- the first k words of a run are marked
+pub record MarkedTo (ls : List ℕ) (i n : ℕ) (lasts : List ℕ) (k : ℕ) : Type 0 where
+  pub few : k ≤ wide
+  pub run : RunMarked ls i n lasts (64 * k)
+
+-- the first t of those that are left, none of which is the list's last
+pub record RestTo (ls : List ℕ) (i t w : ℕ) : Type 0 where
+  pub within : i + t < length ls
+  pub near : length ls ≤ i + 64
+  pub are : Ends ls i t w
+
+or-none : (t : Bool) → (t || false) ≡ t
+or-none true = refl
+or-none false = refl
 
 module _ (ls : List ℕ) where
   pub ends-one : (i : ℕ) → (getD ls (i + 1) 0 ≡ getD ls i 0 → ⊥) → Ends ls i 1 1
@@ -52,10 +69,6 @@ module _ (ls : List ℕ) where
   ends-join : (i k m a b : ℕ) → k + m ≤ 64 → Ends ls i k a → Ends ls (i + k) m b → Ends ls i (k + m) (bitOr a (b * 2 ^ k % 18446744073709551616))
   ends-join i k m a b few x y = record { on = on; off = off }
     where
-      or-none : (t : Bool) → (t || false) ≡ t
-      or-none true = refl
-      or-none false = refl
-
       both : (t : ℕ) → bit (bitOr a (b * 2 ^ k % 2 ^ 64)) t ≡ (bit a t || bit (b * 2 ^ k % 2 ^ 64) t)
       both t = bit-or a (b * 2 ^ k % 2 ^ 64) t
 
@@ -93,39 +106,99 @@ module _ (ls : List ℕ) where
   pub flags-ready : (i t w : ℕ) → FlagsTo ls i t w → t < 64 → i + 64 < length ls → i + t + 8 < length ls
   flags-ready i t w f h k = omega (arith, f .eights)
 
+  -- ---- the lines' ends among 64 crossings
+
+  pub flags-ends : (i w : ℕ) → Ends ls i 64 w → 64 < length ls - i → LineEnds ls i w
+  flags-ends i w e h = record { on = λ t k l. e .on t k ∙ turned-away ls (i + t) (omega arith) }
+
+  pub rest-none : (i : ℕ) → i < length ls → length ls ≤ i + 64 → RestTo ls i 0 0
+  rest-none i h k = record { within = omega arith; near = k; are = ends-none i }
+
+  pub rest-shift : (i t w : ℕ) → RestTo ls i t w → t < 64
+  rest-shift i t w r = omega (arith, r .within, r .near)
+
+  pub rest-more : (i t w b : ℕ) → RestTo ls i t w → t + 1 < length ls - i → Ends ls (i + t) 1 b → RestTo ls i (t + 1) (bitOr w (b * 2 ^ t % 18446744073709551616))
+  rest-more i t w b r h e = record { within = omega arith; near = r .near; are = ends-join i t 1 w b (omega (arith, r .near)) (r .are) e }
+
+  pub rest-all : (i t w : ℕ) → RestTo ls i t w → length ls - i ≤ t + 1 → LineEnds ls i (bitOr w (1 * 2 ^ t % 18446744073709551616))
+  rest-all i t w r h = record { on = on }
+    where
+      or-yes : (b : Bool) → (b || true) ≡ true
+      or-yes true = refl
+      or-yes false = refl
+
+      on : (u : ℕ) → u < 64 → i + u < length ls → bit (bitOr w (1 * 2 ^ t % 2 ^ 64)) u ≡ endsLine ls (i + u)
+      on u k l = by (eqb u t) refl
+        where
+          by : (b : Bool) → eqb u t ≡ b → bit (bitOr w (1 * 2 ^ t % 2 ^ 64)) u ≡ endsLine ls (i + u)
+          by true e = bit-or w (1 * 2 ^ t % 2 ^ 64) u ∙ rw (one-bit t u k, e) (or-yes (bit w u)) ∙ over-end ls (getD ls (i + u) 0) (i + u + 1) (omega (arith, eqb-true u t e, r .within))
+          by false e =
+              bit-or w (1 * 2 ^ t % 2 ^ 64) u
+              ∙ rw (one-bit t u k, e) (or-none (bit w u))
+              ∙ r .are .on u (omega (arith, eqb-false u t e, r .within))
+              ∙ turned-away ls (i + u) (omega (arith, eqb-false u t e, r .within))
+
   -- ---- the words of a block
 
-  pub run-none : (lasts : List ℕ) (i : ℕ) → length lasts ≡ 8 → RunMarked ls i lasts 0
-  run-none lasts i e = record { long = e; are = λ j h. absurd (omega arith) }
+  pub run-none : (lasts : List ℕ) (i n : ℕ) → length lasts ≡ wide → MarkedTo ls i n lasts 0
+  run-none lasts i n e = record { few = omega arith; run = record { long = e; are = λ j h. absurd (omega arith) } }
 
-  pub run-more : (lasts : List ℕ) (i k w : ℕ) → RunMarked ls i lasts k → k < 8 → Ends ls (i + 64 * k) 64 w → RunMarked ls i (set lasts k w) (k + 1)
+  pub run-more : (lasts : List ℕ) (i n k w : ℕ) → MarkedTo ls i n lasts k → n ≤ columns → i + n ≤ length ls → 64 * k < n → LineEnds ls (i + 64 * k) w → MarkedTo ls i n (set lasts k w) (k + 1)
   unfolding cell
-  run-more lasts i k w r h e = record { long = length-set lasts k w ∙ r .long; are = are }
+  run-more lasts i n k w r most there h e = record { few = omega arith; run = record { long = length-set lasts k w ∙ r .run .long; are = are } }
     where
-      are : (j : ℕ) → j < 64 * (k + 1) → bit (getD (set lasts k w) (j / 64) 0) (j % 64) ≡ turnsAway ls (i + j)
-      are j l = by (eqb (j / 64) k) refl
+      are : (j : ℕ) → j < 64 * (k + 1) → j < n → bit (getD (set lasts k w) (j / 64) 0) (j % 64) ≡ endsLine ls (i + j)
+      are j l m = by (eqb (j / 64) k) refl
         where
-          by : (t : Bool) → eqb (j / 64) k ≡ t → bit (getD (set lasts k w) (j / 64) 0) (j % 64) ≡ turnsAway ls (i + j)
+          by : (t : Bool) → eqb (j / 64) k ≡ t → bit (getD (set lasts k w) (j / 64) 0) (j % 64) ≡ endsLine ls (i + j)
           by true f =
               let word : j / 64 ≡ k = eqb-true (j / 64) k f in
               let back : i + 64 * k + j % 64 ≡ i + j = omega (arith, word) in
-              rw (word, getD-set-same lasts k w 0 (omega (arith, r .long))) (e .on (j % 64) (omega arith) ∙ rw back)
-          by false f = rw (getD-set-other lasts k (j / 64) w 0 (eqb-false (j / 64) k f)) (r .are j (omega (arith, eqb-false (j / 64) k f)))
+              rw (word, getD-set-same lasts k w 0 (omega (arith, r .run .long))) (e .on (j % 64) (omega arith) (omega (arith, word)) ∙ rw back)
+          by false f = rw (getD-set-other lasts k (j / 64) w 0 (eqb-false (j / 64) k f)) (r .run .are j (omega (arith, eqb-false (j / 64) k f)) m)
 
-  pub run-all : (lasts : List ℕ) (i k : ℕ) → RunMarked ls i lasts k → 8 ≤ k → RunMarked ls i lasts 8
-  run-all lasts i k r h = record { long = r .long; are = λ j l. r .are j (omega arith) }
+  pub run-word : (lasts : List ℕ) (i n k : ℕ) → MarkedTo ls i n lasts k → n ≤ columns → 64 * k < n → k < length lasts
+  run-word lasts i n k r most h = omega (arith, r .run .long)
 
-  pub runs-not : (count i q : ℕ) → RunsOn ls count i q false
-  runs-not count i q = record { more = λ e. absurd (false≢true e); before = λ e. absurd (false≢true e) }
+  pub run-all : (lasts : List ℕ) (i n k : ℕ) → MarkedTo ls i n lasts k → n ≤ 64 * k → RunMarked ls i n lasts n
+  run-all lasts i n k r h = record { long = r .run .long; are = λ j l m. r .run .are j (omega arith) m }
 
-  pub runs-free : (count i q : ℕ) → i ≤ length ls → 512 < length ls - i → count ≤ q → RunsOn ls count i q true
-  runs-free count i q l h k = record { more = λ e. omega arith; before = λ e m. absurd (omega arith) }
+  -- ---- how many
 
-  pub runs-line : (count i q w : ℕ) → i ≤ length ls → 512 < length ls - i → w ≡ getD ls (i + 511) 0 → RunsOn ls count i q (ltb w q)
-  runs-line count i q w l h e = record { more = λ t. omega arith; before = λ t m. omega (arith, ltb-true w q t) }
+  pub runs-none : (count i q : ℕ) → i ≤ length ls → RunsOn ls count i q 0
+  runs-none count i q h = record { most = omega arith; there = omega arith; whole = λ s. absurd (omega arith); before = λ s. absurd (omega arith) }
 
-pub run-there : (ls : List ℕ) (count i q : ℕ) (r : Bool) → RunsOn ls count i q r → r ≡ true → i + 512 < length ls
-run-there ls count i q r runs is = runs .more is
+  module _ (count i q e : ℕ) (some : i < e) (there : e ≤ length ls) (most : e - i ≤ columns) (whole : e < length ls → e - i ≡ columns) where
+    ends : e - i < columns → i + (e - i) ≡ length ls
+    ends k = by (decLt e (length ls))
+      where
+        by : Dec (e < length ls) → i + (e - i) ≡ length ls
+        by (yes l) = absurd (omega (arith, whole l))
+        by (no l) = omega arith
+
+    pub runs-free : count ≤ q → RunsOn ls count i q (e - i)
+    runs-free h = record { most = most; there = omega arith; whole = λ s. ends; before = λ s k. absurd (omega arith) }
+
+    pub runs-line : (w : ℕ) → w ≡ getD ls (e - 1) 0 → w < q → RunsOn ls count i q (e - i)
+    runs-line w is h = let back : i + (e - i) - 1 ≡ e - 1 = omega arith in record { most = most; there = omega arith; whole = λ s. ends; before = λ s k. rw back (omega (arith, is)) }
+
+-- ---- up to a line's end
+
+pub cut-none : (lasts : List ℕ) (n : ℕ) → CutTo lasts n n
+cut-none lasts n = record { fewer = omega arith; some = λ h. h; ends = λ h. absurd (omega arith) }
+
+pub cut-last : (lasts : List ℕ) (n j : ℕ) → columns ≤ n → Since (getD lasts (wide - 1) 0) j → (j ≡ 0 → ⊥) → CutTo lasts n (64 * (wide - 1) + j)
+unfolding cell
+cut-last lasts n j h s some = record {
+  fewer = omega (arith, s .most);
+  some = λ k. omega arith;
+  ends = λ k.
+      let word : (64 * (wide - 1) + j - 1) / 64 ≡ wide - 1 = omega (arith, s .most) in
+      let place : (64 * (wide - 1) + j - 1) % 64 ≡ j - 1 = omega (arith, s .most) in
+      rw (word, place) (s .last (omega arith));
+}
+
+-- ---- numbers
 
 pub numbered-none : (cols : List ℕ) → length cols ≡ columns → Numbered cols 0
 numbered-none cols e = record { long = e; alone = record { are = λ j h. absurd (omega arith) } }
@@ -145,81 +218,94 @@ numbered-all cols n r h = record { long = r .long; alone = record { are = λ j l
 
 -- ---- the block
 
-module _ (names : ℕ) (c : LineLists) (ok : Plannable names c) (i q : ℕ) (at : AtCursor names c i q) (p : Plan) (sized : PlanSized p) (cols : Alone (p .cols) columns) (marks : RunMarked (c .lines) i (p .lasts) 8)
-    (there : i + 512 < length (c .lines)) (before : q < rowCount names (c .rows) → getD (c .lines) (i + 511) 0 < q) where
+module _ (names : ℕ) (c : LineLists) (ok : Plannable names c) (i q n m : ℕ) (at : AtCursor names c i q) (p : Plan) (sized : PlanSized p) (cols : Alone (p .cols) columns) (marks : RunMarked (c .lines) i n (p .lasts) n)
+    (runs : RunsOn (c .lines) (rowCount names (c .rows)) i q n) (some : 0 < n) (cut : CutTo (p .lasts) n m) where
   -- lines never fall, so each is before the next start
-  short : (j : ℕ) → j < 512 → q < rowCount names (c .rows) → getD (c .lines) (i + j) 0 < q
-  short j h k = by (ltb (getD (c .lines) (i + j) 0) (getD (c .lines) (i + 511) 0)) refl (ok .ascending .rises (i + j) (i + 511) (omega arith) (omega arith))
+  short : (j : ℕ) → j < n → q < rowCount names (c .rows) → getD (c .lines) (i + j) 0 < q
+  short j h k = by (ltb (getD (c .lines) (i + j) 0) (getD (c .lines) (i + n - 1) 0)) refl (ok .ascending .rises (i + j) (i + n - 1) (omega arith) (omega (arith, runs .there)))
     where
-      by : (t : Bool) → ltb (getD (c .lines) (i + j) 0) (getD (c .lines) (i + 511) 0) ≡ t
-          → (t || (eqb (getD (c .lines) (i + j) 0) (getD (c .lines) (i + 511) 0) && leZ (getD (c .positions) (i + j) (pos 0)) (getD (c .positions) (i + 511) (pos 0)))) ≡ true → getD (c .lines) (i + j) 0 < q
-      by true e r = omega (arith, ltb-true (getD (c .lines) (i + j) 0) (getD (c .lines) (i + 511) 0) e, before k)
-      by false e r = omega (arith, eqb-true (getD (c .lines) (i + j) 0) (getD (c .lines) (i + 511) 0) (first (eqb (getD (c .lines) (i + j) 0) (getD (c .lines) (i + 511) 0)) (leZ (getD (c .positions) (i + j) (pos 0)) (getD (c .positions) (i + 511) (pos 0))) r), before k)
+      by : (t : Bool) → ltb (getD (c .lines) (i + j) 0) (getD (c .lines) (i + n - 1) 0) ≡ t
+          → (t || (eqb (getD (c .lines) (i + j) 0) (getD (c .lines) (i + n - 1) 0) && leZ (getD (c .positions) (i + j) (pos 0)) (getD (c .positions) (i + n - 1) (pos 0)))) ≡ true → getD (c .lines) (i + j) 0 < q
+      by true e r = omega (arith, ltb-true (getD (c .lines) (i + j) 0) (getD (c .lines) (i + n - 1) 0) e, runs .before some k)
+      by false e r = omega (arith, eqb-true (getD (c .lines) (i + j) 0) (getD (c .lines) (i + n - 1) 0) (first (eqb (getD (c .lines) (i + j) 0) (getD (c .lines) (i + n - 1) 0)) (leZ (getD (c .positions) (i + j) (pos 0)) (getD (c .positions) (i + n - 1) (pos 0))) r), runs .before some k)
         where
           first : (a b : Bool) → (a && b) ≡ true → a ≡ true
           first true b z = refl
           first false b z = z
 
-  next : (j : ℕ) → j < 512 → leftAt names c (i + j) q ≡ crossingColumn (shapeAt (startState names (c .rows)) (entries c)) (item (c .lines) (c .positions) (c .shapes) (i + j)) ∷ leftAt names c (i + j + 1) q
-  next j h = crossing-first names c ok (i + j) q (omega arith) (short j h)
+  next : (j : ℕ) → j < n → leftAt names c (i + j) q ≡ crossingColumn (shapeAt (startState names (c .rows)) (entries c)) (item (c .lines) (c .positions) (c .shapes) (i + j)) ∷ leftAt names c (i + j + 1) q
+  next j h = crossing-first names c ok (i + j) q (omega (arith, runs .there)) (short j h)
 
-  left : (n : ℕ) → n ≤ 512 → (leftAt names c (i + n) q ≡ drop n (leftAt names c i q)) × (n ≤ length (leftAt names c i q))
+  left : (k : ℕ) → k ≤ n → (leftAt names c (i + k) q ≡ drop k (leftAt names c i q)) × (k ≤ length (leftAt names c i q))
   left zero h = (let z : i + 0 ≡ i = omega arith in rw z, omega arith)
-  left (suc n) h =
-      let ih = left n (omega arith) in
-      let step : i + n + 1 ≡ i + suc n = omega arith in
-      let fit : n + 1 ≡ suc n = omega arith in
-      let here = sym (ih .0) ∙ next n (omega arith) in
-      (rw (← step, ← fit) (rest-of n (leftAt names c i q) _ (leftAt names c (i + n + 1) q) here), omega (arith, one-more n (leftAt names c i q) _ (leftAt names c (i + n + 1) q) here (ih .1)))
+  left (suc k) h =
+      let ih = left k (omega arith) in
+      let step : i + k + 1 ≡ i + suc k = omega arith in
+      let fit : k + 1 ≡ suc k = omega arith in
+      let here = sym (ih .0) ∙ next k (omega arith) in
+      (rw (← step, ← fit) (rest-of k (leftAt names c i q) _ (leftAt names c (i + k + 1) q) here), omega (arith, one-more k (leftAt names c i q) _ (leftAt names c (i + k + 1) q) here (ih .1)))
 
-  few : (j : ℕ) → j < 512 → (getD (p .cols) j 0 ≡ 65535 → ⊥)
-  few j h e = absurd (omega (arith, cols .are j h))
+  number : (j : ℕ) → j < n → getD (p .cols) j 0 ≡ j
+  number j h = cols .are j (omega (arith, runs .most))
 
-  ahead : (j : ℕ) → j < 512 → overAt (c .lines) (getD (c .lines) (i + j) 0) (i + j + 1) ≡ turnsAway (c .lines) (i + j)
-  ahead j h = sym (turned-away (c .lines) (i + j) (omega arith))
+  few : (j : ℕ) → j < n → (getD (p .cols) j 0 ≡ 65535 → ⊥)
+  few j h e = absurd (omega (arith, number j h, runs .most))
 
-  are : (j : ℕ) → j < 512 → heldAt names c i p j ≡ markAt (leftAt names c i q) j
+  are : (j : ℕ) → j < n → heldAt names c i p j ≡ markAt (leftAt names c i q) j
   are j h =
       held-crossing names c i p j (few j h)
-      ∙ rw (cols .are j h, marks .are j (omega arith))
-      (sym (ap mark (sym (left j (omega arith) .0) ∙ next j h) ∙ rw (crossing-ends names c ok (i + j) q (omega arith) (short j h), crossing-last names c ok (i + j) q (omega arith) (short j h), ahead j h)))
+      ∙ rw (number j h, marks .are j h h)
+      (sym (ap mark (sym (left j (omega arith) .0) ∙ next j h) ∙ rw (crossing-ends names c ok (i + j) q (omega (arith, runs .there)) (short j h), crossing-last names c ok (i + j) q (omega (arith, runs .there)) (short j h))))
 
-  run-block : BlockPlanned names c i q p 512 (i + 512) q
+  -- the last of them is its line's last, if there are fewer than a block has
+  ended : m < columns → lastAt p (m - 1) ≡ true
+  ended h = by (decLt m n)
+    where
+      by : Dec (m < n) → lastAt p (m - 1) ≡ true
+      by (yes k) = cut .ends k
+      by (no k) =
+          let all : m ≡ n = omega (arith, cut .fewer) in
+          let end : i + (m - 1) + 1 ≡ length (c .lines) = omega (arith, runs .whole some (omega arith)) in
+          marks .are (m - 1) (omega arith) (omega arith) ∙ sym (over-end (c .lines) (getD (c .lines) (i + (m - 1)) 0) (i + (m - 1) + 1) end)
+
+  run-block : BlockPlanned names c i q p m (i + m) q
   run-block = record {
     sized = sized;
-    narrow = omega arith;
-    enough = left 512 (omega arith) .1;
-    are = are;
-    within = λ j h. record { row = λ e. absurd (few j h e); crossing = λ e. rw (cols .are j h) (omega arith) };
-    left = left 512 (omega arith) .0;
-    full = λ h. absurd (omega arith);
+    narrow = omega (arith, cut .fewer, runs .most);
+    enough = left m (cut .fewer) .1;
+    are = λ j h. are j (omega (arith, cut .fewer));
+    within = λ j h.
+        let near : j < n = omega (arith, cut .fewer) in
+        record { row = λ e. absurd (few j near e); crossing = λ e. rw (number j near) (omega (arith, runs .there)) };
+    left = left m (cut .fewer) .0;
+    full = λ h z. (omega (arith, cut .some some), ended h);
   }
 
-  run-next : AtCursor names c (i + 512) q
-  run-next = record { crossing = omega arith; row = at .row; inside = at .inside }
+  run-next : AtCursor names c (i + m) q
+  run-next = record { crossing = omega (arith, cut .fewer, runs .there); row = at .row; inside = at .inside }
 
-pub run-made : (names : ℕ) (rows ls : List ℕ) (count : ℕ) (cols cols′ starts lasts lasts′ : List ℕ) (i q : ℕ) (r : Bool)
-    → CanPlan names rows ls count (planned cols starts lasts) i q → RunsOn ls count i q r → r ≡ true → Numbered cols′ columns → RunMarked ls i lasts′ 8
-    → PlanMade names rows ls (planned cols′ starts lasts′) i q 512 (i + 512) q
-run-made names rows ls count cols cols′ starts lasts lasts′ i q r can runs is numbered marks = record {
-  sized = sized;
-  narrow = omega arith;
-  crossing = omega (arith, runs .more is);
-  row = omega (arith, can .row, can .whole .are);
-  block = λ ps ss ok at. run-block names (lineLists rows ls ps ss) ok i q at (planned cols′ starts lasts′) sized (numbered .alone) marks (runs .more is) before;
-  next = λ ps ss ok at. run-next names (lineLists rows ls ps ss) ok i q at (planned cols′ starts lasts′) sized (numbered .alone) marks (runs .more is) before;
-}
-  where
-    sized : PlanSized (planned cols′ starts lasts′)
-    sized = record { cols = numbered .long; starts = can .sized .starts; lasts = marks .long }
+module _ (names : ℕ) (rows ls : List ℕ) (count : ℕ) (cols cols′ starts lasts lasts′ : List ℕ) (i q n m : ℕ) (can : CanPlan names rows ls count (planned cols starts lasts) i q) (runs : RunsOn ls count i q n)
+    (some : n ≡ 0 → ⊥) (numbered : Numbered cols′ columns) (marks : RunMarked ls i n lasts′ n) (cut : CutTo lasts′ n m) where
+  run-sized : PlanSized (planned cols′ starts lasts′)
+  run-sized = record { cols = numbered .long; starts = can .sized .starts; lasts = marks .long }
 
-    before : q < rowCount names rows → getD ls (i + 511) 0 < q
-    before h = runs .before is (omega (arith, can .whole .are))
+  told : RunsOn ls (rowCount names rows) i q n
+  told = rw (← can .whole .are) runs
+
+  pub run-made : PlanMade names rows ls (planned cols′ starts lasts′) i q m (i + m) q
+  run-made = record {
+    sized = run-sized;
+    narrow = omega (arith, cut .fewer, runs .most);
+    crossing = omega (arith, cut .fewer, runs .there);
+    row = omega (arith, can .row, can .whole .are);
+    block = λ ps ss ok at. run-block names (lineLists rows ls ps ss) ok i q n m at (planned cols′ starts lasts′) run-sized (numbered .alone) marks told (omega arith) cut;
+    next = λ ps ss ok at. run-next names (lineLists rows ls ps ss) ok i q n m at (planned cols′ starts lasts′) run-sized (numbered .alone) marks told (omega arith) cut;
+  }
 
 -- ---- what is said of it
 
-pub run-said : (ls : List ℕ) (count i q : ℕ) (r : Bool) (cols : List ℕ) → RunsOn ls count i q r → r ≡ true → Numbered cols columns → SaidAlone ls cols i 512 true
-run-said ls count i q r cols runs is numbered = record { are = λ e. numbered .alone; more = λ e. runs .more is }
+pub run-said : (ls : List ℕ) (count i q n m : ℕ) (cols lasts : List ℕ) → RunsOn ls count i q n → Numbered cols columns → CutTo lasts n m → SaidAlone ls cols i m true
+run-said ls count i q n m cols lasts runs numbered cut = record { are = λ e. record { are = λ j h. numbered .alone .are j (omega (arith, cut .fewer, runs .most)) }; there = λ e. omega (arith, cut .fewer, runs .there) }
 
 pub not-said : (ls cols : List ℕ) (a n : ℕ) → SaidAlone ls cols a n false
-not-said ls cols a n = record { are = λ e. absurd (false≢true e); more = λ e. absurd (false≢true e) }
+not-said ls cols a n = record { are = λ e. absurd (false≢true e); there = λ e. absurd (false≢true e) }

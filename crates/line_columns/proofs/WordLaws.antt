@@ -8,7 +8,7 @@ use borrow.Author.Tests.{ltb-true, ltb-false}
 use lib.Dec.{ltb}
 use lib.ListN.{getD, length, set, length-set}
 use Rattle.line_strips.specs.Words.{bit}
-use Rattle.line_strips.specs.Strips.{planned, columns}
+use Rattle.line_strips.specs.Strips.{planned, wide, columns}
 use Rattle.line_strips.proofs.Digits.{bit-none}
 use Rattle.line_columns.specs.Planned.{PlanSized}
 use Rattle.line_columns.specs.Steps.{StartsNext, overAt, turnsAway, ColumnPut, StartReady, StartPut, CrossingPut, UntilReady, UntilPut, CrossingsReady, CrossingsPut, WordNext, WordPlanning, WordPlanned}
@@ -55,17 +55,17 @@ module _ (names : ℕ) (rows ls : List ℕ) (count i q : ℕ) (lasts : List ℕ)
       put-in : length starts′ ≡ columns → ((j : ℕ) → (j ≡ n → ⊥) → getD starts′ j 0 ≡ getD starts j 0) → Put (planned cols starts (set lasts (c / 64) w)) (planned cols′ starts′ (set lasts (c / 64) w′)) n col last
       put-in long same = record {
         kept = record {
-          sized = record { cols = put .long; starts = long; lasts = length-set lasts (c / 64) w′ ∙ eight };
+          sized = record { cols = put .long; starts = long; lasts = length-set lasts (c / 64) w′ ∙ lasts-long };
           cols = λ j k. put .same j (λ e. omega arith);
           starts = λ j k. same j (λ e. omega arith);
-          lasts = λ j k. rw (← word h) (cell-same lasts w w′ n last eight (narrow h) (put .lasts) j (λ e. omega arith));
+          lasts = λ j k. rw (← word h) (cell-same lasts w w′ n last lasts-long (narrow h) (put .lasts) j (λ e. omega arith));
         };
         here = put .here;
-        flag = rw (← word h) (cell-here lasts w w′ n last eight (narrow h) (put .lasts) (t .off (n % 64) (omega (arith, t .words)) (omega arith)));
+        flag = rw (← word h) (cell-here lasts w w′ n last lasts-long (narrow h) (put .lasts) (t .off (n % 64) (omega (arith, t .words)) (omega arith)));
       }
         where
-          eight : length lasts ≡ 8
-          eight = sym (length-set lasts (c / 64) w) ∙ sized .lasts
+          lasts-long : length lasts ≡ wide
+          lasts-long = sym (length-set lasts (c / 64) w) ∙ sized .lasts
 
       off-after : (d : ℕ) → n + 1 ≤ c + d → d < 64 → bit w′ d ≡ false
       off-after d k l = put .lasts .same d l (λ e. omega (arith, t .words, t .from)) ∙ t .off d (omega arith) l

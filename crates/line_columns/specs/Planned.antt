@@ -9,7 +9,7 @@ use Rattle.lines.specs.Lines.{LineLists, entries, rowCount, startState, shapeAt
 use Rattle.lines.specs.Columns.{Column, startColumn, crossingColumn, startsFrom, columnsOf}
 use Rattle.lines.specs.Marked.{Marked, markAt}
 use Rattle.lines.specs.Steps.{item, groupEndsAt}
-use Rattle.line_strips.specs.Strips.{Plan, lastAt, columns}
+use Rattle.line_strips.specs.Strips.{Plan, lastAt, wide, columns}
 
 -- the columns left at a cursor: of the crossings from i on, and of the lines from q on with a shape inside at their start
 abbrev pub leftAt : ℕ → LineLists → ℕ → ℕ → List Column
@@ -35,9 +35,9 @@ pub record HeldWithin (names : ℕ) (c : LineLists) (a : ℕ) (p : Plan) (j : �
 pub record PlanSized (p : Plan) : Type 0 where
   pub cols : length (p .cols) ≡ columns
   pub starts : length (p .starts) ≡ columns
-  pub lasts : length (p .lasts) ≡ 8
+  pub lasts : length (p .lasts) ≡ wide
 
--- the n columns at cursor i, q, and what is left after them at cursor i′, q′; fewer than a block has only where nothing is left
+-- the n columns at cursor i, q, and what is left after them at cursor i′, q′; fewer than a block has only where nothing is left, or where a line ends
 pub record BlockPlanned (names : ℕ) (c : LineLists) (i q : ℕ) (p : Plan) (n i′ q′ : ℕ) : Type 0 where
   pub sized : PlanSized p
   pub narrow : n ≤ columns
@@ -45,4 +45,4 @@ pub record BlockPlanned (names : ℕ) (c : LineLists) (i q : ℕ) (p : Plan) (n 
   pub are : (j : ℕ) → j < n → heldAt names c i p j ≡ markAt (leftAt names c i q) j
   pub within : (j : ℕ) → j < n → HeldWithin names c i p j
   pub left : leftAt names c i′ q′ ≡ drop n (leftAt names c i q)
-  pub full : n < columns → leftAt names c i′ q′ ≡ []
+  pub full : n < columns → 0 < length (leftAt names c i′ q′) → (1 ≤ n) × (lastAt p (n - 1) ≡ true)

@@ -5,10 +5,14 @@ ghost use Prim.Native.Nat.{_+_, _<_, _≤_};
 ghost use lib.ListN.{length};
 ghost use Rattle.lines.specs.Lines.{startState};
 ghost use Rattle.lines.specs.Columns.{anyInside};
-ghost use Rattle.line_strips.specs.Strips.{columns, planned, SaidAlone};
-ghost use Rattle.line_columns.specs.Steps.{NextInside, WholeRows, RowThere, Occupied, StartsNext, overAt, turnsAway, LastPut, StartReady, StartPut, CrossingReady, CrossingPut, UntilReady, UntilPut, CrossingsReady, CrossingsPut, CanPlan, WordNext, WordPlanned, PlanMade, Ends, RunMarked, Numbered, RunsOn};
+ghost use Rattle.line_strips.specs.Strips.{wide, columns, planned, SaidAlone};
+ghost use Rattle.line_columns.specs.Steps.{NextInside, WholeRows, RowThere, Occupied, StartsNext, overAt, turnsAway, LastPut, StartReady, StartPut, CrossingReady, CrossingPut, UntilReady, UntilPut, CrossingsReady, CrossingsPut, CanPlan, WordNext, WordPlanned, PlanMade, Ends, LineEnds, RunMarked, Numbered, RunsOn, CutTo};
 
-const COLUMNS: usize = 512;
+const W: usize = line_strips::W;
+
+const LAST: usize = W - 1;
+
+const COLUMNS: usize = line_strips::COLUMNS;
 
 // A line's start among the columns.
 const START: u16 = 65535;
@@ -29,7 +33,7 @@ struct Word {
     lasts: u64,
 }
 
-// The cursor after a block, and whether its columns are crossings alone, with more to follow.
+// The cursor after a block, and whether its columns are crossings alone.
 pub struct Ended {
     pub next: Cursor,
     pub alone: bool,
@@ -229,7 +233,7 @@ fn crossings(
 fn plan_word(
     cols: &mut [u16; COLUMNS],
     starts: &mut [u32; COLUMNS],
-    lasts: &mut [u64; 8],
+    lasts: &mut [u64; W],
     rows: &[u8],
     names: usize,
     count: usize,
@@ -265,7 +269,7 @@ fn plan_word(
 fn plan_each(
     cols: &mut [u16; COLUMNS],
     starts: &mut [u32; COLUMNS],
-    lasts: &mut [u64; 8],
+    lasts: &mut [u64; W],
     rows: &[u8],
     names: usize,
     count: usize,
@@ -337,14 +341,39 @@ fn flags(line: &[u32], i: usize) -> u64
     w
 }
 
-// The lasts of a block of crossings alone, from i on.
-fn mark_run(lasts: &mut [u64; 8], line: &[u32], i: usize)
-    requires { ⌜ (length (now lasts) ≡ 8) × (i + 512 < length (now line)) ⌝ }
-    ensures { λ _. ⌜ RunMarked (now (line .entry)) i (now (lasts .exit)) 8 ⌝ }
+// The same of those that are left, 64 at most, one by one: the list's last crossing is its line's last.
+fn rest_flags(line: &[u32], i: usize) -> u64
+    requires { ⌜ (i < length (now line)) × (length (now line) ≤ i + 64) ⌝ }
+    ensures { λ r. ⌜ LineEnds (now (line .entry)) i r ⌝ }
+{
+    let mut w: u64 = 0;
+    let mut t: usize = 0;
+    while t + 1 < line.len() - i {
+        w = w | (flag(line, i + t) << t);
+        t += 1;
+    }
+    w | (1 << t)
+}
+
+// Which of the crossings from i on are their lines' last, a bit each.
+fn line_ends(line: &[u32], i: usize) -> u64
+    requires { ⌜ i < length (now line) ⌝ }
+    ensures { λ r. ⌜ LineEnds (now (line .entry)) i r ⌝ }
+{
+    if 64 < line.len() - i {
+        return flags(line, i);
+    }
+    rest_flags(line, i)
+}
+
+// The lasts of n crossings alone, from i on.
+fn mark_run(lasts: &mut [u64; W], line: &[u32], i: usize, n: usize)
+    requires { ⌜ (length (now lasts) ≡ wide) × (n ≤ columns) × (i + n ≤ length (now line)) ⌝ }
+    ensures { λ _. ⌜ RunMarked (now (line .entry)) i n (now (lasts .exit)) n ⌝ }
 {
     let mut k: usize = 0;
-    while k < 8 {
-        lasts[k] = flags(line, i + 64 * k);
+    while 64 * k < n {
+        lasts[k] = line_ends(line, i + 64 * k);
         k += 1;
     }
 }
@@ -360,27 +389,46 @@ fn number(cols: &mut [u16; COLUMNS])
     }
 }
 
-// No line begins with a start column among the next 512 crossings, and there are more.
-fn is_run(line: &[u32], count: usize, f: Cursor) -> bool
+// How many crossings the next block may have with no line's start among them: as many as there is room for or as there are; 0 where a start stands among those.
+fn run_length(line: &[u32], count: usize, f: Cursor) -> usize
     requires { ⌜ f .i ≤ length (now line) ⌝ }
     ensures { λ r. ⌜ RunsOn (now (line .entry)) count (f .i) (f .q) r ⌝ }
 {
     let i = f.i;
     let q = f.q;
-    if line.len() - i <= COLUMNS {
-        return false;
+    if i == line.len() {
+        return 0;
     }
+    let e = basics::part_end(i, line.len(), COLUMNS);
     if count <= q {
-        return true;
+        return e - i;
     }
-    basics::wide_long(line[i + 511]) < q
+    if basics::wide_long(line[e - 1]) < q {
+        return e - i;
+    }
+    0
 }
 
-// The columns of the block that begins at a cursor, and how it ends. A block of crossings alone is marked many at a time.
+// Of n crossings alone, as many as the block takes: where it is full, up to the last line's end in its last word, so that the next block begins with a line and no shape's state has to be carried.
+fn cut(lasts: &[u64; W], n: usize) -> usize
+    requires { ⌜ length (now lasts) ≡ wide ⌝ }
+    ensures { λ r. ⌜ CutTo (now (lasts .entry)) n r ⌝ }
+{
+    if n < COLUMNS {
+        return n;
+    }
+    let j = line_strips::after_last(lasts[LAST]);
+    if j == 0 {
+        return n;
+    }
+    64 * LAST + j
+}
+
+// The columns of the block that begins at a cursor, and how it ends. Crossings alone are marked many at a time.
 pub fn plan(
     cols: &mut [u16; COLUMNS],
     starts: &mut [u32; COLUMNS],
-    lasts: &mut [u64; 8],
+    lasts: &mut [u64; W],
     rows: &[u8],
     names: usize,
     count: usize,
@@ -390,20 +438,18 @@ pub fn plan(
     requires { ⌜ CanPlan names (now rows) (now line) count (planned (now cols) (now starts) (now lasts)) (from .i) (from .q) ⌝ }
     ensures { λ r. ⌜ PlanMade names (now (rows .entry)) (now (line .entry)) (planned (now (cols .exit)) (now (starts .exit)) (now (lasts .exit))) (from .i) (from .q) (r .next .c) (r .next .i) (r .next .q) × SaidAlone (now (line .entry)) (now (cols .exit)) (from .i) (r .next .c) (r .alone) ⌝ }
 {
-    if is_run(line, count, from) {
-        let i = from.i;
-        let q = from.q;
-        number(cols);
-        mark_run(lasts, line, i);
-        return Ended {
-            next: Cursor {
-                i: i + COLUMNS,
-                q,
-                c: COLUMNS,
-            },
-            alone: true,
-        };
+    let n = run_length(line, count, from);
+    if n == 0 {
+        let next = plan_each(cols, starts, lasts, rows, names, count, line, from);
+        return Ended { next, alone: false };
     }
-    let next = plan_each(cols, starts, lasts, rows, names, count, line, from);
-    Ended { next, alone: false }
+    let i = from.i;
+    let q = from.q;
+    number(cols);
+    mark_run(lasts, line, i, n);
+    let m = cut(lasts, n);
+    Ended {
+        next: Cursor { i: i + m, q, c: m },
+        alone: true,
+    }
 }

@@ -9,9 +9,11 @@ ghost use Rattle.line_judging.specs.Eating.{SameLength};
 ghost use Rattle.line_judge.specs.Steps.{Taken, Turning, Turned, Weighing, Weighed};
 ghost use Rattle.line_judge.specs.Blocks.{StepAsk, StepDone, NothingDone, OpinionFound, OpinionGiven, JudgeDone};
 
+const W: usize = line_strips::W;
+
 const COLUMNS: usize = line_strips::COLUMNS;
 
-const EVENTS: usize = line_sweeping::EVENTS;
+const EVENTS: usize = line_events::EVENTS;
 
 // Right, or the index of the first entry after which no right list could begin that way, or a refusal.
 pub enum TheirAnswer {
@@ -141,7 +143,7 @@ fn step(
     shape: &[u16],
     cols: &mut [u16; COLUMNS],
     starts: &mut [u32; COLUMNS],
-    lasts: &mut [u64; 8],
+    lasts: &mut [u64; W],
     events: &mut [u16; EVENTS],
     p: Progress,
     tl: &[u32],
@@ -231,7 +233,7 @@ fn blocks(
     let count = rows.len() / names;
     let mut cols = [0u16; COLUMNS];
     let mut starts = [0u32; COLUMNS];
-    let mut lasts = [0u64; 8];
+    let mut lasts = [0u64; W];
     let mut events = [0u16; EVENTS];
     let mut p = begin(rows, names, count, air);
     while line_blocks::is_left(p.pass, line.len(), count) {
@@ -288,7 +290,7 @@ fn opine(
     let mut links = [0u32; 1024];
     let arranged = line_words::arrange(codes, n, &mut stretches, &mut links);
     if arranged.rows <= 16 {
-        let mut words = [0u64; 2176];
+        let mut words = [0u64; line_words::FEW];
         return blocks(
             &stretches,
             &links,
@@ -305,7 +307,7 @@ fn opine(
             te,
         );
     }
-    let mut words = [0u64; 7504];
+    let mut words = [0u64; line_words::MOST];
     blocks(
         &stretches,
         &links,

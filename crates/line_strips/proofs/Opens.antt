@@ -196,46 +196,58 @@ cleared-fits n i ws ws′ z h few room = omega (arith, z .long)
 pub cleared-blank : (n i : ℕ) (ws ws′ : List ℕ) → Cleared n i ws ws′ → n * wide ≤ i → Blank n 0 ws′
 cleared-blank n i ws ws′ z h = record { off = λ s j l m c. off-word ws′ s j (z .zeros (s * wide + j / 64) (omega arith)) }
 
--- ---- rows opened
+-- ---- rows opened: the words from the third on
 pub record RowTo (s k : ℕ) (ws ws′ : List ℕ) : Type 0 where
   pub far : k ≤ wide
   pub long : length ws′ ≡ length ws
-  pub zeros : (i : ℕ) → i < k → getD ws′ (s * wide + i) 0 ≡ 0
+  pub zeros : (i : ℕ) → 2 ≤ i → i < k → getD ws′ (s * wide + i) 0 ≡ 0
   pub other : (i : ℕ) → (s * wide ≤ i → i < s * wide + wide → ⊥) → getD ws′ i 0 ≡ getD ws i 0
 
-pub row-none : (s : ℕ) (ws : List ℕ) → RowTo s 0 ws ws
-row-none s ws = record { far = omega arith; long = refl; zeros = λ i h. absurd (omega arith); other = λ i n. refl }
+pub row-none : (s : ℕ) (ws : List ℕ) → RowTo s 2 ws ws
+row-none s ws = record { far = omega arith; long = refl; zeros = λ i b h. absurd (omega arith); other = λ i n. refl }
 
 pub row-more : (s k : ℕ) (ws ws′ : List ℕ) → RowTo s k ws ws′ → k < wide → s * wide + wide ≤ length ws → RowTo s (k + 1) ws (set ws′ (s * wide + k) 0)
 row-more s k ws ws′ r h room =
     record {
       far = omega arith;
       long = length-set ws′ (s * wide + k) 0 ∙ r .long;
-      zeros = λ i l.
+      zeros = λ i b l.
           same? i k
           (λ q. rw q (getD-set-same ws′ (s * wide + k) 0 0 (omega (arith, r .long))))
-          (λ q. getD-set-other ws′ (s * wide + k) (s * wide + i) 0 0 (λ p. q (omega arith)) ∙ r .zeros i (omega arith));
+          (λ q. getD-set-other ws′ (s * wide + k) (s * wide + i) 0 0 (λ p. q (omega arith)) ∙ r .zeros i b (omega arith));
       other = λ i n. getD-set-other ws′ (s * wide + k) i 0 0 (λ q. n (omega arith) (omega arith)) ∙ r .other i n;
     }
 
 pub row-fits : (s k i : ℕ) (ws ws′ : List ℕ) → RowTo s k ws ws′ → i < s * wide + wide → s * wide + wide ≤ length ws → i < length ws′
 row-fits s k i ws ws′ r h room = omega (arith, r .long)
 
-pub row-end : (s v k : ℕ) (ws ws′ : List ℕ) → RowTo s k ws ws′ → wide ≤ k → s * wide + wide ≤ length ws → Row s v ws (set ws′ (s * wide) v)
+pub row-second : (s k v : ℕ) (ws ws′ : List ℕ) → RowTo s k ws ws′ → s * wide + wide ≤ length ws → s * wide + 1 < length (set ws′ (s * wide) v)
+row-second s k v ws ws′ r room = omega (arith, r .long, length-set ws′ (s * wide) v)
+
+pub row-end : (s v k : ℕ) (ws ws′ : List ℕ) → RowTo s k ws ws′ → wide ≤ k → s * wide + wide ≤ length ws → Row s v ws (set (set ws′ (s * wide) v) (s * wide + 1) 0)
 unfolding on
 row-end s v k ws ws′ r h room =
+    let one = set ws′ (s * wide) v in
+    let sized : length one ≡ length ws = length-set ws′ (s * wide) v ∙ r .long in
     record {
-      long = length-set ws′ (s * wide) v ∙ r .long;
+      long = length-set one (s * wide + 1) 0 ∙ sized;
       first = λ b l.
           let e : s * wide + b / 64 ≡ s * wide = omega arith in
           let d : b % 64 ≡ b = omega arith in
-          rw (e, d, getD-set-same ws′ (s * wide) v 0 (omega (arith, r .long)));
+          rw (e, d, getD-set-other one (s * wide + 1) (s * wide) 0 0 (λ q. omega arith), getD-set-same ws′ (s * wide) v 0 (omega (arith, r .long)));
       rest = λ j l c.
-          off-word (set ws′ (s * wide) v) s j
-          (getD-set-other ws′ (s * wide) (s * wide + j / 64) v 0 (λ q. omega arith) ∙ r .zeros (j / 64) (omega arith));
+          off-word (set one (s * wide + 1) 0) s j
+          (same? (j / 64) 1
+          (λ q. rw q (getD-set-same one (s * wide + 1) 0 0 (omega (arith, sized))))
+          (λ q.
+          getD-set-other one (s * wide + 1) (s * wide + j / 64) 0 0 (λ p. q (omega arith))
+          ∙ getD-set-other ws′ (s * wide) (s * wide + j / 64) v 0 (λ p. omega arith)
+          ∙ r .zeros (j / 64) (omega arith) (omega arith)));
       other = λ u j c n.
           ap (λ (x : ℕ). bit x (j % 64))
-          (getD-set-other ws′ (s * wide) (u * wide + j / 64) v 0 (λ q. n (omega arith)) ∙ r .other (u * wide + j / 64) (λ p q. n (omega arith)));
+          (getD-set-other one (s * wide + 1) (u * wide + j / 64) 0 0 (λ q. n (omega arith))
+          ∙ getD-set-other ws′ (s * wide) (u * wide + j / 64) v 0 (λ q. n (omega arith))
+          ∙ r .other (u * wide + j / 64) (λ p q. n (omega arith)));
     }
 
 pub record Opening (names m s : ℕ) (ws ws′ : List ℕ) : Type 0 where

@@ -5,17 +5,19 @@ use native.Mathlib.Decide.{decLt}
 use native.Mathlib.Omega.{arith}
 use mathlib.Core.Path.{_≡_, refl, sym, ap, _∙_}
 use mathlib.Core.Bool.{Bool, true, false, not, cond, _&&_, Bool·beq}
-use mathlib.Core.List.{List, [], _∷_, _++_, append-assoc, append-nil}
+use mathlib.Core.List.{List, [], _∷_, append-nil}
 use lib.IntN.{ℤ}
-use lib.ListN.{length, take, set, getD, length-set, length-append}
+use lib.ListN.{length, take, set, getD, length-set}
 use lib.Seq.{take-suc-set}
 use Rattle.line_strips.specs.Words.{bit}
 use Rattle.line_strips.specs.Strips.{cell, columns}
-use Rattle.line_sweeping.specs.Events.{endsIn, settled, changesAt, opensAt, eventsAt, metalNext, metalAfter, eventsAfter}
-use Rattle.line_sweeping.specs.Steps.{Quiet, NextNoisy, ColumnThere, NoteRoom, EventNoted, EventRoom, Reached, Noted, Changed, Left, Stepped, Sweepable, WordPart, Events, Swept, Listed}
-use Rattle.line_sweeping.specs.declared.Found.{Found}
+use Rattle.line_events.specs.Events.{endsIn, settled, eventsAt, metalNext, metalAfter, eventsAfter}
+use Rattle.line_events.specs.Steps.{Noted, NoteRoom, WordPart, Events, Listed}
+use Rattle.line_events.specs.declared.Found.{Found}
+use Rattle.line_sweeping.specs.Steps.{Quiet, NextNoisy, EventNoted, EventRoom, Reached, Changed, Left, Stepped, Sweepable, Swept}
+use Rattle.line_events.proofs.ListedLaws.{events-zero, events-more, metal-zero, metal-more}
+use Rattle.line_events.proofs.MarkedLaws.{noted-both}
 use Rattle.line_sweeping.proofs.BitLaws.{cell-word}
-use Rattle.line_sweeping.proofs.ListedLaws.{events-zero, events-more, metal-zero, metal-more}
 
 -- ---- one column
 
@@ -27,14 +29,6 @@ noted-one {v} {count} {metal} {events} room at is =
     record {
       noted = rw (at, is) (record { sized = length-set events count v; count = refl; are = rw (add-one count) (take-suc-set events count v (omega (arith, room .few, room .sized))) });
       metal-after = refl;
-    }
-
-pub noted-both : {new more : List ℕ} {k k′ k″ : ℕ} {events events′ events″ : List ℕ} → Noted new k events k′ events′ → Noted more k′ events′ k″ events″ → Noted (new ++ more) k events k″ events″
-noted-both {new} {more} {k} {events = events} a b =
-    record {
-      sized = b .sized ∙ a .sized;
-      count = omega (arith, a .count, b .count, length-append new more);
-      are = b .are ∙ ap (λ (xs : List ℕ). xs ++ more) (a .are) ∙ append-assoc (take k events) new more;
     }
 
 beq-same : (a : Bool) → Bool·beq a a ≡ true

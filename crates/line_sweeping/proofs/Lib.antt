@@ -1,6 +1,4 @@
 mod BitLaws
 mod EndLaws
-pub mod ListedLaws
 mod EventLaws
-mod MarkedLaws
 mod AloneLaws

@@ -10,7 +10,7 @@ ghost use Rattle.line_turns.specs.Steps.{ColumnHeld, ChangeHeld, EventHe
 
 const COLUMNS: usize = line_strips::COLUMNS;
 
-const EVENTS: usize = line_sweeping::EVENTS;
+const EVENTS: usize = line_events::EVENTS;
 
 // A line's start among the columns.
 const START: u16 = 65535;

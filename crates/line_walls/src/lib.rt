@@ -6,9 +6,11 @@ ghost use Rattle.line_writing.specs.Steps.{Roomy};
 ghost use Rattle.line_writing.specs.Blocks.{roomFor};
 ghost use Rattle.line_walls.specs.Blocks.{NothingDone, WallsWritten, WallsGiven, JobDone};
 
+const W: usize = line_strips::W;
+
 const COLUMNS: usize = line_strips::COLUMNS;
 
-const EVENTS: usize = line_sweeping::EVENTS;
+const EVENTS: usize = line_events::EVENTS;
 
 pub enum LinesAnswer {
     Walls(usize),
@@ -54,7 +56,7 @@ fn blocks(
     let count = rows.len() / names;
     let mut cols = [0u16; COLUMNS];
     let mut starts = [0u32; COLUMNS];
-    let mut lasts = [0u64; 8];
+    let mut lasts = [0u64; W];
     let mut events = [0u16; EVENTS];
     let mut p = begin(rows, names, count, air);
     while line_blocks::is_left(p.pass, line.len(), count) {
@@ -108,7 +110,7 @@ fn write(
     let mut links = [0u32; 1024];
     let arranged = line_words::arrange(codes, n, &mut stretches, &mut links);
     if arranged.rows <= 16 {
-        let mut words = [0u64; 2176];
+        let mut words = [0u64; line_words::FEW];
         return blocks(
             &stretches,
             &links,
@@ -127,7 +129,7 @@ fn write(
             wt,
         );
     }
-    let mut words = [0u64; 7504];
+    let mut words = [0u64; line_words::MOST];
     blocks(
         &stretches,
         &links,

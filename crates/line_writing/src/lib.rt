@@ -7,9 +7,11 @@ ghost use Rattle.line_blocks.specs.Blocks.{Sized};
 ghost use Rattle.line_writing.specs.Blocks.{StepAsk, StepDone};
 ghost use Rattle.line_writing.specs.Steps.{Roomy, Finishes, Turning, Turned, Delivering, Delivered};
 
+const W: usize = line_strips::W;
+
 const COLUMNS: usize = line_strips::COLUMNS;
 
-const EVENTS: usize = line_sweeping::EVENTS;
+const EVENTS: usize = line_events::EVENTS;
 
 struct Finished {
     line: u32,
@@ -157,7 +159,7 @@ pub fn step(
     shape: &[u16],
     cols: &mut [u16; COLUMNS],
     starts: &mut [u32; COLUMNS],
-    lasts: &mut [u64; 8],
+    lasts: &mut [u64; W],
     events: &mut [u16; EVENTS],
     p: Progress,
     wl: &mut [u32],

@@ -4,5 +4,3 @@ pub mod Count
 pub mod Upwards
 pub mod Settles
 pub mod Flipping
-pub mod Filling
-pub mod RanLaws

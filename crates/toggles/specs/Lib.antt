@@ -1,5 +1,4 @@
 pub mod Toggles
 pub mod Demand
 pub mod Named
-pub mod Ran
 pub mod Steps

@@ -1,19 +1,16 @@
--- What the functions of a toggle keep: one label alone has changed, marks stand on the nodes with a changed child, the answers of the first toggles.
+-- What the functions of a toggle keep: one label alone has changed, marks stand on the nodes with a changed child.
 use Prim.Native.Nat.{ℕ, _<_, _≤_}
 use mathlib.Core.Path.{_≡_}
 use mathlib.Core.Bool.{true, false, not, _&&_, _||_}
 use mathlib.Core.List.{List}
 use lib.Dec.{eqb, ltb}
 use lib.ListN.{length, getD, set, take}
-use Rattle.outcome.specs.Lent.{filled}
-use Rattle.contraction.specs.Records.{Rec, children}
+use Rattle.contraction.specs.Records.{children}
 use Rattle.contraction.specs.Steps.{recAt, recs}
-use Rattle.formula.specs.States.{outside}
 use Rattle.marks.specs.declared.Marks.{Marks}
 use Rattle.marks.specs.Marks.{marked, all, Rising, Lowest, Empty}
-use Rattle.labels.specs.Labels.{labels}
 use Rattle.labels.specs.Steps.{Rules, Linked, Ready}
-use Rattle.toggles.specs.Toggles.{flipLeaves, changed, reworked, toggleEach}
+use Rattle.toggles.specs.Toggles.{flipLeaves, changed, reworked}
 
 -- The labels ls of the nodes differ from those before, `old`, at node c and nowhere else.
 pub record Alone (nodes : ℕ) (old ls : List ℕ) (c : ℕ) : Type 0 where
@@ -87,17 +84,3 @@ pub record Flipped (ks fs ss : List ℕ) (leaves nodes s : ℕ) (old ls ws : Lis
   pub rising : Rising ws m
   pub within : Within nodes (all ws m)
   pub due : Due ks fs ss nodes (take nodes old) ls (all ws m) leaves
-
--- All that a run fills before its first toggle.
-pub record Tables (rules ks fs ss : List ℕ) (leaves nodes : ℕ) (ls ps hs ns : List ℕ) : Type 0 where
-  pub ruled : Rules rules
-  pub ready : Ready ks fs ss leaves nodes ps hs ns
-  pub long : length ls ≡ 3072
-  pub room : nodes ≤ 3072
-  pub labels-are : take nodes ls ≡ labels outside (recs ks fs ss 0 nodes)
-
--- The answer lists and the labels after a run over records, from the labels ls on.
-pub record RunDone (rs : List Rec) (ls ss roots counts ls′ roots′ counts′ : List ℕ) : Type 0 where
-  pub labels-are : ls′ ≡ toggleEach rs ls ss .final
-  pub roots-are : roots′ ≡ filled (toggleEach rs ls ss .roots) roots
-  pub counts-are : counts′ ≡ filled (toggleEach rs ls ss .counts) counts

@@ -1,34 +1,37 @@
 -- Word by word.
-use borrow.Author.Needs.{needs}
+use Rattle.line_columns.proofs.RunLaws.{MarkedTo, run-none, run-word, run-more, run-all}
 use Prim.Native.Nat.{_-_}
-use Rattle.line_columns.specs.Steps.{RunMarked}
-use Rattle.line_columns.proofs.RunLaws.{run-none, run-more, run-all}
+use Rattle.line_strips.specs.Strips.{wide}
+use borrow.Author.Needs.{needs}
 use Rattle.line_columns.proofs.mark_run.Statement.{statement}
 use Rattle.line_columns.proofs.mark_run.Tie as tie
 
 abbrev Inv-loop : tie.InvT-loop
-Inv-loop lasts₀ line i k₀ lasts k = RunMarked line i lasts k
+Inv-loop lasts₀ line i n k₀ lasts k = MarkedTo line i n lasts k
 
 abbrev μ-loop : tie.MeasureT-loop
-μ-loop lasts₀ line i k₀ lasts k = 8 - k
+μ-loop lasts₀ line i n k₀ lasts k = wide - k
 
 loop-holds : tie.Need-loop-holds Inv-loop μ-loop
 loop-holds c = search (run-none, needs)
 
-mul-flags : tie.Need-mul-flags Inv-loop μ-loop
-mul-flags c = search needs
+mul-loop : tie.Need-mul-loop Inv-loop μ-loop
+mul-loop c = search needs
 
-add-flags : tie.Need-add-flags Inv-loop μ-loop
-add-flags c = search needs
+mul-line-ends : tie.Need-mul-line-ends Inv-loop μ-loop
+mul-line-ends c = search needs
 
-flags-requires : tie.Need-flags-requires Inv-loop μ-loop
-flags-requires c κs = search needs
+add-line-ends : tie.Need-add-line-ends Inv-loop μ-loop
+add-line-ends c = search needs
+
+line-ends-requires : tie.Need-line-ends-requires Inv-loop μ-loop
+line-ends-requires c κs = search needs
 
 mul-lasts : tie.Need-mul-lasts Inv-loop μ-loop
 mul-lasts c = search needs
 
 element-write-lasts : tie.Need-element-write-lasts Inv-loop μ-loop
-element-write-lasts c = search needs
+element-write-lasts c = search (run-word, needs)
 
 add-k : tie.Need-add-k Inv-loop μ-loop
 add-k c = search needs
@@ -49,9 +52,10 @@ mark-run-spec =
     Inv-loop
     μ-loop
     loop-holds
-    mul-flags
-    add-flags
-    flags-requires
+    mul-loop
+    mul-line-ends
+    add-line-ends
+    line-ends-requires
     mul-lasts
     element-write-lasts
     add-k

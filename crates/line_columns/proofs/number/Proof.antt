@@ -1,6 +1,7 @@
 -- Number by number.
 use borrow.Author.Needs.{needs}
 use Prim.Native.Nat.{_-_}
+use Rattle.line_strips.specs.Strips.{columns}
 use Rattle.line_columns.specs.Steps.{Numbered}
 use Rattle.line_columns.proofs.RunLaws.{numbered-none, numbered-more, numbered-all}
 use Rattle.line_columns.proofs.number.Statement.{statement}
@@ -10,7 +11,7 @@ abbrev Inv-loop : tie.InvT-loop
 Inv-loop cols₀ c₀ cols c = Numbered cols c
 
 abbrev μ-loop : tie.MeasureT-loop
-μ-loop cols₀ c₀ cols c = 512 - c
+μ-loop cols₀ c₀ cols c = columns - c
 
 loop-holds : tie.Need-loop-holds Inv-loop μ-loop
 loop-holds c = search (numbered-none, needs)

@@ -1,5 +1,5 @@
 -- Word by word.
-use Rattle.line_strips.specs.Strips.{planned}
+use Rattle.line_strips.specs.Strips.{planned, columns}
 use Rattle.line_columns.proofs.PlanLaws.{Words, words-none, words-next, words-more, words-full, words-over}
 use Prim.Native.Nat.{_-_}
 use borrow.Author.Needs.{needs}
@@ -10,7 +10,7 @@ abbrev Inv-loop : tie.InvT-loop
 Inv-loop cols₀ starts₀ lasts₀ rows names count line from f₀ cols starts lasts f = Words names rows line count (from .i) (from .q) (planned cols starts lasts) (f .c) (f .i) (f .q)
 
 abbrev μ-loop : tie.MeasureT-loop
-μ-loop cols₀ starts₀ lasts₀ rows names count line from f₀ cols starts lasts f = 512 - f .c
+μ-loop cols₀ starts₀ lasts₀ rows names count line from f₀ cols starts lasts f = columns - f .c
 
 loop-holds : tie.Need-loop-holds Inv-loop μ-loop
 loop-holds c = search (words-none, needs)

@@ -2,11 +2,9 @@
 use borrow.Author.Needs.{needs}
 use Prim.Native.Nat.{_-_}
 use Rattle.line_strips.specs.Strips.{wide}
-use Rattle.line_strips.proofs.Opens.{RowTo, row-none, row-more, row-fits, row-end}
+use Rattle.line_strips.proofs.Opens.{RowTo, row-none, row-more, row-fits, row-second, row-end}
 use Rattle.line_strips.proofs.open_row.Statement.{statement}
 use Rattle.line_strips.proofs.open_row.Tie as tie
-use Rattle.line_strips.proofs.open_row.Reads as reads
-use Rattle.line_strips.proofs.open_row.Lts as lts
 
 abbrev Inv-loop : tie.InvT-loop
 Inv-loop words₀ s v k₀ words k = RowTo s k words₀ words
@@ -47,6 +45,18 @@ mul-words-4 c = search needs
 slice-write-words-2 : tie.Need-slice-write-words-2 Inv-loop μ-loop
 slice-write-words-2 c = search (row-fits, needs)
 
+mul-words-5 : tie.Need-mul-words-5 Inv-loop μ-loop
+mul-words-5 c = search needs
+
+add-words-2 : tie.Need-add-words-2 Inv-loop μ-loop
+add-words-2 c = search needs
+
+mul-words-6 : tie.Need-mul-words-6 Inv-loop μ-loop
+mul-words-6 c = search needs
+
+slice-write-words-3 : tie.Need-slice-write-words-3 Inv-loop μ-loop
+slice-write-words-3 c = search (row-second, needs)
+
 same-length : tie.Need-same-length Inv-loop μ-loop
 same-length c = search needs
 
@@ -70,5 +80,9 @@ open-row-spec =
     mul-words-3
     mul-words-4
     slice-write-words-2
+    mul-words-5
+    add-words-2
+    mul-words-6
+    slice-write-words-3
     same-length
     returns)

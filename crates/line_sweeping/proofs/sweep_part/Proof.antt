@@ -1,5 +1,5 @@
 -- Alone where the crossings are seen to stand so.
-use Rattle.line_sweeping.proofs.AloneLaws.{said-more, said-fits, said-fits-word, part-long, part-alone}
+use Rattle.line_sweeping.proofs.AloneLaws.{said-there, said-fits, said-fits-word, part-long, part-alone}
 use borrow.Author.Needs.{needs}
 use Rattle.line_sweeping.proofs.sweep_part.Statement.{statement}
 use Rattle.line_sweeping.proofs.sweep_part.Tie as tie
@@ -29,7 +29,7 @@ add-all-alone-2 : tie.Need-add-all-alone-2
 add-all-alone-2 c = search (said-fits, needs)
 
 all-alone-requires : tie.Need-all-alone-requires
-all-alone-requires c κs = (search needs, search (said-more, needs), search (part-long, needs))
+all-alone-requires c κs = (search needs, search (said-there, needs), search (part-long, needs))
 
 sweep-alone-requires : tie.Need-sweep-alone-requires
 sweep-alone-requires c κs = search needs

@@ -40,7 +40,7 @@ impl Default for Block {
 impl Block {
     /// Does its last line go on in the next block?
     pub fn goes_on(&self) -> bool {
-        self.lasts[WORDS - 1] & TOP == 0
+        self.columns == BLOCK && self.lasts[WORDS - 1] & TOP == 0
     }
 }
 
@@ -78,12 +78,19 @@ impl<'a> Columns<'a> {
         row + rest.take_while(|row| over(row) == 0).count()
     }
 
-    /// The columns of the block that begins at a cursor; gives where the next one begins.
+    /// The columns of the block that begins at a cursor; gives where the next one begins. A full block of crossings alone is cut at the last
+    /// line's end in its last word, if there is one.
     pub fn plan(&self, block: &mut Block, from: Cursor) -> Cursor {
         (block.first, block.lasts, block.columns) = (from.crossing, [0; WORDS], 0);
         let mut at = from;
         loop {
             at.crossing = self.plan_crossings(block, at);
+            if block.columns == BLOCK && at.row == from.row && block.lasts[WORDS - 1] != 0 {
+                let beyond = block.lasts[WORDS - 1].leading_zeros() as usize;
+                block.columns -= beyond;
+                at.crossing -= beyond;
+                return at;
+            }
             if block.columns == BLOCK || at.row == self.count {
                 return at;
             }

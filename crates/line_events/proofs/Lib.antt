@@ -1,0 +1,5 @@
+pub mod BitLaws
+mod EndLaws
+pub mod ListedLaws
+pub mod MarkedLaws
+mod AloneLaws
