@@ -32,6 +32,13 @@ pub fn long_word(x: u32) -> u64
     x as u64
 }
 
+// A byte as a word of 64 bits.
+pub fn long_byte(x: u8) -> u64
+    ensures { λ r. ⌜ r ≡ x ⌝ }
+{
+    x as u64
+}
+
 // An index as an entry of 16 bits.
 pub fn narrow(x: usize) -> u16
     requires { ⌜ x < 65536 ⌝ }

@@ -7,7 +7,7 @@ use Rattle.formula.specs.States.{times}
 use Rattle.sheet.specs.Sheet.{alone, lengthAt, pastAt, bytesAt, allGood, same, taken, codesOf, allCodes, formulaOf, formulaIn, header, nameAt, formulaAt, fieldAt, fields, own, reading}
 use Rattle.accepting.specs.Accepting.{accepted}
 use Rattle.edits.specs.Edits.{apart, nodeAt}
-use Rattle.edit_run.specs.Edits.{Answers, answers}
+use Rattle.edit_mix.specs.Edits.{Answers, answers}
 use Rattle.job_edit.specs.Editing.{lists, lending, editing, runningEdited}
 use Rattle.demands.proofs.Table.{worked, lentNumbers}
 

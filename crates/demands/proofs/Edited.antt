@@ -19,7 +19,8 @@ use Rattle.labels.specs.Labels.{bit, labels as labelsOf}
 use Rattle.toggles.specs.Toggles.{toggle}
 use Rattle.toggles.specs.Demand.{leavesOf}
 use Rattle.toggles.proofs.Count.{toggle-bound}
-use Rattle.edit_run.specs.Edits.{Edit, editsOf, editedBy, rootsAfter, countsAfter, Answers, answersOf}
+use Rattle.edit_moments.specs.Edits.{Edit, editsOf, editedBy}
+use Rattle.edit_mix.specs.Edits.{rootsAfter, countsAfter, Answers, answersOf}
 use Rattle.edit_run.proofs.RunLaws.{length-roots, length-counts}
 use Rattle.job_run.specs.declared.RunAnswer.the-variants as run
 use Rattle.job_edit.specs.Editing.{Lists, runningEdited}

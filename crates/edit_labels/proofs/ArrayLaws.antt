@@ -28,9 +28,9 @@ use Rattle.labels.specs.Steps.{seek, Shaped, Parents, Chains}
 use Rattle.labels.proofs.Rules.{label-local}
 use Rattle.labels.proofs.Held.{held-records, held-shaped}
 use Rattle.labels.proofs.Fills.{seek-here, seek-past, seek-none}
-use Rattle.toggles.specs.Toggles.{steps, reworked, rework}
-use Rattle.toggles.specs.Steps.{Alone, Climbs}
-use Rattle.toggles.proofs.Upwards.{plus}
+use Rattle.toggle_passes.specs.Reworking.{steps, reworked, rework}
+use Rattle.toggle_passes.specs.Steps.{Alone, Climbs}
+use Rattle.toggle_passes.proofs.Upwards.{plus}
 use Rattle.edit_labels.specs.Editing.{edit}
 use Rattle.edit_labels.specs.Edited.{Rekinded, NodeOf, Editable, EditDone}
 use Rattle.edit_labels.proofs.EditedLaws.{edit-on, edit-stop}

@@ -24,9 +24,9 @@ use Rattle.labels.specs.Labels.{label, labels}
 use Rattle.labels.proofs.Rules.{label-local, label-inner, listed-here}
 use Rattle.labels.proofs.Links.{cases}
 use Rattle.labels.proofs.Afresh.{below-steady, labels-good, labels-unique, length-labels}
-use Rattle.toggles.specs.Toggles.{Steps, steps, changed, reworked, rework}
-use Rattle.toggles.proofs.Toggles.{rework-skip, rework-here, leaf-none}
-use Rattle.toggles.proofs.Upwards.{plus}
+use Rattle.toggle_passes.specs.Reworking.{Steps, steps, changed, reworked, rework}
+use Rattle.toggle_passes.proofs.Reworking.{rework-skip, rework-here, leaf-none}
+use Rattle.toggle_passes.proofs.Upwards.{plus}
 use Rattle.edit_labels.specs.Editing.{sweep, edit, Above, own, up}
 
 -- the two ways of a sweep at a record

@@ -11,7 +11,7 @@ use Rattle.edits.specs.Edits.{edited, nodeAt}
 use Rattle.edits.specs.Changes.{operations, rekind}
 use Rattle.labels.specs.Arrays.{Holds}
 use Rattle.labels.specs.Steps.{Rules, Parents}
-use Rattle.toggles.specs.Toggles.{steps}
+use Rattle.toggle_passes.specs.Reworking.{steps}
 use Rattle.edit_labels.specs.Editing.{edit}
 
 -- The number of the kind of the same record over operation o.

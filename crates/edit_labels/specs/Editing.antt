@@ -6,7 +6,7 @@ use mathlib.Core.List.{List, [], _∷_}
 use lib.ListN.{getD, set}
 use lib.Dec.{eqb}
 use Rattle.contraction.specs.Records.{Rec, leafRec, children, over}
-use Rattle.toggles.specs.Toggles.{Steps, steps, changed, reworked}
+use Rattle.toggle_passes.specs.Reworking.{Steps, steps, changed, reworked}
 
 -- The nodes in rising number, here from node j on, where e is the edit's own node and `old` are the labels before the edit.
 -- The count is the number of nodes so reworked.

@@ -39,7 +39,7 @@ pub fn edit(
         return 1;
     }
     labels[e] = v;
-    let more = toggles::walk(
+    let more = toggle_passes::walk(
         rules,
         kinds,
         firsts,

@@ -1,4 +1,1 @@
-pub mod Lists
-pub mod ActLaws
-pub mod MixLaws
 pub mod RunLaws

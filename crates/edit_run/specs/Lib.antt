@@ -1,3 +1,2 @@
-pub mod Edits
 pub mod Ran
 pub mod Steps

@@ -24,7 +24,7 @@ use Rattle.job_build.specs.Building.{DwarfTree, Summary, summary}
 use Rattle.job_build.specs.Built.{builtOf, Built}
 use Rattle.toggles.specs.Toggles.{Answers}
 use Rattle.job_run.specs.Ran.{ranOf, Ran}
-use Rattle.edit_run.specs.Edits.{Answers as EditAnswers}
+use Rattle.edit_mix.specs.Edits.{Answers as EditAnswers}
 use Rattle.job_edit.specs.Editing.{Lists as EditLists}
 use Rattle.job_edit.specs.Edited.{Edited}
 use Rattle.job_both.specs.Shared.{Lists, Shared}

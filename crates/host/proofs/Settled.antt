@@ -24,7 +24,7 @@ use Rattle.job_build.specs.Building.{DwarfTree, Summary, summaryOf, building}
 use Rattle.job_build.proofs.Settled.{build-numbered}
 use Rattle.toggles.specs.Toggles.{Answers}
 use Rattle.job_run.specs.Running.{running}
-use Rattle.edit_run.specs.Edits.{Answers as EditAnswers}
+use Rattle.edit_mix.specs.Edits.{Answers as EditAnswers}
 use Rattle.job_edit.specs.Editing.{Lists as EditLists, runningEdited}
 use Rattle.job_edit.proofs.Settled.{settled-lists, edit-numbered}
 use Rattle.job_run.proofs.Settled.{run-numbered}

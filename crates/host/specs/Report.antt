@@ -23,7 +23,7 @@ use Rattle.job_run.specs.Ran.{RanLists}
 use Rattle.job_both.specs.Sharing.{sharing, serving}
 use Rattle.job_both.specs.Shared.{Lists}
 use Rattle.line_judging.specs.Judging.{Opinion, right, wrongAt}
-use Rattle.edit_run.specs.Edits.{Answers as EditAnswers}
+use Rattle.edit_mix.specs.Edits.{Answers as EditAnswers}
 use Rattle.job_edit.specs.Editing.{Lists as EditLists}
 use Rattle.job_edit.specs.Edited.{EditedLists}
 use Rattle.cross_cuts.specs.Cuts.{Cut}

@@ -18,7 +18,7 @@ use Rattle.job_run.specs.Running.{toggling}
 use Rattle.job_run.specs.Ran.{Ran}
 use Rattle.job_run.specs.declared.RunAnswer.{RunAnswer}
 use Rattle.job_run.proofs.RunLaws.{run-refused, run-unfit, stands, holds}
-use Rattle.job_both.specs.Order.{mixes}
+use Rattle.order_mixing.specs.Order.{mixes}
 use Rattle.job_both.specs.Sharing.{sharing, serving}
 use Rattle.job_both.specs.Shared.{Lists, lists, Shared}
 use Rattle.job_both.specs.Steps.{bothRefused, bothUnfit, mixing, Mixed}

@@ -19,7 +19,7 @@ use Rattle.job_run.specs.Ran.{Ran}
 use Rattle.job_run.specs.declared.RunAnswer.{RunAnswer}
 use Rattle.job_run.specs.declared.RunAnswer.the-variants as answer
 use Rattle.job_run.proofs.Settled.{run-unique, run-refusal, run-refuses, run-unfits}
-use Rattle.job_both.specs.Order.{mixes}
+use Rattle.order_mixing.specs.Order.{mixes}
 use Rattle.job_both.specs.Sharing.{sharing, serving}
 use Rattle.job_both.specs.Shared.{Lists, lists, Served, Shared}
 use Rattle.job_both.specs.declared.BothAnswer.{BothAnswer}

@@ -1,4 +1,3 @@
-pub mod Order
 pub mod Sharing
 pub mod Shared
 pub mod Steps

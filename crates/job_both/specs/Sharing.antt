@@ -7,7 +7,7 @@ use Rattle.sheet.specs.Sheet.{Sheets, Sheet}
 use Rattle.accepting.specs.Accepting.{accepted}
 use Rattle.toggles.specs.Toggles.{Answers}
 use Rattle.job_run.specs.Running.{toggling}
-use Rattle.job_both.specs.Order.{mixes}
+use Rattle.order_mixing.specs.Order.{mixes}
 
 -- What goes to both: 1 to 8 and 17; then 13, an order with an entry that names neither, or whose turns differ from the lists' lengths, place 0.
 unfoldable pub sharing : Sheets → List ℕ → List ℕ → List ℕ → Outcome Sheet

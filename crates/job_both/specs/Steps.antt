@@ -1,25 +1,16 @@
--- What the functions of this job keep: an order gone through, and both foundries served on a tree.
-use Prim.Native.Nat.{ℕ, _+_, _≤_}
-use mathlib.Core.Path.{_≡_}
-use mathlib.Core.Bool.{true}
+-- What the functions of this job keep: both foundries served on a tree.
+use Prim.Native.Nat.{ℕ}
 use mathlib.Core.List.{List}
-use lib.ListN.{length, take}
+use lib.ListN.{length}
 use Rattle.outcome.specs.Outcome.{Outcome, need, _>>_}
 use Rattle.formula.specs.Formula.{Formula}
 use Rattle.toggles.specs.Toggles.{Answers}
 use Rattle.job_run.specs.Running.{toggling}
 use Rattle.job_run.specs.Ran.{Ran}
 use Rattle.job_run.specs.declared.RunAnswer.the-variants as answer
-use Rattle.job_both.specs.Order.{named, turns, mixes}
+use Rattle.order_mixing.specs.Order.{mixes}
 use Rattle.job_both.specs.Shared.{Lists}
 use Rattle.job_both.specs.declared.BothAnswer.{BothAnswer}
-
--- Of the first i turns each names one of the two, and this many are the second's.
-pub record Counting (order : List ℕ) (i seconds : ℕ) : Type 0 where
-  pub within : i ≤ length order
-  pub all-named : named (take i order) ≡ true
-  pub second-is : turns 1 (take i order) ≡ seconds
-  pub first-is : turns 0 (take i order) + seconds ≡ i
 
 -- A refusal that goes to both; and one of the fittings sheet.
 abbrev pub bothRefused : ℕ → ℕ → BothAnswer

@@ -1,13 +1,13 @@
 // Two foundries on one sheet: the tree is built once, and each foundry's toggles are run on it with labels and lists of its own.
 use accepting::Prepared;
 use job_run::RunAnswer;
+use order_mixing::mixes;
 use tree_dwarf::Figures;
 ghost use mathlib.Core.Path.{_≡_};
 ghost use Prim.Native.Nat.{_≤_};
 ghost use Rattle.formula.specs.Formula.{Formula};
 ghost use Rattle.sheet.specs.Sheet.{sheetsOf};
 ghost use Rattle.labels.specs.Arrays.{Tree, Holds};
-ghost use Rattle.job_both.specs.Order.{mixes as mixesOf};
 ghost use Rattle.job_both.specs.Shared.{lists, Shared};
 ghost use Rattle.job_both.specs.Steps.{bothRefused, bothUnfit, Mixed};
 
@@ -15,33 +15,6 @@ ghost use Rattle.job_both.specs.Steps.{bothRefused, bothUnfit, Mixed};
 pub struct BothAnswer {
     pub first: RunAnswer,
     pub second: RunAnswer,
-}
-
-// A turn as a number.
-fn wide(turn: u8) -> usize
-    ensures { λ r. ⌜ r ≡ turn ⌝ }
-{
-    turn as usize
-}
-
-// Whether an order mixes lists of these lengths.
-fn mixes(order: &[u8], first: usize, second: usize) -> bool
-    ensures { λ r. ⌜ r ≡ mixesOf (now (order .entry)) first second ⌝ }
-{
-    let mut i = 0;
-    let mut seconds = 0;
-    while i < order.len() {
-        let turn = order[i];
-        if 1 < turn {
-            return false;
-        }
-        seconds += wide(turn);
-        i += 1;
-    }
-    if i - seconds == first {
-        return seconds == second;
-    }
-    false
 }
 
 // Both foundries' toggles run on a dwarf tree, one foundry after the other, where the order mixes their lists.

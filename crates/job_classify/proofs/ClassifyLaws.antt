@@ -9,8 +9,7 @@ use Rattle.formula.specs.Formula.{Formula, leaf, node, Over}
 use Rattle.sheet.specs.Sheet.{Sheets, Sheet}
 use Rattle.lines.specs.Lines.{LineLists, AnswerLists, Wall, classified}
 use Rattle.line_blocks.specs.Blocks.{FewCodes}
-use Rattle.line_walls.specs.Answers.{answered, LinesAnswered}
-use Rattle.line_walls.specs.Blocks.{JobDone}
+use Rattle.line_walls.specs.Answers.{answered, LinesAnswered, JobDone}
 use Rattle.line_walls.specs.declared.LinesAnswer.{LinesAnswer}
 use Rattle.line_walls.specs.declared.LinesAnswer.the-variants as lines
 use Rattle.accepting.specs.Accepting.{accepted}

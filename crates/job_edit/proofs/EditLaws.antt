@@ -29,8 +29,10 @@ use Rattle.edit_checking.specs.Fits.{isOperation, operatesAt, inTurn, fits, fir
 use Rattle.edit_checking.specs.Steps.{Coded}
 use Rattle.edit_checking.proofs.FitLaws.{unfit-most}
 use Rattle.edit_places.specs.Places.{Built}
-use Rattle.edit_run.specs.Edits.{Edit, editsOf, after, editedBy, Answers, answersOf}
-use Rattle.edit_run.specs.Ran.{Rises, EditRoom, edit-room, EditedRuns}
+use Rattle.edit_moments.specs.Edits.{Edit, editsOf, after, editedBy}
+use Rattle.edit_moments.specs.Listed.{Rises}
+use Rattle.edit_mix.specs.Edits.{Answers, answersOf}
+use Rattle.edit_run.specs.Ran.{EditRoom, edit-room, EditedRuns}
 use Rattle.job_edit.specs.declared.Checked.{Checked}
 use Rattle.job_edit.specs.declared.Checked.the-variants as checked
 use Rattle.job_edit.specs.Editing.{Lists, lists, lending, editing, runningEdited}

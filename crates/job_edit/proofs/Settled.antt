@@ -16,7 +16,8 @@ use Rattle.accepting.specs.Accepting.{accepted}
 use Rattle.accepting.proofs.Accepted.{accepted-numbered}
 use Rattle.toggles.specs.Named.{firstWrong}
 use Rattle.edit_checking.specs.Fits.{firstUnfit}
-use Rattle.edit_run.specs.Edits.{editsOf, Answers, answersOf}
+use Rattle.edit_moments.specs.Edits.{editsOf}
+use Rattle.edit_mix.specs.Edits.{Answers, answersOf}
 use Rattle.job_run.specs.Ran.{ranOf}
 use Rattle.job_run.specs.declared.RunAnswer.{RunAnswer}
 use Rattle.job_run.specs.declared.RunAnswer.the-variants as answer

@@ -5,7 +5,7 @@ use Rattle.outcome.specs.Outcome.{Outcome, part}
 use Rattle.outcome.specs.Lent.{afterCall}
 use Rattle.job_run.specs.Ran.{ranOf}
 use Rattle.job_run.specs.declared.RunAnswer.{RunAnswer}
-use Rattle.edit_run.specs.Edits.{Answers}
+use Rattle.edit_mix.specs.Edits.{Answers}
 use Rattle.job_edit.specs.Editing.{Lists}
 
 -- Of the job's outcome and the lists as lent: the lists after the call.

@@ -11,7 +11,8 @@ use Rattle.sheet.specs.Sheet.{Sheets}
 use Rattle.accepting.specs.Accepting.{accepted}
 use Rattle.toggles.specs.Named.{firstWrong}
 use Rattle.edit_checking.specs.Fits.{firstUnfit}
-use Rattle.edit_run.specs.Edits.{editsOf, Answers, answersOf}
+use Rattle.edit_moments.specs.Edits.{editsOf}
+use Rattle.edit_mix.specs.Edits.{Answers, answersOf}
 
 -- The answer lists that a caller lends.
 pub record Lists : Type 0 where

@@ -9,8 +9,8 @@ use Rattle.toggles.specs.Named.{firstWrong}
 use Rattle.edit_checking.specs.Fits.{firstUnfit}
 use Rattle.job_run.specs.declared.RunAnswer.{RunAnswer}
 use Rattle.edit_places.specs.Places.{Built, Buildable}
-use Rattle.edit_run.specs.Edits.{editsOf}
-use Rattle.edit_run.specs.Ran.{Rises, Listed}
+use Rattle.edit_moments.specs.Edits.{editsOf}
+use Rattle.edit_moments.specs.Listed.{Rises, Listed}
 use Rattle.job_edit.specs.declared.Checked.{Checked}
 use Rattle.job_edit.specs.declared.Checked.the-variants as checked
 use Rattle.job_edit.specs.Editing.{Lists, lending, editing}

@@ -12,7 +12,7 @@ use lib.ListN.{length, getD, length-drop}
 use Rattle.lines.specs.Lines.{LineLists, lineLists, rowCount}
 use Rattle.line_strips.specs.Strips.{wide, columns, cell, planned}
 use Rattle.line_strips.specs.Steps.{Fillable}
-use Rattle.line_strips.proofs.Digits.{shift-bit}
+use Rattle.line_bits.proofs.Digits.{shift-bit}
 use Rattle.line_words.specs.Steps.{Evaluable}
 use Rattle.line_words.specs.declared.Arranged.{Arranged}
 use Rattle.line_columns.specs.Planned.{leftAt, BlockPlanned}

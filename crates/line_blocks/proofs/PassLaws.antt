@@ -94,7 +94,7 @@ module _ {codes : List ℕ} {n names : ℕ} {air : Bool} {c : LineLists} {stretc
         said = good .said;
       }
 
-  pub few-rows : arranged .rows ≤ 16 → length words ≡ 272 * wide + 1 → CanPass stretches links arranged names air c words
+  pub few-rows : arranged .rows ≤ 16 → length words ≡ 272 * wide → CanPass stretches links arranged names air c words
   few-rows few long = can-pass (omega (arith, few, long))
 
   pub all-rows : length words ≡ 938 * wide + 1 → CanPass stretches links arranged names air c words

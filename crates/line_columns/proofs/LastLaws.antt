@@ -1,45 +1,20 @@
 -- Which columns are their line's last.
-use Prim.Native.Nat.{ℕ, zero, suc, _+_, _-_, _*_, _/_, _%_, _^_, _<_, _≤_}
+use Prim.Native.Nat.{ℕ, _*_, _/_, _%_, _^_, _<_}
 use native.Mathlib.Omega.{arith}
 use mathlib.Core.Path.{_≡_, refl, sym, _∙_}
-use mathlib.Core.Bool.{Bool, true, false, not, _&&_, _||_, cond}
+use mathlib.Core.Bool.{Bool, true, false, _&&_, _||_, cond}
 use mathlib.Core.List.{List}
-use borrow.Author.Tests.{eqb-true, eqb-false, eq-eqb, ne-eqb, ltb-true, ltb-false}
+use borrow.Author.Tests.{eqb-true, eqb-false, eq-eqb, ne-eqb}
 use lib.Bits.{bitOr}
-use lib.Dec.{eqb, ltb}
-use lib.ListN.{getD, length, set}
+use lib.Dec.{eqb}
+use lib.ListN.{length, set}
 use lib.Seq.{getD-set-same, getD-set-other}
-use Rattle.line_strips.specs.Words.{digit, bit}
+use Rattle.line_bits.specs.Words.{bit}
 use Rattle.line_strips.specs.Strips.{wide, columns, cell}
-use Rattle.line_strips.proofs.Digits.{bit-or, bit-none, bit-below, bit-above}
-use Rattle.line_columns.specs.Steps.{overAt, turnsAway, LastPut}
-
-module _ (ls : List ℕ) (l i : ℕ) where
-  pub over-end : i ≡ length ls → true ≡ overAt ls l i
-  unfolding overAt
-  over-end e = rw (eq-eqb i (length ls) e)
-
-  pub over-on : (w : ℕ) → (i ≡ length ls → ⊥) → w ≡ getD ls i 0 → not (eqb w l) ≡ overAt ls l i
-  unfolding overAt
-  over-on w ne e = rw (ne-eqb i (length ls) ne, e)
-
-pub turned-away : (ls : List ℕ) (i : ℕ) → i + 1 < length ls → turnsAway ls i ≡ overAt ls (getD ls i 0) (i + 1)
-turned-away ls i h = over-on ls (getD ls i 0) (i + 1) (getD ls (i + 1) 0) (λ e. omega arith) refl
+use Rattle.line_bits.proofs.Digits.{bit-or, bit-none, one-bit, or-none}
+use Rattle.line_columns.specs.Steps.{LastPut}
 
 -- ---- one bit put in
-
-pub one-bit : (b d : ℕ) → d < 64 → bit (1 * 2 ^ b % 2 ^ 64) d ≡ eqb d b
-unfolding digit
-one-bit b d h = by (ltb d b) refl (eqb d b) refl
-  where
-    by : (t : Bool) → ltb d b ≡ t → (u : Bool) → eqb d b ≡ u → bit (1 * 2 ^ b % 2 ^ 64) d ≡ u
-    by true e u f = bit-below 1 b d (ltb-true d b e) h ∙ sym (sym f ∙ ne-eqb d b (omega (arith, ltb-true d b e)))
-    by false e true f = bit-above 1 b d (ltb-false d b e) h ∙ (let z : d - b ≡ 0 = omega (arith, eqb-true d b f) in rw z)
-    by false e false f = bit-above 1 b d (ltb-false d b e) h ∙ beyond (d - b) (omega (arith, ltb-false d b e, eqb-false d b f))
-      where
-        beyond : (n : ℕ) → 0 < n → bit 1 n ≡ false
-        beyond zero k = absurd (omega arith)
-        beyond (suc n) k = bit-none n
 
 flag-bit : (last : Bool) (w b d : ℕ) → w ≡ cond last 1 0 → d < 64 → bit (w * 2 ^ b % 2 ^ 64) d ≡ (eqb d b && last)
 flag-bit true w b d e h = rw e (one-bit b d h ∙ sym (and-yes (eqb d b)))
@@ -64,10 +39,6 @@ last-put w f c last e = record { same = same; here = here }
 
     bit-new : (d : ℕ) → d < 64 → bit new d ≡ (bit w d || (eqb d (c % 64) && last))
     bit-new d k = bit-or w (f * 2 ^ (c % 64) % 2 ^ 64) d ∙ rw (flag-bit last f (c % 64) d e k)
-
-    or-none : (t : Bool) → (t || false) ≡ t
-    or-none true = refl
-    or-none false = refl
 
     same : (d : ℕ) → d < 64 → (d ≡ c % 64 → ⊥) → bit new d ≡ bit w d
     same d k ne = bit-new d k ∙ rw (ne-eqb d (c % 64) ne) (or-none (bit w d))

@@ -7,12 +7,14 @@ use mathlib.Core.List.{List}
 use borrow.Author.Tests.{ltb-true, ltb-false}
 use lib.Dec.{ltb}
 use lib.ListN.{getD, length, set, length-set}
-use Rattle.line_strips.specs.Words.{bit}
+use Rattle.line_bits.specs.Words.{bit}
 use Rattle.line_strips.specs.Strips.{planned, wide, columns}
-use Rattle.line_strips.proofs.Digits.{bit-none}
+use Rattle.line_bits.proofs.Digits.{bit-none}
 use Rattle.line_columns.specs.Planned.{PlanSized}
-use Rattle.line_columns.specs.Steps.{StartsNext, overAt, turnsAway, ColumnPut, StartReady, StartPut, CrossingPut, UntilReady, UntilPut, CrossingsReady, CrossingsPut, WordNext, WordPlanning, WordPlanned}
-use Rattle.line_columns.proofs.LastLaws.{turned-away, cell-without, cell-same, cell-here}
+use Rattle.line_runs.specs.Runs.{overAt, turnsAway}
+use Rattle.line_columns.specs.Steps.{StartsNext, ColumnPut, StartReady, StartPut, CrossingPut, UntilReady, UntilPut, CrossingsReady, CrossingsPut, WordNext, WordPlanning, WordPlanned}
+use Rattle.line_runs.proofs.EndLaws.{turned-away}
+use Rattle.line_columns.proofs.LastLaws.{cell-without, cell-same, cell-here}
 use Rattle.line_columns.proofs.PlanLaws.{Kept, Put, each-kept, each-start, each-crossing}
 
 module _ (names : ℕ) (rows ls : List ℕ) (count i q : ℕ) (lasts : List ℕ) (c : ℕ) where

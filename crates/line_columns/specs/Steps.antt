@@ -1,17 +1,17 @@
 -- What the planning of a block keeps.
 use Prim.Native.Nat.{ℕ, _+_, _-_, _*_, _/_, _%_, _<_, _≤_}
 use mathlib.Core.Path.{_≡_}
-use mathlib.Core.Bool.{Bool, true, false, not, cond}
+use mathlib.Core.Bool.{Bool, true, false}
 use mathlib.Core.List.{List}
-use lib.Dec.{eqb}
 use lib.IntN.{ℤ}
 use lib.ListN.{getD, length, drop, set}
 use Rattle.lines.specs.Lines.{LineLists, lineLists, rowCount, startState}
 use Rattle.lines.specs.Columns.{anyInside}
 use Rattle.lines.specs.Marked.{markAt}
 use Rattle.lines.specs.Steps.{Ascending}
-use Rattle.line_strips.specs.Words.{bit}
-use Rattle.line_strips.specs.Strips.{Plan, planned, cell, wide, columns, Alone}
+use Rattle.line_bits.specs.Words.{bit}
+use Rattle.line_strips.specs.Strips.{Plan, planned, wide, columns}
+use Rattle.line_runs.specs.Runs.{overAt}
 use Rattle.line_columns.specs.Planned.{leftAt, heldAt, HeldWithin, PlanSized, BlockPlanned}
 
 -- accepted lists: their rows are whole
@@ -51,10 +51,6 @@ pub record RowThere (names : ℕ) (rows : List ℕ) (q : ℕ) : Type 0 where
 pub record Occupied (row : List ℕ) (r : Bool) : Type 0 where
   pub yes : r ≡ true → (s : ℕ) × (s < length row) × (getD row s 0 ≡ 0 → ⊥)
   pub no : r ≡ false → (s : ℕ) → s < length row → getD row s 0 ≡ 0
-
--- line l is over before crossing i
-unfoldable pub overAt : List ℕ → ℕ → ℕ → Bool
-overAt ls l i = cond (eqb i (length ls)) true (not (eqb (getD ls i 0) l))
 
 -- column c in its word of lasts: the other columns stay
 pub record LastPut (w w′ c : ℕ) (last : Bool) : Type 0 where
@@ -204,42 +200,9 @@ pub record PlanMade (names : ℕ) (rows ls : List ℕ) (p : Plan) (i q n i′ q�
 
 -- ---- a block of crossings alone
 
--- crossing i, which is not the list's last, is its line's last
-abbrev pub turnsAway : List ℕ → ℕ → Bool
-turnsAway ls i = not (eqb (getD ls (i + 1) 0) (getD ls i 0))
-
--- crossing i is its line's last
-abbrev pub endsLine : List ℕ → ℕ → Bool
-endsLine ls i = overAt ls (getD ls i 0) (i + 1)
-
--- of the k crossings from i on, a bit each
-pub record Ends (ls : List ℕ) (i k w : ℕ) : Type 0 where
-  pub on : (t : ℕ) → t < k → bit w t ≡ turnsAway ls (i + t)
-  pub off : (t : ℕ) → k ≤ t → t < 64 → bit w t ≡ false
-
--- of the 64 crossings from i on that there are, a bit each
-pub record LineEnds (ls : List ℕ) (i w : ℕ) : Type 0 where
-  pub on : (t : ℕ) → t < 64 → i + t < length ls → bit w t ≡ endsLine ls (i + t)
-
--- the first m of n crossings alone
-pub record RunMarked (ls : List ℕ) (i n : ℕ) (lasts : List ℕ) (m : ℕ) : Type 0 where
-  pub long : length lasts ≡ wide
-  pub are : (j : ℕ) → j < m → j < n → cell lasts j ≡ endsLine ls (i + j)
-
--- the first n of a block's columns are numbered
-pub record Numbered (cols : List ℕ) (n : ℕ) : Type 0 where
-  pub long : length cols ≡ columns
-  pub alone : Alone cols n
-
 -- the next n columns are crossings: a block full, or all that are left
 pub record RunsOn (ls : List ℕ) (count i q n : ℕ) : Type 0 where
   pub most : n ≤ columns
   pub there : i + n ≤ length ls
   pub whole : 0 < n → n < columns → i + n ≡ length ls
   pub before : 0 < n → q < count → getD ls (i + n - 1) 0 < q
-
--- of n columns m are taken: all, or fewer up to a line's end
-pub record CutTo (lasts : List ℕ) (n m : ℕ) : Type 0 where
-  pub fewer : m ≤ n
-  pub some : 0 < n → 0 < m
-  pub ends : m < n → cell lasts (m - 1) ≡ true

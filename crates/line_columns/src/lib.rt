@@ -5,12 +5,10 @@ ghost use Prim.Native.Nat.{_+_, _<_, _≤_};
 ghost use lib.ListN.{length};
 ghost use Rattle.lines.specs.Lines.{startState};
 ghost use Rattle.lines.specs.Columns.{anyInside};
-ghost use Rattle.line_strips.specs.Strips.{wide, columns, planned, SaidAlone};
-ghost use Rattle.line_columns.specs.Steps.{NextInside, WholeRows, RowThere, Occupied, StartsNext, overAt, turnsAway, LastPut, StartReady, StartPut, CrossingReady, CrossingPut, UntilReady, UntilPut, CrossingsReady, CrossingsPut, CanPlan, WordNext, WordPlanned, PlanMade, Ends, LineEnds, RunMarked, Numbered, RunsOn, CutTo};
+ghost use Rattle.line_strips.specs.Strips.{columns, planned, SaidAlone};
+ghost use Rattle.line_columns.specs.Steps.{NextInside, WholeRows, RowThere, Occupied, StartsNext, LastPut, StartReady, StartPut, CrossingReady, CrossingPut, UntilReady, UntilPut, CrossingsReady, CrossingsPut, CanPlan, WordNext, WordPlanned, PlanMade, RunsOn};
 
 const W: usize = line_strips::W;
-
-const LAST: usize = W - 1;
 
 const COLUMNS: usize = line_strips::COLUMNS;
 
@@ -72,17 +70,6 @@ pub fn next_inside(rows: &[u8], names: usize, count: usize, r: usize) -> usize
     q
 }
 
-// Line l is over before crossing i.
-fn is_over(line: &[u32], l: usize, i: usize) -> bool
-    requires { ⌜ i ≤ length (now line) ⌝ }
-    ensures { λ r. ⌜ r ≡ overAt (now (line .entry)) l i ⌝ }
-{
-    if i == line.len() {
-        return true;
-    }
-    basics::wide_long(line[i]) != l
-}
-
 fn one_if(last: bool) -> u64
     ensures { λ r. ⌜ r ≡ cond last 1 0 ⌝ }
 {
@@ -132,7 +119,7 @@ fn start_column(
     let i = at.next.i;
     let q = at.next.q;
     let c = at.next.c;
-    let last = is_over(line, q, i);
+    let last = line_runs::is_over(line, q, i);
     cols[c] = START;
     starts[c] = q as u32;
     let lasts = put_last(at.lasts, c, last);
@@ -167,14 +154,6 @@ fn crossing_column(cols: &mut [u16; COLUMNS], a: usize, last: bool, at: Word) ->
     }
 }
 
-// The crossing at i, which is not the list's last, is its line's last.
-fn turns_away(line: &[u32], i: usize) -> bool
-    requires { ⌜ i + 1 < length (now line) ⌝ }
-    ensures { λ r. ⌜ r ≡ turnsAway (now (line .entry)) i ⌝ }
-{
-    line[i + 1] != line[i]
-}
-
 // The line of the next start, or a line beyond all.
 fn start_line(count: usize, q: usize) -> usize
     ensures { λ r. ⌜ (q < count → r ≤ q) ⌝ }
@@ -203,7 +182,7 @@ fn cross_until(
         if limit <= basics::wide_long(line[i]) {
             return at;
         }
-        let last = turns_away(line, i);
+        let last = line_runs::turns_away(line, i);
         at = crossing_column(cols, a, last, at);
     }
     at
@@ -224,7 +203,7 @@ fn crossings(
     let i = at.next.i;
     let stop = basics::part_end(i, line.len(), end - at.next.c);
     let limit = start_line(count, at.next.q);
-    let last = is_over(line, basics::wide_long(line[i]), i + 1);
+    let last = line_runs::is_over(line, basics::wide_long(line[i]), i + 1);
     let first = crossing_column(cols, a, last, at);
     cross_until(cols, line, a, limit, stop, first)
 }
@@ -294,101 +273,6 @@ fn plan_each(
     f
 }
 
-// 1 if the crossing at i, which is not the list's last, is its line's last.
-fn flag(line: &[u32], i: usize) -> u64
-    requires { ⌜ i + 1 < length (now line) ⌝ }
-    ensures { λ r. ⌜ Ends (now (line .entry)) i 1 r ⌝ }
-{
-    if line[i + 1] != line[i] {
-        return 1;
-    }
-    0
-}
-
-// The same of two, four and eight crossings, a bit each. Written out, so that they are compared at once.
-fn flags_2(line: &[u32], i: usize) -> u64
-    requires { ⌜ i + 2 < length (now line) ⌝ }
-    ensures { λ r. ⌜ Ends (now (line .entry)) i 2 r ⌝ }
-{
-    flag(line, i) | (flag(line, i + 1) << 1)
-}
-
-fn flags_4(line: &[u32], i: usize) -> u64
-    requires { ⌜ i + 4 < length (now line) ⌝ }
-    ensures { λ r. ⌜ Ends (now (line .entry)) i 4 r ⌝ }
-{
-    flags_2(line, i) | (flags_2(line, i + 2) << 2)
-}
-
-fn flags_8(line: &[u32], i: usize) -> u64
-    requires { ⌜ i + 8 < length (now line) ⌝ }
-    ensures { λ r. ⌜ Ends (now (line .entry)) i 8 r ⌝ }
-{
-    flags_4(line, i) | (flags_4(line, i + 4) << 4)
-}
-
-// The same of 64.
-fn flags(line: &[u32], i: usize) -> u64
-    requires { ⌜ i + 64 < length (now line) ⌝ }
-    ensures { λ r. ⌜ Ends (now (line .entry)) i 64 r ⌝ }
-{
-    let mut w: u64 = 0;
-    let mut t: usize = 0;
-    while t < 64 {
-        w = w | (flags_8(line, i + t) << t);
-        t += 8;
-    }
-    w
-}
-
-// The same of those that are left, 64 at most, one by one: the list's last crossing is its line's last.
-fn rest_flags(line: &[u32], i: usize) -> u64
-    requires { ⌜ (i < length (now line)) × (length (now line) ≤ i + 64) ⌝ }
-    ensures { λ r. ⌜ LineEnds (now (line .entry)) i r ⌝ }
-{
-    let mut w: u64 = 0;
-    let mut t: usize = 0;
-    while t + 1 < line.len() - i {
-        w = w | (flag(line, i + t) << t);
-        t += 1;
-    }
-    w | (1 << t)
-}
-
-// Which of the crossings from i on are their lines' last, a bit each.
-fn line_ends(line: &[u32], i: usize) -> u64
-    requires { ⌜ i < length (now line) ⌝ }
-    ensures { λ r. ⌜ LineEnds (now (line .entry)) i r ⌝ }
-{
-    if 64 < line.len() - i {
-        return flags(line, i);
-    }
-    rest_flags(line, i)
-}
-
-// The lasts of n crossings alone, from i on.
-fn mark_run(lasts: &mut [u64; W], line: &[u32], i: usize, n: usize)
-    requires { ⌜ (length (now lasts) ≡ wide) × (n ≤ columns) × (i + n ≤ length (now line)) ⌝ }
-    ensures { λ _. ⌜ RunMarked (now (line .entry)) i n (now (lasts .exit)) n ⌝ }
-{
-    let mut k: usize = 0;
-    while 64 * k < n {
-        lasts[k] = line_ends(line, i + 64 * k);
-        k += 1;
-    }
-}
-
-fn number(cols: &mut [u16; COLUMNS])
-    requires { ⌜ length (now cols) ≡ columns ⌝ }
-    ensures { λ _. ⌜ Numbered (now (cols .exit)) columns ⌝ }
-{
-    let mut c: usize = 0;
-    while c < COLUMNS {
-        cols[c] = c as u16;
-        c += 1;
-    }
-}
-
 // How many crossings the next block may have with no line's start among them: as many as there is room for or as there are; 0 where a start stands among those.
 fn run_length(line: &[u32], count: usize, f: Cursor) -> usize
     requires { ⌜ f .i ≤ length (now line) ⌝ }
@@ -407,21 +291,6 @@ fn run_length(line: &[u32], count: usize, f: Cursor) -> usize
         return e - i;
     }
     0
-}
-
-// Of n crossings alone, as many as the block takes: where it is full, up to the last line's end in its last word, so that the next block begins with a line and no shape's state has to be carried.
-fn cut(lasts: &[u64; W], n: usize) -> usize
-    requires { ⌜ length (now lasts) ≡ wide ⌝ }
-    ensures { λ r. ⌜ CutTo (now (lasts .entry)) n r ⌝ }
-{
-    if n < COLUMNS {
-        return n;
-    }
-    let j = line_strips::after_last(lasts[LAST]);
-    if j == 0 {
-        return n;
-    }
-    64 * LAST + j
 }
 
 // The columns of the block that begins at a cursor, and how it ends. Crossings alone are marked many at a time.
@@ -445,9 +314,9 @@ pub fn plan(
     }
     let i = from.i;
     let q = from.q;
-    number(cols);
-    mark_run(lasts, line, i, n);
-    let m = cut(lasts, n);
+    line_runs::number(cols);
+    line_runs::mark_run(lasts, line, i, n);
+    let m = line_runs::cut(lasts, n);
     Ended {
         next: Cursor { i: i + m, q, c: m },
         alone: true,

@@ -7,12 +7,12 @@ use mathlib.Core.Bool.{Bool, true, false, not, _&&_, _||_}
 use mathlib.Core.List.{List, _++_, append-assoc, append-nil}
 use lib.Bits.{bitAnd, bitOr, bitXor}
 use Rattle.formula.specs.Formula.{exclusive, meaning}
-use Rattle.line_strips.specs.Words.{bit}
+use Rattle.line_bits.specs.Words.{bit}
 use Rattle.line_strips.specs.Strips.{columns}
 use Rattle.line_events.specs.Events.{eventsAt, metalAfter, eventsAfter}
 use Rattle.line_events.specs.Steps.{Noted, GoesOn, Before, FirstOn, someIf, markedEvents, WordPart, WordAlone, SweptAlone}
 use Rattle.line_events.specs.declared.Found.{Found}
-use Rattle.line_strips.proofs.Digits.{bit-and, bit-or, bit-xor}
+use Rattle.line_bits.proofs.Digits.{bit-and, bit-or, bit-xor}
 use Rattle.line_events.proofs.ListedLaws.{events-more, metal-more}
 use Rattle.line_events.proofs.MarkedLaws.{marked-zero, marked-more, marked-few, marked-skip}
 

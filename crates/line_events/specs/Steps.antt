@@ -7,7 +7,7 @@ use lib.Dec.{eqb}
 use lib.IntN.{ℤ, pos}
 use lib.ListN.{length, take, getD}
 use lib.Signed.{ltZ}
-use Rattle.line_strips.specs.Words.{bit}
+use Rattle.line_bits.specs.Words.{bit}
 use Rattle.line_strips.specs.Strips.{columns}
 use Rattle.line_events.specs.Events.{metalAfter, eventsAfter}
 use Rattle.line_events.specs.declared.Found.{Found}
@@ -67,18 +67,6 @@ pub record Before (w y : ℕ) (metal : Bool) (r : ℕ) : Type 0 where
 pub record FirstOn (m r : ℕ) : Type 0 where
   pub on : (b : ℕ) → b < m → bit r b ≡ true
   pub off : (b : ℕ) → m ≤ b → bit r b ≡ false
-
--- bit z is the lowest of d that is on
-pub record Lowest (d z : ℕ) : Type 0 where
-  pub low : z < 64
-  pub on : bit d z ≡ true
-  pub off : (b : ℕ) → b < z → bit d b ≡ false
-
--- r is d without the lowest bit that is on
-pub record Others (d r : ℕ) : Type 0 where
-  pub less : 0 < d → r < d
-  pub kept : (z b : ℕ) → Lowest d z → z < b → bit r b ≡ bit d b
-  pub gone : (z b : ℕ) → Lowest d z → b ≤ z → bit r b ≡ false
 
 -- bit b of w as a number
 pub record BitOf (w b r : ℕ) : Type 0 where

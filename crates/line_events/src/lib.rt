@@ -6,9 +6,9 @@ ghost use Prim.Native.Nat.{_+_, _*_, _≤_, _<_};
 ghost use lib.Dec.{eqb};
 ghost use lib.ListN.{length};
 ghost use Rattle.lines.specs.Steps.{groupEndsAt};
-ghost use Rattle.line_strips.specs.Words.{bit};
+ghost use Rattle.line_bits.specs.Words.{bit};
 ghost use Rattle.line_strips.specs.Strips.{wide, columns};
-ghost use Rattle.line_events.specs.Steps.{NoteRoom, oneIf, risesAt, AllHold, GoesOn, Before, FirstOn, Lowest, Others, BitOf, someIf, markedEvents, RoomFrom, SweptAlone, Noted, WordPart};
+ghost use Rattle.line_events.specs.Steps.{NoteRoom, oneIf, risesAt, AllHold, GoesOn, Before, FirstOn, BitOf, someIf, markedEvents, RoomFrom, SweptAlone, Noted, WordPart};
 
 const COLUMNS: usize = line_strips::COLUMNS;
 
@@ -103,21 +103,6 @@ fn first_bits(m: usize) -> u64
     0xFFFF_FFFF_FFFF_FFFF >> (64 - m)
 }
 
-// The lowest bit that is on.
-fn lowest(d: u64) -> usize
-    requires { ⌜ 0 < d ⌝ }
-    ensures { λ r. ⌜ Lowest d r ⌝ }
-{
-    basics::wide_long(u64::trailing_zeros(d))
-}
-
-// All bits that are on but the lowest.
-fn others(d: u64) -> u64
-    ensures { λ r. ⌜ Others d r ⌝ }
-{
-    d & std::num::wrapping_sub_u64(d, 1)
-}
-
 // 1 if bit b is on, else 0.
 fn one_at(w: u64, b: usize) -> u16
     requires { ⌜ b < 64 ⌝ }
@@ -161,8 +146,8 @@ fn note_marked(changes: u64, opens: u64, k: usize, events: &mut [u16; EVENTS], c
     let mut d = changes | opens;
     let mut n = count;
     while 0 < d {
-        n = step_alone(changes, opens, k, lowest(d), events, n);
-        d = others(d);
+        n = step_alone(changes, opens, k, line_bits::lowest(d), events, n);
+        d = line_bits::others(d);
     }
     n
 }
@@ -175,9 +160,9 @@ fn note_changes(changes: u64, k: usize, events: &mut [u16; EVENTS], count: u16) 
     let mut d = changes;
     let mut n = basics::wide(count);
     while 0 < d {
-        events[n] = basics::narrow(64 * k + lowest(d));
+        events[n] = basics::narrow(64 * k + line_bits::lowest(d));
         n += 1;
-        d = others(d);
+        d = line_bits::others(d);
     }
     basics::narrow(n)
 }
@@ -224,5 +209,5 @@ pub fn sweep_alone(
 // Whether more than three columns of a word may be events: then it pays to look at all of its crossings.
 pub fn many_noisy(w: u64, y: u64, metal: bool) -> bool {
     let opens = w & y;
-    others(others(others(w ^ before(w, y, metal) | opens))) != 0
+    line_bits::others(line_bits::others(line_bits::others(w ^ before(w, y, metal) | opens))) != 0
 }

@@ -9,10 +9,11 @@ use borrow.Author.Tests.{le-leb, lt-leb}
 use Rattle.formula.specs.States.{State}
 use Rattle.lines.specs.Lines.{startState}
 use Rattle.lines.specs.Columns.{only}
-use Rattle.line_strips.specs.Words.{bit}
-use Rattle.line_strips.specs.Strips.{wide, columns, cell, on, entering, leaving}
-use Rattle.line_strips.specs.Steps.{Legible, turnsOf, none, One, Moved, Inner, Span, Spans, Flips, SpanTurned, SpanFlips, Laid, Lays, LaysSome, Layable, Named, LaysRun, Bytes}
-use Rattle.line_strips.proofs.Spans.{none-from, one-small}
+use Rattle.line_bits.specs.Words.{bit}
+use Rattle.line_strips.specs.Strips.{wide, cell, on, entering, leaving}
+use Rattle.line_bits.specs.Bits.{none, One, Moved, Inner, Span, Spans}
+use Rattle.line_strips.specs.Steps.{Legible, turnsOf, Flips, SpanTurned, SpanFlips, Laid, Lays, LaysSome, Layable, Named, LaysRun, Bytes}
+use Rattle.line_bits.proofs.Spans.{none-from, one-small}
 use Rattle.line_strips.proofs.Stores.{same?, apart-none, apart-more}
 use Rattle.line_strips.proofs.Turns.{legible-less, legible-next, row-there, row-bytes, start-turns, crossing-there, crossing-named, crossing-turns}
 

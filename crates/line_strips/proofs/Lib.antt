@@ -1,5 +1,3 @@
-pub mod Digits
-pub mod Spans
 pub mod Stores
 pub mod Turns
 pub mod Lays

@@ -8,11 +8,12 @@ use lib.ListN.{length, getD, set, length-set}
 use lib.Seq.{getD-set-same, getD-set-other}
 use borrow.Author.Tests.{eq-eqb, ne-eqb}
 use Rattle.formula.specs.States.{State}
-use Rattle.line_strips.specs.Words.{bit}
+use Rattle.line_bits.specs.Words.{bit}
 use Rattle.line_strips.specs.Strips.{wide, columns, cell, on, entering}
-use Rattle.line_strips.specs.Steps.{none, Inner, Span, Spans, Since, Apart, Flips, Blank, Right, Within, Replayed, Masked, Carried, Row, Opened, Opens, Begins}
-use Rattle.line_strips.proofs.Digits.{shift-bit}
-use Rattle.line_strips.proofs.Spans.{one-first}
+use Rattle.line_bits.specs.Bits.{none, Inner, Span, Spans, Since, Masked}
+use Rattle.line_strips.specs.Steps.{Apart, Flips, Blank, Right, Within, Replayed, Carried, Row, Opened, Opens, Begins}
+use Rattle.line_bits.proofs.Digits.{shift-bit}
+use Rattle.line_bits.proofs.Spans.{one-first}
 use Rattle.line_strips.proofs.Stores.{same?, on-word, store-here, store-other, off-word, apart-none, apart-more}
 use Rattle.line_strips.proofs.Lays.{entering-last, entering-more, cell-word, span-column}
 

@@ -1,42 +1,22 @@
 -- A column's shapes turned: a start row's byte by byte, or one crossing's.
-use Prim.Native.Nat.{ℕ, _+_, _-_, _*_, _≤_, _<_}
+use Prim.Native.Nat.{ℕ, _+_, _-_, _*_, _/_, _%_, _≤_, _<_}
 use mathlib.Core.Path.{_≡_, refl, sym, ap, _∙_}
-use mathlib.Core.Bool.{Bool, true, false, _&&_}
+use mathlib.Core.Bool.{Bool, true, false, _&&_, true≢false}
 use mathlib.Core.List.{List}
 use native.Mathlib.Omega.{arith}
 use lib.Dec.{eqb, ltb}
-use lib.Bits.{bitOr, bitXor, or-add-and, and-le-l, and-le-r}
+use lib.Bits.{bitXor}
 use lib.ListN.{length, getD, set, take, drop, length-take, length-drop, length-set}
 use lib.Seq.{getD-take, getD-drop}
-use borrow.Author.Tests.{eqb-true, eq-eqb, ne-eqb, lt-ltb, le-ltb, ltb-true, ltb-false}
+use borrow.Author.Tests.{eq-eqb, ne-eqb, lt-ltb, le-ltb, ltb-true, ltb-false}
 use Rattle.lines.specs.Lines.{startState}
 use Rattle.lines.specs.Columns.{only}
-use Rattle.line_strips.specs.Words.{bit}
+use Rattle.line_bits.specs.Words.{bit}
+use Rattle.line_bits.specs.Bits.{Lowest, Others, Binary, Woven}
 use Rattle.line_strips.specs.Strips.{wide, turnsAt}
-use Rattle.line_strips.specs.Steps.{Turnable, Legible, Fillable, turnsOf, insideTo, Bytes, Quiet, Flips, GoesOn, InWord, Layable}
-use Rattle.line_strips.proofs.Digits.{bit-times}
-use Rattle.line_strips.proofs.Stores.{same?, flips-none, flips-same, flips-more}
-
--- ---- bytes of zeros
-pub record ZerosTo (bytes : List ℕ) (all i : ℕ) : Type 0 where
-  pub far : i ≤ length bytes
-  pub is : all ≡ 0 → (j : ℕ) → j < i → getD bytes j 0 ≡ 0
-
-pub zeros-none : (bytes : List ℕ) → ZerosTo bytes 0 0
-zeros-none bytes = record { far = omega arith; is = λ e j h. absurd (omega arith) }
-
-pub zeros-more : (bytes : List ℕ) (all i : ℕ) → ZerosTo bytes all i → i < length bytes → ZerosTo bytes (bitOr all (getD bytes i 0)) (i + 1)
-zeros-more bytes all i z l =
-    record {
-      far = omega arith;
-      is = λ e j h.
-          same? j i
-          (λ q. rw q (omega (arith, or-add-and all (getD bytes i 0), and-le-l all (getD bytes i 0))))
-          (λ q. z .is (omega (arith, or-add-and all (getD bytes i 0), and-le-r all (getD bytes i 0))) j (omega arith));
-    }
-
-pub zeros-all : (bytes : List ℕ) (all i : ℕ) → ZerosTo bytes all i → length bytes ≤ i → Quiet bytes (eqb all 0)
-zeros-all bytes all i z l = record { zeros = λ e j h. z .is (eqb-true all 0 e) j (omega arith) }
+use Rattle.line_strips.specs.Steps.{Turnable, Legible, Fillable, turnsOf, insideTo, Bytes, Flips, GoesOn, InWord, Layable}
+use Rattle.line_bits.proofs.Digits.{bit-times, bit-none}
+use Rattle.line_strips.proofs.Stores.{flips-none, flips-same, flips-more}
 
 -- ---- a start row
 inside-next : (row : List ℕ) (s : ℕ) → insideTo row (s + 1) s ≡ eqb (getD row s 0) 1
@@ -46,14 +26,6 @@ inside-next row s = rw (lt-ltb s (s + 1) (omega arith))
 inside-not : (row : List ℕ) (e s : ℕ) → e ≤ s → insideTo row e s ≡ false
 unfolding insideTo
 inside-not row e s h = rw (le-ltb s e h)
-
-inside-zero : (row : List ℕ) (e s : ℕ) → getD row s 0 ≡ 0 → insideTo row e s ≡ false
-unfolding insideTo
-inside-zero row e s h = rw h (go (ltb s e))
-  where
-    go : (t : Bool) → (t && false) ≡ false
-    go true = refl
-    go false = refl
 
 inside-below : (row : List ℕ) (e s : ℕ) → s < e → insideTo row e s ≡ eqb (getD row s 0) 1
 unfolding insideTo
@@ -100,34 +72,84 @@ byte-fits row s e b h l = b .bits s (omega arith)
 pub row-fits : (row ws ws′ : List ℕ) (k m a s e : ℕ) → Bytes row → TurnedTo row k m a s e ws ws′ → s < e → e ≤ length row → 256 * wide ≤ length ws → k < wide → s * wide + k < length ws′
 row-fits row ws ws′ k m a s e b t h l r w = omega (arith, b .few, t .long)
 
--- a chunk that has no shape inside
-quiet-part : (row : List ℕ) (k m s e : ℕ) (ws : List ℕ) (told : Bool) → Quiet (take (e - s) (drop s row)) told → told ≡ true → s ≤ e → e ≤ length row → GoesOn row k m s e ws ws
-quiet-part row k m s e ws told z y h l =
-    record { is = λ before f. flips-same (length row) (insideTo row s) (insideTo row e) k m before ws f same }
+-- from s to e no shape is inside that is not told of before
+inside-quiet : (row : List ℕ) (s e u : ℕ) → s ≤ e → (s ≤ u → u < e → eqb (getD row u 0) 1 ≡ false) → insideTo row e u ≡ insideTo row s u
+inside-quiet row s e u h off = go (ltb u s) refl
   where
-    same : (u : ℕ) → u < length row → insideTo row e u ≡ insideTo row s u
-    same u n = go (ltb u s) refl
+    go : (t : Bool) → ltb u s ≡ t → insideTo row e u ≡ insideTo row s u
+    go true q = inside-below row e u (omega (arith, ltb-true u s q)) ∙ sym (inside-below row s u (ltb-true u s q))
+    go false q = more (ltb u e) refl
       where
-        go : (t : Bool) → ltb u s ≡ t → insideTo row e u ≡ insideTo row s u
-        go true q = inside-below row e u (omega (arith, ltb-true u s q)) ∙ sym (inside-below row s u (ltb-true u s q))
-        go false q = more (ltb u e) refl
-          where
-            after : s ≤ u
-            after = ltb-false u s q
+        more : (t : Bool) → ltb u e ≡ t → insideTo row e u ≡ insideTo row s u
+        more false p = inside-not row e u (ltb-false u e p) ∙ sym (inside-not row s u (ltb-false u s q))
+        more true p = inside-below row e u (ltb-true u e p) ∙ off (ltb-false u s q) (ltb-true u e p) ∙ sym (inside-not row s u (ltb-false u s q))
 
-            more : (t : Bool) → ltb u e ≡ t → insideTo row e u ≡ insideTo row s u
-            more false p = inside-not row e u (ltb-false u e p) ∙ sym (inside-not row s u after)
-            more true p =
-                let lo : s ≤ u = after in
-                let far : u < e = ltb-true u e p in
-                let i : u - s < e - s = omega arith in
-                let at : s + (u - s) ≡ u = omega arith in
-                let fits : u - s < length (take (e - s) (drop s row)) = omega (arith, length-take (e - s) (drop s row), length-drop s row) in
-                let none : getD row u 0 ≡ 0 = ap (λ (x : ℕ). getD row x 0) (sym at) ∙ sym (getD-drop s row (u - s) 0) ∙ sym (getD-take (e - s) (drop s row) (u - s) 0 i) ∙ z .zeros y (u - s) fits in
-                inside-zero row e u none ∙ sym (inside-not row s u after)
+-- a chunk woven into a word
+pub bytes-binary : (row : List ℕ) → Bytes row → Binary row
+bytes-binary row b = record { bits = b .bits }
 
-pub quiet-chunk : (row : List ℕ) (k m s n : ℕ) (ws : List ℕ) (told : Bool) → Quiet (take (s + n - s) (drop s row)) told → told ≡ true → s + n ≤ length row → GoesOn row k m s (s + n) ws ws
-quiet-chunk row k m s n ws told z y l = quiet-part row k m s (s + n) ws told z y (omega arith) l
+module _ (row : List ℕ) (k m s w : ℕ) (woven : Woven row s 8 4 w) where
+  -- the bit of a byte
+  byte-bit : (u : ℕ) → s ≤ u → u < s + 32 → bit w (8 * ((u - s) % 8) + (u - s) / 8) ≡ eqb (getD row u 0) 1
+  byte-bit u l h =
+      let at : s + (u - s) % 8 + 8 * ((u - s) / 8) ≡ u = omega arith in
+      woven .are ((u - s) % 8) ((u - s) / 8) (omega arith) (omega arith) ∙ ap (λ (x : ℕ). eqb (getD row x 0) 1) at
+
+  pub chunk-none : (ws : List ℕ) → w ≡ 0 → GoesOn row k m s (s + 32) ws ws
+  chunk-none ws z =
+      record {
+        is = λ before f.
+            flips-same (length row) (insideTo row s) (insideTo row (s + 32)) k m before ws f
+            (λ u n. inside-quiet row s (s + 32) u (omega arith) (λ l h. sym (byte-bit u l h) ∙ ap (λ (x : ℕ). bit x (8 * ((u - s) % 8) + (u - s) / 8)) z ∙ bit-none (8 * ((u - s) % 8) + (u - s) / 8)));
+      }
+
+  module _ (t r : ℕ) (low : Lowest w t) (others : Others w r) (lone : r ≡ 0) where
+    -- no other bit is on
+    bit-other : (c : ℕ) → (c ≡ t → ⊥) → bit w c ≡ false
+    bit-other c n = go (ltb c t) refl
+      where
+        go : (q : Bool) → ltb c t ≡ q → bit w c ≡ false
+        go true q = low .off c (ltb-true c t q)
+        go false q = sym (others .kept t c low (omega (arith, ltb-false c t q))) ∙ ap (λ (x : ℕ). bit x c) lone ∙ bit-none c
+
+    whole : 8 * (t / 8) + t % 8 ≡ t
+    whole = omega arith
+
+    lone-near : t % 8 < 4
+    lone-near = go (ltb (t % 8) 4) refl
+      where
+        go : (q : Bool) → ltb (t % 8) 4 ≡ q → t % 8 < 4
+        go true q = ltb-true (t % 8) 4 q
+        go false q =
+            absurd (true≢false (sym (low .on) ∙ ap (bit w) (sym whole) ∙ woven .beyond (t / 8) (t % 8) (omega (arith, low .low)) (ltb-false (t % 8) 4 q) (omega arith)))
+
+    lone-within : s + t / 8 + t % 8 * 8 < s + 32
+    lone-within = omega (arith, lone-near, low .low)
+
+    pub lone-fits : (u : ℕ) (ws : List ℕ) → u ≡ s + t / 8 + t % 8 * 8 → Bytes row → s + 32 ≤ length row → 256 * wide ≤ length ws → k < wide → u * wide + k < length ws
+    lone-fits u ws is bytes far room word = omega (arith, is, lone-within, bytes .few)
+
+    lone-on : insideTo row (s + 32) (s + t / 8 + t % 8 * 8) ≡ true
+    lone-on =
+        let at : s + t / 8 + 8 * (t % 8) ≡ s + t / 8 + t % 8 * 8 = omega arith in
+        inside-below row (s + 32) (s + t / 8 + t % 8 * 8) lone-within
+        ∙ sym (woven .are (t / 8) (t % 8) (omega (arith, low .low)) lone-near ∙ ap (λ (x : ℕ). eqb (getD row x 0) 1) at)
+        ∙ ap (bit w) whole ∙ low .on
+
+    lone-other : (u : ℕ) → (u ≡ s + t / 8 + t % 8 * 8 → ⊥) → insideTo row (s + 32) u ≡ insideTo row s u
+    lone-other u n =
+        inside-quiet row s (s + 32) u (omega arith)
+        (λ l h. sym (byte-bit u l h) ∙ bit-other (8 * ((u - s) % 8) + (u - s) / 8) (λ q. n (omega arith)))
+
+    pub chunk-lone : (u : ℕ) (ws ws′ : List ℕ) → u ≡ s + t / 8 + t % 8 * 8 → ws′ ≡ set ws (u * wide + k) (bitXor (getD ws (u * wide + k) 0) m) → Bytes row → s + 32 ≤ length row → 256 * wide ≤ length ws → k < wide
+        → GoesOn row k m s (s + 32) ws ws′
+    chunk-lone u ws ws′ is stored bytes far room word = rw (stored, is)
+        (record {
+          is = λ before f.
+              flips-more (length row) (insideTo row s) (insideTo row (s + 32)) k m m (s + t / 8 + t % 8 * 8) before ws f
+              (omega (arith, lone-within, bytes .few)) word (λ h. inside-not row s (s + t / 8 + t % 8 * 8) (omega arith))
+              (λ b h. ap (λ (x : Bool). x && bit m b) (sym lone-on)) lone-other;
+        })
 
 -- a whole row
 pub record Rowed (row : List ℕ) (k m s : ℕ) (ws ws′ : List ℕ) : Type 0 where

@@ -1,5 +1,5 @@
 -- What a fill needs and gives, and what its steps keep: the shapes' rows word by word.
-use Prim.Native.Nat.{ℕ, zero, suc, _+_, _-_, _*_, _/_, _^_, _≤_, _<_}
+use Prim.Native.Nat.{ℕ, _+_, _-_, _*_, _/_, _≤_, _<_}
 use mathlib.Core.Path.{_≡_}
 use mathlib.Core.Bool.{Bool, true, false, not, _&&_, cond}
 use mathlib.Core.List.{List, []}
@@ -8,7 +8,8 @@ use lib.ListN.{length, getD}
 use Rattle.formula.specs.States.{State}
 use Rattle.lines.specs.Lines.{LineLists, lineLists}
 use Rattle.lines.specs.Columns.{only}
-use Rattle.line_strips.specs.Words.{bit}
+use Rattle.line_bits.specs.Words.{bit}
+use Rattle.line_bits.specs.Bits.{none, One, Inner}
 use Rattle.line_strips.specs.Strips.{wide, columns, cell, on, planned, turnsAt, lastAt, entering, leaving, Filled, Alone}
 
 -- ---- a fill
@@ -60,41 +61,6 @@ insideTo row e s = ltb s e && eqb (getD row s 0) 1
 pub record Bytes (row : List ℕ) : Type 0 where
   pub few : length row ≤ 256
   pub bits : (s : ℕ) → s < length row → getD row s 0 ≤ 1
-
--- A yes says that all bytes are zeros.
-pub record Quiet (bytes : List ℕ) (told : Bool) : Type 0 where
-  pub zeros : told ≡ true → (i : ℕ) → i < length bytes → getD bytes i 0 ≡ 0
-
--- From i on, d of them: none.
-unfoldable pub none : (ℕ → Bool) → ℕ → ℕ → Bool
-none f i zero = true
-none f i (suc d) = not (f i) && none f (suc i) d
-
--- A word with bit j alone, if it has one.
-pub record One (one j : ℕ) : Type 0 where
-  pub is : j < 64 → one ≡ 2 ^ j
-
-pub record Moved (one r : ℕ) : Type 0 where
-  pub is : (j : ℕ) → One one j → One r (j + 1)
-
--- The bits of w that are off, but for the last.
-pub record Inner (w rest : ℕ) : Type 0 where
-  pub small : rest < 2 ^ 63
-  pub is : (b : ℕ) → b < 63 → bit rest b ≡ not (bit w b)
-
--- A word whose bits are on from j to the first one that is on in w, or to the last.
-pub record Span (w j m : ℕ) : Type 0 where
-  pub is : (b : ℕ) → b < 64 → bit m b ≡ (leb j b && none (bit w) j (b - j))
-
--- Whatever word w has the bits of `rest` off, and whatever bit j is that of `one`.
-pub record Spans (rest one m : ℕ) : Type 0 where
-  pub is : (w j : ℕ) → Inner w rest → One one j → j < 64 → Span w j m
-
--- The last bit that is on is the one before r; with r 0 nothing is said.
-pub record Since (w r : ℕ) : Type 0 where
-  pub most : r ≤ 64
-  pub last : 0 < r → bit w (r - 1) ≡ true
-  pub none : 0 < r → (b : ℕ) → r ≤ b → b < 64 → bit w b ≡ false
 
 -- No word but k changes, of the names' rows.
 pub record Apart (names k : ℕ) (words words′ : List ℕ) : Type 0 where
@@ -168,10 +134,6 @@ pub record Within (names : ℕ) (turns : ℕ → State) (last : ℕ → Bool) (f
 pub record Replayed (names : ℕ) (turns : ℕ → State) (k m c e : ℕ) (words words′ : List ℕ) : Type 0 where
   pub apart : Apart names k words words′
   pub here : (last : ℕ → Bool) (first : State) → Within names turns last first c e → (s b : ℕ) → s < names → b < 64 → on words′ s (64 * k + b) ≡ (entering turns last first e s && bit m b)
-
--- By the last bit of w, the bits of m or none.
-pub record Masked (w m r : ℕ) : Type 0 where
-  pub is : (b : ℕ) → b < 64 → bit r b ≡ (bit w 63 && bit m b)
 
 -- Word `to` of the first n rows is the last column of word k at the bits of m; the rows from n on are as they were.
 pub record Carried (n k to m : ℕ) (words words′ : List ℕ) : Type 0 where

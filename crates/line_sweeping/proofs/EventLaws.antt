@@ -1,7 +1,6 @@
 -- The events, one column on; columns that change nothing.
-use Prim.Native.Nat.{ℕ, zero, suc, _+_, _-_, _*_, _/_, _%_, _≤_, _<_}
+use Prim.Native.Nat.{ℕ, zero, suc, _+_, _-_, _*_, _≤_, _<_}
 use native.Mathlib.Numerals.{add-one}
-use native.Mathlib.Decide.{decLt}
 use native.Mathlib.Omega.{arith}
 use mathlib.Core.Path.{_≡_, refl, sym, ap, _∙_}
 use mathlib.Core.Bool.{Bool, true, false, not, cond, _&&_, Bool·beq}
@@ -9,7 +8,7 @@ use mathlib.Core.List.{List, [], _∷_, append-nil}
 use lib.IntN.{ℤ}
 use lib.ListN.{length, take, set, getD, length-set}
 use lib.Seq.{take-suc-set}
-use Rattle.line_strips.specs.Words.{bit}
+use Rattle.line_bits.specs.Words.{bit}
 use Rattle.line_strips.specs.Strips.{cell, columns}
 use Rattle.line_events.specs.Events.{endsIn, settled, eventsAt, metalNext, metalAfter, eventsAfter}
 use Rattle.line_events.specs.Steps.{Noted, NoteRoom, WordPart, Events, Listed}

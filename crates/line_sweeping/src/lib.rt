@@ -6,7 +6,7 @@ ghost use Prim.Native.Nat.{ℕ, _+_, _*_, _/_, _^_, _≤_, _<_};
 ghost use lib.Count.{trailingZeros};
 ghost use lib.ListN.{length};
 ghost use Rattle.lines.specs.Steps.{groupEndsAt};
-ghost use Rattle.line_strips.specs.Words.{bit};
+ghost use Rattle.line_bits.specs.Words.{bit};
 ghost use Rattle.line_strips.specs.Strips.{columns, cell, SaidAlone};
 ghost use Rattle.line_events.specs.Events.{endsIn};
 ghost use Rattle.line_events.specs.Steps.{NoteRoom, WordPart, Listed};

@@ -1,12 +1,12 @@
--- The whole job: the walls from the first block to the last, and what the judgement decides of the answer and the lists.
-use Prim.Native.Nat.{ℕ, _+_, _*_, _/_}
-use mathlib.Core.Path.{_≡_, refl, ap, _∙_}
-use mathlib.Core.Bool.{Bool, true, false, _||_}
-use mathlib.Core.List.{List, []}
+-- What the judgement decides of the answer and the lists.
+use Prim.Native.Nat.{ℕ, _+_, _/_}
+use mathlib.Core.Path.{_≡_, ap}
+use mathlib.Core.Bool.{Bool}
+use mathlib.Core.List.{List}
 use borrow.Author.Tests.{leb-true}
-use lib.Dec.{ltb, leb}
+use lib.Dec.{leb}
 use lib.IntN.{ℤ}
-use lib.ListN.{length, take, replicate}
+use lib.ListN.{length}
 use Rattle.outcome.specs.Outcome.{given, _>>_, need}
 use Rattle.outcome.proofs.Questions.{need-yes}
 use Rattle.formula.specs.Formula.{Formula}
@@ -15,70 +15,12 @@ use Rattle.lines.proofs.Judgement.{both}
 use Rattle.line_checking.specs.Verdicts.{verdict, Judged}
 use Rattle.line_checking.specs.declared.Verdict.{Verdict}
 use Rattle.line_checking.specs.declared.Verdict.the-variants as verdicts
-use Rattle.line_strips.specs.Strips.{columns}
-use Rattle.line_words.specs.Stretches.{StandFor}
-use Rattle.line_words.specs.declared.Arranged.{Arranged}
-use Rattle.line_blocks.specs.Blocks.{Sized, CanPass, GoodLists}
-use Rattle.line_blocks.proofs.PassLaws.{going-start, passing-start, going-ask, passing-end, verdict-told}
-use Rattle.line_walls.specs.Answers.{LinesAnswered}
-use Rattle.line_writing.specs.Steps.{openOf, Roomy, Written}
-use Rattle.line_writing.specs.Blocks.{roomFor, Writing, StepAsk, StepDone}
-use Rattle.line_walls.specs.Blocks.{NothingDone, WallsWritten, WallsGiven, JobDone}
+use Rattle.line_blocks.specs.Blocks.{GoodLists}
+use Rattle.line_blocks.proofs.PassLaws.{verdict-told}
+use Rattle.line_writing.specs.Steps.{Roomy, Written}
+use Rattle.line_passing.specs.Blocks.{WallsGiven}
+use Rattle.line_walls.specs.Answers.{LinesAnswered, JobDone}
 use Rattle.line_walls.specs.declared.LinesAnswer.the-variants.{Walls, Refused}
-use Rattle.line_writing.specs.declared.Progress.{Progress}
-use Rattle.line_writing.proofs.ListLaws.{same-none, written-none}
-
--- ---- the pass
-
--- what the loop keeps
-pub record Looping (stretches links : List ℕ) (arranged : Arranged) (names : ℕ) (c : LineLists) (lent : AnswerLists) (count : ℕ) (words₀ words cols starts lasts events : List ℕ) (p : Progress) (now : AnswerLists) : Type 0 where
-  pub writing : Writing stretches links arranged names c lent words p now
-  pub kept : length words ≡ length words₀
-  pub sized : Sized cols starts lasts events
-  pub counted : count ≡ rowCount names (c .rows)
-
-module _ {stretches links : List ℕ} {arranged : Arranged} {names : ℕ} {air : Bool} {c : LineLists} {words : List ℕ} {lent : AnswerLists} where
-  pub looping-start : CanPass stretches links arranged names air c words → Roomy (roomFor names c) lent → {p : Progress} → NothingDone names (c .rows) p
-      → Looping stretches links arranged names c lent (rowCount names (c .rows)) words words (replicate columns 0) (replicate columns 0) (replicate 8 0) (replicate (2 * columns) 0) p lent
-  looping-start can room {p} b =
-      record {
-        writing =
-            record {
-              going = going-start can (b .begun);
-              room = room;
-              same = same-none;
-              passed = λ f st o. record { done = []; passing = rw (b .air) (passing-start can (b .begun) f); written = rw (b .none) written-none };
-            };
-        kept = refl;
-        sized = record { plan = record { cols = refl; starts = refl; lasts = refl }; events-sized = refl };
-        counted = refl;
-      }
-
-module _ {stretches links : List ℕ} {arranged : Arranged} {names : ℕ} {c : LineLists} {lent : AnswerLists} {count : ℕ} {words₀ words cols starts lasts events : List ℕ} {p : Progress} {now : AnswerLists} (l : Looping stretches links arranged names c lent count words₀ words cols starts lasts events p now) where
-  pub looping-sized : Sized cols starts lasts events
-  looping-sized = l .sized
-
-  pub looping-more : {words′ cols′ starts′ lasts′ events′ : List ℕ} {p′ : Progress} {after : AnswerLists} → StepDone stretches links arranged names c words p now words′ cols′ starts′ lasts′ events′ p′ after
-      → Looping stretches links arranged names c lent count words₀ words′ cols′ starts′ lasts′ events′ p′ after
-  looping-more d = record { writing = d .writing lent (l .writing); kept = d .long ∙ l .kept; sized = d .sized; counted = l .counted }
-
-  module _ {t : Bool} (is : t ≡ (ltb (p .pass .cursor .i) (length (c .lines)) || ltb (p .pass .cursor .q) count)) where
-    pub looping-ask : t ≡ true → StepAsk stretches links arranged names c words p now
-    looping-ask yes-left = record { lent = lent; writing = l .writing; ask = going-ask (l .writing .going) count (l .counted) t is yes-left }
-
-    pub looping-end : t ≡ false → WallsWritten stretches links arranged names c lent (p .run .count) now
-    looping-end none-left =
-        record {
-          written = λ f st o.
-              let q = l .writing .passed f st o in
-              rw (passing-end (l .writing .going) count (l .counted) t is f (openOf (p .run)) (q .done) none-left (q .passing)) (q .written);
-        }
-
-pub walls-given : {codes : List ℕ} {n names : ℕ} {c : LineLists} {lent : AnswerLists} {k : ℕ} {after : AnswerLists} {stretches links : List ℕ} {arranged : Arranged} → StandFor (take n codes) stretches links arranged → WallsWritten stretches links arranged names c lent k after
-    → WallsGiven codes n names c lent k after
-walls-given stand w = record { written = λ f q o. w .written f (rw q at stand) o }
-
--- ---- the judgement
 
 roomy-so : (n : ℕ) (lent : AnswerLists) → roomyLists n lent ≡ given tt → Roomy n lent
 roomy-so h lent e =

@@ -2,9 +2,10 @@
 use Prim.Native.Nat.{ℕ}
 use mathlib.Core.Path.{_≡_}
 use mathlib.Core.List.{List}
-use lib.ListN.{length}
+use lib.ListN.{length, take}
 use Rattle.outcome.specs.Outcome.{Outcome, given, refused, part}
-use Rattle.lines.specs.Lines.{AnswerLists, Wall}
+use Rattle.formula.specs.Formula.{Formula, postfix, Over}
+use Rattle.lines.specs.Lines.{LineLists, AnswerLists, Wall, classified}
 use Rattle.lines.specs.Given.{WallLists}
 use Rattle.line_walls.specs.declared.LinesAnswer.{LinesAnswer}
 use Rattle.line_walls.specs.declared.LinesAnswer.the-variants.{Walls, Refused}
@@ -17,3 +18,7 @@ answered (Refused number place) = refused number place
 pub record LinesAnswered (o : Outcome (List Wall)) (lent : AnswerLists) (r : LinesAnswer) (after : AnswerLists) : Type 0 where
   pub answer : answered r ≡ part length o
   pub lists : WallLists o lent after
+
+-- Of whatever formula the codes are.
+pub record JobDone (codes : List ℕ) (n names : ℕ) (c : LineLists) (lent : AnswerLists) (r : LinesAnswer) (after : AnswerLists) : Type 0 where
+  pub answered-so : (f : Formula) → take n codes ≡ postfix f → Over names f → LinesAnswered (classified f names c lent) lent r after

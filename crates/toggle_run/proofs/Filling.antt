@@ -10,7 +10,8 @@ use Rattle.outcome.specs.Lent.{filled}
 use Rattle.contraction.specs.Records.{Rec}
 use Rattle.contraction.specs.Height.{last}
 use Rattle.contraction.proofs.Worked.{last-is}
-use Rattle.toggles.specs.Toggles.{steps, answers, toggle, toggleEach}
+use Rattle.toggle_passes.specs.Reworking.{steps}
+use Rattle.toggles.specs.Toggles.{answers, toggle, toggleEach}
 use Rattle.toggles.proofs.Runs.{length-roots, length-counts}
 use Rattle.toggle_run.specs.Ran.{ToggleRoom}
 use Rattle.toggle_run.specs.Steps.{RunDone}

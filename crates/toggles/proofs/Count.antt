@@ -19,10 +19,11 @@ use Rattle.contraction.proofs.Once.{refs, uses, at-most-one}
 use Rattle.contraction.proofs.Leaves.{NoLeaf, made-none}
 use Rattle.contraction.proofs.Paths.{path-over, paths, paths-good, path-height}
 use Rattle.labels.specs.Labels.{bit, labels, isOf}
-use Rattle.toggles.specs.Toggles.{flip, flipLeaves, changed, reworked, rework, toggle, toggleEach, toggleRun}
+use Rattle.toggle_passes.specs.Reworking.{changed, reworked, rework}
+use Rattle.toggle_passes.proofs.Reworking.{rework-skip, rework-here}
+use Rattle.toggles.specs.Toggles.{flip, flipLeaves, toggle, toggleEach, toggleRun}
 use Rattle.toggles.specs.Demand.{leavesOf}
 use Rattle.labels.proofs.Links.{cases}
-use Rattle.toggles.proofs.Toggles.{rework-skip, rework-here}
 
 -- the leaves of shape s among records
 abbrev leavesIn : ℕ → List Rec → ℕ

@@ -18,10 +18,12 @@ use Rattle.marks.proofs.Sets.{rising-none, empty-none}
 use Rattle.labels.specs.Labels.{isOf}
 use Rattle.labels.specs.Steps.{seek, Shaped, Linked, Ready}
 use Rattle.labels.proofs.Links.{cases, found, jump, done, parent-is, parent-over}
-use Rattle.toggles.specs.Toggles.{steps, flip, flipLeaves, changed, rework, toggle}
-use Rattle.toggles.specs.Steps.{Alone, Due, Within, Bare, AddedNode, Flipped}
-use Rattle.toggles.proofs.Toggles.{rework-skip, leaf-none}
-use Rattle.toggles.proofs.Upwards.{changed-set}
+use Rattle.toggle_passes.specs.Reworking.{steps, changed, rework}
+use Rattle.toggle_passes.specs.Steps.{Alone, Due, Within}
+use Rattle.toggle_passes.proofs.Reworking.{rework-skip, leaf-none}
+use Rattle.toggle_passes.proofs.Upwards.{changed-set}
+use Rattle.toggles.specs.Toggles.{flip, flipLeaves, toggle}
+use Rattle.toggles.specs.Steps.{Bare, AddedNode, Flipped}
 
 -- a node marked, where there is one
 pub node-marked : {ws ws′ : List ℕ} {m m′ : Marks} {p nodes : ℕ} → p < nodes → m .at ≡ 0 → Put ws m p ws′ m′ → AddedNode nodes p ws m ws′ m′

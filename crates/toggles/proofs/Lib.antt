@@ -1,6 +1,4 @@
-pub mod Toggles
+pub mod Afresh
 pub mod Runs
 pub mod Count
-pub mod Upwards
-pub mod Settles
 pub mod Flipping

@@ -16,7 +16,7 @@ use Rattle.labels.specs.Labels.{labels}
 use Rattle.labels.proofs.Root.{root-label}
 use Rattle.toggles.specs.Toggles.{toggle, toggleEach, toggleRun}
 use Rattle.toggles.specs.Demand.{rootsAfter, roots}
-use Rattle.toggles.proofs.Toggles.{toggle-labels}
+use Rattle.toggles.proofs.Afresh.{toggle-labels}
 
 -- one toggle more
 flipped-toggled : (done : List ℕ) (s t : ℕ) → flipped s (toggledBy done) t ≡ toggledBy (done ++ (s ∷ [])) t

@@ -1,32 +1,16 @@
--- What the functions of a toggle keep: one label alone has changed, marks stand on the nodes with a changed child.
-use Prim.Native.Nat.{ℕ, _<_, _≤_}
+-- What the functions of a toggle keep: leaves are flipped, and marks stand on the nodes above them.
+use Prim.Native.Nat.{ℕ, _<_}
 use mathlib.Core.Path.{_≡_}
-use mathlib.Core.Bool.{true, false, not, _&&_, _||_}
+use mathlib.Core.Bool.{_&&_, _||_}
 use mathlib.Core.List.{List}
 use lib.Dec.{eqb, ltb}
-use lib.ListN.{length, getD, set, take}
-use Rattle.contraction.specs.Records.{children}
-use Rattle.contraction.specs.Steps.{recAt, recs}
+use lib.ListN.{length, take}
+use Rattle.contraction.specs.Steps.{recs}
 use Rattle.marks.specs.declared.Marks.{Marks}
-use Rattle.marks.specs.Marks.{marked, all, Rising, Lowest, Empty}
-use Rattle.labels.specs.Steps.{Rules, Linked, Ready}
-use Rattle.toggles.specs.Toggles.{flipLeaves, changed, reworked}
-
--- The labels ls of the nodes differ from those before, `old`, at node c and nowhere else.
-pub record Alone (nodes : ℕ) (old ls : List ℕ) (c : ℕ) : Type 0 where
-  pub differs : getD ls c 0 ≡ getD old c 0 → ⊥
-  pub elsewhere : (i : ℕ) → i < nodes → (i ≡ c → ⊥) → getD ls i 0 ≡ getD old i 0
-
--- From node j on the labels are those before, and the marks stand on the nodes with a changed child.
-pub record Due (ks fs ss : List ℕ) (nodes : ℕ) (old ls ms : List ℕ) (j : ℕ) : Type 0 where
-  pub inside : j ≤ nodes
-  pub kept : (i : ℕ) → j ≤ i → i < nodes → getD ls i 0 ≡ getD old i 0
-  pub low : (k : ℕ) → k < j → marked ms k ≡ false
-  pub dues : (k : ℕ) → j ≤ k → k < nodes → changed old ls (children (recAt ks fs ss k)) ≡ marked ms k
-
--- Marks stand on nodes.
-pub record Within (nodes : ℕ) (ms : List ℕ) : Type 0 where
-  pub node : (k : ℕ) → k < 3072 → marked ms k ≡ true → k < nodes
+use Rattle.marks.specs.Marks.{marked, all, Rising, Empty}
+use Rattle.labels.specs.Steps.{Rules, Ready}
+use Rattle.toggle_passes.specs.Steps.{Due, Within}
+use Rattle.toggles.specs.Toggles.{flipLeaves}
 
 -- No mark at all, and the first word in hand.
 pub record Bare (ws : List ℕ) (m : Marks) : Type 0 where
@@ -40,42 +24,12 @@ pub record AddedNode (nodes p : ℕ) (ws : List ℕ) (m : Marks) (ws′ : List �
   pub first : m′ .at ≡ 0
   pub so : (i : ℕ) → marked (all ws′ m′) i ≡ (marked (all ws m) i || (ltb p nodes && eqb i p))
 
--- What goes up from one node asks for,
-pub record Climbs (rules ks fs ss : List ℕ) (leaves nodes : ℕ) (ps ls : List ℕ) (node : ℕ) : Type 0 where
-  pub ruled : Rules rules
-  pub linked : Linked ks fs ss leaves nodes ps
-  pub long : length ls ≡ 3072
-  pub inside : node < nodes
-
--- what goes up from marks,
-pub record Settles (rules ks fs ss : List ℕ) (leaves nodes : ℕ) (ps ls ws : List ℕ) (m : Marks) : Type 0 where
-  pub ruled : Rules rules
-  pub linked : Linked ks fs ss leaves nodes ps
-  pub long : length ls ≡ 3072
-  pub rising : Rising ws m
-  pub within : Within nodes (all ws m)
-
--- and a toggle of shape s.
+-- What a toggle of shape s asks for.
 pub record Toggles (rules ks fs ss : List ℕ) (leaves nodes : ℕ) (ps hs ns ls : List ℕ) (s : ℕ) : Type 0 where
   pub ruled : Rules rules
   pub ready : Ready ks fs ss leaves nodes ps hs ns
   pub long : length ls ≡ 3072
   pub shape : s < 256
-
--- Node k is one of the nodes and has the lowest mark, and the node above it has a larger number.
-pub record Ripe (nodes k : ℕ) (ps ws : List ℕ) (m : Marks) : Type 0 where
-  pub room : nodes ≤ 3072
-  pub node : k < nodes
-  pub rising : Rising ws m
-  pub lowest : Lowest m k
-  pub rises : k < getD ps k 0
-
--- Node k is reworked and its mark taken off; where its label was another, the node above it is marked.
-pub record Settled (ks fs ss : List ℕ) (nodes : ℕ) (ps : List ℕ) (k : ℕ) (ls ws : List ℕ) (m : Marks) (ls′ ws′ : List ℕ) (m′ : Marks) : Type 0 where
-  pub labels-are : ls′ ≡ set ls k (reworked ls (recAt ks fs ss k))
-  pub rising : Rising ws′ m′
-  pub marks-are : (i : ℕ) → marked (all ws′ m′) i
-      ≡ (marked (all ws m) i && not (eqb i k) || (not (eqb (reworked ls (recAt ks fs ss k)) (getD ls k 0)) && (ltb (getD ps k 0) nodes && eqb i (getD ps k 0))))
 
 -- The leaves of shape s are flipped, and the marks stand on the nodes above them.
 pub record Flipped (ks fs ss : List ℕ) (leaves nodes s : ℕ) (old ls ws : List ℕ) (m : Marks) : Type 0 where

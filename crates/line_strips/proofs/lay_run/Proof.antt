@@ -1,7 +1,7 @@
 -- `line_strips::lay_run` meets its contract.
 use borrow.Author.Needs.{needs}
 use Prim.Native.Nat.{_-_}
-use Rattle.line_strips.proofs.Spans.{one-first}
+use Rattle.line_bits.proofs.Spans.{one-first}
 use Rattle.line_strips.proofs.Lays.{Running, running-none, running-bit, running-there, running-named, running-more, running-end}
 use Rattle.line_strips.proofs.lay_run.Statement.{statement}
 use Rattle.line_strips.proofs.lay_run.Tie as tie

@@ -1,7 +1,7 @@
 -- `line_strips::lay_some` meets its contract.
 use borrow.Author.Needs.{needs}
 use Prim.Native.Nat.{_-_}
-use Rattle.line_strips.proofs.Spans.{one-shifted}
+use Rattle.line_bits.proofs.Spans.{one-shifted}
 use Rattle.line_strips.proofs.Lays.{Laying, laying-none, laying-bit, laying-column, laying-start, laying-row, laying-bytes, laying-crossing, laying-named, laying-ends, laying-more, laying-end}
 use Rattle.line_strips.proofs.lay_some.Statement.{statement}
 use Rattle.line_strips.proofs.lay_some.Tie as tie
@@ -9,8 +9,6 @@ use Rattle.line_strips.proofs.lay_some.Reads as reads
 use Rattle.line_strips.proofs.lay_some.Lts as lts
 use Rattle.basics.proofs.wide.Reads as wide-reads
 use Rattle.basics.proofs.wide_long.Reads as wide-long-reads
-use Rattle.line_strips.proofs.inner.Reads as inner-reads
-use Rattle.line_strips.proofs.moved.Reads as moved-reads
 use Rattle.line_strips.proofs.span_crossing.Reads as span-crossing-reads
 use Rattle.line_strips.proofs.span_start.Reads as span-start-reads
 

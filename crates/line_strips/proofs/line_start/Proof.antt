@@ -1,5 +1,5 @@
 -- Nothing is said, or what `after_last` says.
-use Rattle.line_strips.proofs.Spans.{since-none}
+use Rattle.line_bits.proofs.Spans.{since-none}
 use borrow.Author.Needs.{needs}
 use Rattle.line_strips.proofs.line_start.Statement.{statement}
 use Rattle.line_strips.proofs.line_start.Tie as tie

@@ -6,9 +6,7 @@ use Rattle.line_strips.proofs.open_block.Tie as tie
 use Rattle.line_strips.proofs.open_block.Reads as reads
 use Rattle.line_strips.proofs.open_block.Lts as lts
 use Rattle.line_strips.proofs.clear.Reads as clear-reads
-use Rattle.line_strips.proofs.inner.Reads as inner-reads
 use Rattle.line_strips.proofs.open_rows.Reads as open-rows-reads
-use Rattle.line_strips.proofs.span.Reads as span-reads
 
 element-copy-out-inner : tie.Need-element-copy-out-inner
 element-copy-out-inner c = search needs

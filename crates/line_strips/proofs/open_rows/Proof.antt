@@ -6,7 +6,6 @@ use Rattle.line_strips.proofs.open_rows.Statement.{statement}
 use Rattle.line_strips.proofs.open_rows.Tie as tie
 use Rattle.line_strips.proofs.open_rows.Reads as reads
 use Rattle.line_strips.proofs.open_rows.Lts as lts
-use Rattle.line_strips.proofs.masked.Reads as masked-reads
 use Rattle.line_strips.proofs.open_row.Reads as open-row-reads
 
 abbrev Inv-loop : tie.InvT-loop

@@ -6,10 +6,8 @@ use Rattle.line_strips.proofs.open_word.Tie as tie
 use Rattle.line_strips.proofs.open_word.Reads as reads
 use Rattle.line_strips.proofs.open_word.Lts as lts
 use Rattle.line_strips.proofs.carry.Reads as carry-reads
-use Rattle.line_strips.proofs.inner.Reads as inner-reads
 use Rattle.line_strips.proofs.line_start.Reads as line-start-reads
 use Rattle.line_strips.proofs.replay.Reads as replay-reads
-use Rattle.line_strips.proofs.span.Reads as span-reads
 
 sub-past : tie.Need-sub-past
 sub-past c = search needs

@@ -5,7 +5,6 @@ use Rattle.line_strips.proofs.span_crossing.Statement.{statement}
 use Rattle.line_strips.proofs.span_crossing.Tie as tie
 use Rattle.line_strips.proofs.span_crossing.Reads as reads
 use Rattle.line_strips.proofs.span_crossing.Lts as lts
-use Rattle.line_strips.proofs.span.Reads as span-reads
 use Rattle.line_strips.proofs.turn_crossing.Reads as turn-crossing-reads
 
 span-requires : tie.Need-span-requires

@@ -5,7 +5,6 @@ use Rattle.line_strips.proofs.span_start.Statement.{statement}
 use Rattle.line_strips.proofs.span_start.Tie as tie
 use Rattle.line_strips.proofs.span_start.Reads as reads
 use Rattle.line_strips.proofs.span_start.Lts as lts
-use Rattle.line_strips.proofs.span.Reads as span-reads
 use Rattle.line_strips.proofs.turn_start.Reads as turn-start-reads
 
 span-requires : tie.Need-span-requires

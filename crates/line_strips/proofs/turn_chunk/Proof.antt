@@ -1,50 +1,74 @@
--- `line_strips::turn_chunk` meets its contract.
-use Rattle.line_strips.proofs.Turns.{quiet-chunk}
+-- No shape, one alone, or byte by byte.
+use Rattle.line_strips.proofs.Turns.{bytes-binary, chunk-none, chunk-lone, lone-fits}
 use borrow.Author.Needs.{needs}
 use Rattle.line_strips.proofs.turn_chunk.Statement.{statement}
 use Rattle.line_strips.proofs.turn_chunk.Tie as tie
-use Rattle.line_strips.proofs.turn_chunk.Reads as reads
-use Rattle.line_strips.proofs.turn_chunk.Lts as lts
-use Rattle.line_strips.proofs.quiet.Reads as quiet-reads
-use Rattle.line_strips.proofs.turn_some.Reads as turn-some-reads
 
-add-e : tie.Need-add-e
-add-e c = search needs
-
-sub-part : tie.Need-sub-part
-sub-part c = search needs
-
-part-part-start : tie.Need-part-part-start
-part-part-start c = search needs
-
-part-part-end : tie.Need-part-part-end
-part-part-end c = search needs
-
-quiet-requires : tie.Need-quiet-requires
-quiet-requires c κs = search needs
+woven-32-requires : tie.Need-woven-32-requires
+woven-32-requires c κs = search (bytes-binary, needs)
 
 returns : tie.Need-returns
-returns c = (search needs, search (quiet-chunk, needs))
+returns c = (search needs, search (chunk-none, needs))
 
-turn-some-requires : tie.Need-turn-some-requires
-turn-some-requires c κs = search needs
+others-requires : tie.Need-others-requires
+others-requires c κs = search needs
+
+lowest-requires : tie.Need-lowest-requires
+lowest-requires c κs = search needs
+
+add-u : tie.Need-add-u
+add-u c = search needs
+
+mul-u : tie.Need-mul-u
+mul-u c = search needs
+
+add-u-2 : tie.Need-add-u-2
+add-u-2 c = search needs
+
+mul-flip : tie.Need-mul-flip
+mul-flip c = search needs
+
+add-flip : tie.Need-add-flip
+add-flip c = search needs
+
+flip-requires : tie.Need-flip-requires
+flip-requires c κs = search (lone-fits, needs)
 
 same-length : tie.Need-same-length
 same-length c = search needs
 
 returns-2 : tie.Need-returns-2
-returns-2 c = search needs
+returns-2 c = (search needs, search (chunk-lone, needs))
+
+add-turn-some : tie.Need-add-turn-some
+add-turn-some c = search needs
+
+turn-some-requires : tie.Need-turn-some-requires
+turn-some-requires c κs = search needs
+
+same-length-2 : tie.Need-same-length-2
+same-length-2 c = search needs
+
+returns-3 : tie.Need-returns-3
+returns-3 c = search needs
 
 pub turn-chunk-spec : {M : Type 1} → statement M
 turn-chunk-spec =
     tie.close
     (tie.spec
-    add-e
-    sub-part
-    part-part-start
-    part-part-end
-    quiet-requires
+    woven-32-requires
     returns
-    turn-some-requires
+    others-requires
+    lowest-requires
+    add-u
+    mul-u
+    add-u-2
+    mul-flip
+    add-flip
+    flip-requires
     same-length
-    returns-2)
+    returns-2
+    add-turn-some
+    turn-some-requires
+    same-length-2
+    returns-3)

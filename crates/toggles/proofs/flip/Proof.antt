@@ -1,5 +1,5 @@
 -- `toggles::flip` meets its contract.
-use Rattle.toggles.proofs.Toggles.{flip-on}
+use Rattle.toggles.proofs.Afresh.{flip-on}
 use borrow.Author.Needs.{needs}
 use Rattle.toggles.proofs.flip.Statement.{statement}
 use Rattle.toggles.proofs.flip.Tie as tie

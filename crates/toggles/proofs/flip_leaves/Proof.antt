@@ -2,7 +2,7 @@
 use Prim.Native.Nat.{_-_}
 use borrow.Author.Needs.{needs}
 use Rattle.labels.proofs.Links.{next-after, parent-after}
-use Rattle.toggles.proofs.Upwards.{nearer}
+use Rattle.toggle_passes.proofs.Upwards.{nearer}
 use Rattle.toggles.proofs.Flipping.{leaf-inside, Flipping, flipping-start, flipping-more, flipping-end}
 use Rattle.toggles.proofs.flip_leaves.Statement.{statement}
 use Rattle.toggles.proofs.flip_leaves.Tie as tie

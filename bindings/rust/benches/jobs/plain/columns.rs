@@ -186,10 +186,17 @@ impl<'a> Columns<'a> {
         }
         let from = block.starts[column] as usize * self.names;
         let row = &self.l.rows[from..from + self.names];
-        for (rows, bytes) in rows.chunks_mut(16).zip(row.chunks(16)) {
-            if over(bytes) != 0 {
-                for (row, byte) in rows.iter_mut().zip(bytes) {
-                    row[word] ^= bits * u64::from(*byte);
+        for (rows, bytes) in rows.chunks_mut(32).zip(row.chunks(32)) {
+            match woven(bytes) {
+                Some(0) => {}
+                Some(one) if one & (one - 1) == 0 => {
+                    let bit = one.trailing_zeros() as usize;
+                    rows[bit / 8 + bit % 8 * 8][word] ^= bits;
+                }
+                _ => {
+                    for (row, byte) in rows.iter_mut().zip(bytes) {
+                        row[word] ^= bits * u64::from(*byte);
+                    }
                 }
             }
         }
@@ -217,6 +224,13 @@ fn ends(lines: &[u32], from: usize, count: usize) -> u64 {
 fn head(lasts: u64) -> u64 {
     let lasts = lasts | TOP;
     lasts ^ (lasts - 1)
+}
+
+/// 32 bytes, each 0 or 1, in one word: byte j + 8 i is bit 8 j + i.
+fn woven(bytes: &[u8]) -> Option<u64> {
+    let bytes = <&[u8; 32]>::try_from(bytes).ok()?;
+    let eight = |i: usize| <[u8; 8]>::try_from(&bytes[8 * i..8 * i + 8]).map(u64::from_le_bytes).ok();
+    Some(eight(0)? | eight(1)? << 1 | eight(2)? << 2 | eight(3)? << 3)
 }
 
 /// Throughout what the last bit is.

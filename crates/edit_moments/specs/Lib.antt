@@ -1,0 +1,3 @@
+pub mod Edits
+pub mod Listed
+pub mod Steps

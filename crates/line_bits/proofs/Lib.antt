@@ -1,0 +1,4 @@
+pub mod Digits
+pub mod Spans
+pub mod LowestLaws
+mod Weaves

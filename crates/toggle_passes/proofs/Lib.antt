@@ -1,0 +1,3 @@
+pub mod Reworking
+pub mod Upwards
+pub mod Settles

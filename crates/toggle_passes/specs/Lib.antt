@@ -1,0 +1,2 @@
+pub mod Reworking
+pub mod Steps
