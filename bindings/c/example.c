@@ -32,23 +32,25 @@ static void expect(int holds, const char *what) {
 }
 
 static void read_sheet(void) {
-    struct kressedach_read_report r = kressedach_read(ALONE(sheet));
+    struct kressedach_read_report r;
+    kressedach_read(&r, ALONE(sheet));
     printf("read: %zu names, %zu leaves, formula at %zu to %zu\n", r.names, r.leaves, r.first, r.past);
     expect(r.number == KRESSEDACH_GIVEN && r.place == 0, "the sheet is read");
     expect(r.names == 2 && r.leaves == 2 && r.first == 23 && r.past == 29, "what it holds");
 
-    r = kressedach_read(false, NULL, 0, sheet, sizeof sheet - 1);
+    kressedach_read(&r, false, NULL, 0, sheet, sizeof sheet - 1);
     printf("without its last byte: refused %u at %zu\n", r.number, r.place);
     expect(r.number == KRESSEDACH_ENDS_TOO_SOON && r.place == 28 && r.names == 0, "a sheet that ends too soon");
 
-    r = kressedach_read(false, NULL, 0, NULL, 0);
+    kressedach_read(&r, false, NULL, 0, NULL, 0);
     expect(r.number == KRESSEDACH_ENDS_TOO_SOON && r.place == 0, "no bytes at all");
 }
 
 static void build_tree(void) {
     uint16_t kinds[KRESSEDACH_MOST_NODES], firsts[KRESSEDACH_MOST_NODES], seconds[KRESSEDACH_MOST_NODES];
     kinds[3] = 9;
-    struct kressedach_build_report r = kressedach_build(ALONE(sheet), LIST(kinds), LIST(firsts), LIST(seconds));
+    struct kressedach_build_report r;
+    kressedach_build(&r, ALONE(sheet), LIST(kinds), LIST(firsts), LIST(seconds));
     printf("build: %zu leaves, %zu nodes, %zu rounds, height %zu\n", r.leaves, r.nodes, r.rounds, r.height);
     for (size_t k = 0; k < r.nodes; k++) {
         printf("  %u %u %u\n", kinds[k], firsts[k], seconds[k]);
@@ -57,7 +59,7 @@ static void build_tree(void) {
     expect(kinds[2] == 3 && firsts[2] == 0 && seconds[2] == 1 && seconds[1] == KRESSEDACH_NONE, "the root is a difference");
     expect(kinds[3] == 9, "entries past the last one stay");
 
-    r = kressedach_build(ALONE(sheet), kinds, 3, firsts, 2, seconds, 3);
+    kressedach_build(&r, ALONE(sheet), kinds, 3, firsts, 2, seconds, 3);
     printf("with a short list: refused %u, %zu entries are needed\n", r.number, r.place);
     expect(r.number == KRESSEDACH_LIST_TOO_SHORT && r.place == 3 && r.nodes == 0, "a list that is too short");
 }
@@ -66,7 +68,8 @@ static void run_toggles(void) {
     static const uint16_t toggles[] = {0, 1, 1, 0};
     uint8_t roots[LENGTH(toggles)], labels[KRESSEDACH_MOST_NODES];
     uint32_t counts[LENGTH(toggles)];
-    struct kressedach_run_report r = kressedach_run(ALONE(sheet), LIST(toggles), LIST(roots), LIST(counts), LIST(labels));
+    struct kressedach_run_report r;
+    kressedach_run(&r, ALONE(sheet), LIST(toggles), LIST(roots), LIST(counts), LIST(labels));
     printf("run: roots %u %u %u %u\n", roots[0], roots[1], roots[2], roots[3]);
     expect(r.number == KRESSEDACH_GIVEN && r.nodes == 3, "the toggles are run");
     expect(roots[0] == 1 && roots[1] == 0 && roots[2] == 1 && roots[3] == 0, "in the block, in the bore, back, out");
@@ -79,19 +82,19 @@ static void run_for_two(void) {
     uint8_t first_roots[LENGTH(first)], first_labels[KRESSEDACH_MOST_NODES];
     uint8_t second_roots[LENGTH(second)] = {9}, second_labels[KRESSEDACH_MOST_NODES];
     uint32_t first_counts[LENGTH(first)], second_counts[LENGTH(second)];
-    struct kressedach_both_report r =
-        kressedach_run_both(ALONE(sheet), LIST(order), LIST(first), LIST(strange), LIST(first_roots), LIST(first_counts), LIST(first_labels),
-                            LIST(second_roots), LIST(second_counts), LIST(second_labels));
+    struct kressedach_both_report r;
+    kressedach_run_both(&r, ALONE(sheet), LIST(order), LIST(first), LIST(strange), LIST(first_roots), LIST(first_counts),
+                        LIST(first_labels), LIST(second_roots), LIST(second_counts), LIST(second_labels));
     printf("for two foundries: roots %u %u, and refused %u at %zu\n", first_roots[0], first_roots[1], r.second.number, r.second.place);
     expect(r.first.number == KRESSEDACH_GIVEN && r.first.nodes == 3 && first_roots[0] == 1 && first_roots[1] == 0, "the first is served");
     expect(r.second.number == KRESSEDACH_NO_SUCH_SHAPE && r.second.place == 0 && second_roots[0] == 9, "the second alone is refused");
 
-    r = kressedach_run_both(ALONE(sheet), LIST(order), LIST(first), LIST(second), LIST(first_roots), LIST(first_counts), LIST(first_labels),
-                            LIST(second_roots), LIST(second_counts), LIST(second_labels));
+    kressedach_run_both(&r, ALONE(sheet), LIST(order), LIST(first), LIST(second), LIST(first_roots), LIST(first_counts),
+                        LIST(first_labels), LIST(second_roots), LIST(second_counts), LIST(second_labels));
     expect(r.second.number == KRESSEDACH_GIVEN && second_roots[0] == 0 && second_labels[1] == 1, "both are served");
 
-    r = kressedach_run_both(ALONE(sheet), order, 2, LIST(first), LIST(second), LIST(first_roots), LIST(first_counts), LIST(first_labels),
-                            LIST(second_roots), LIST(second_counts), LIST(second_labels));
+    kressedach_run_both(&r, ALONE(sheet), order, 2, LIST(first), LIST(second), LIST(first_roots), LIST(first_counts), LIST(first_labels),
+                        LIST(second_roots), LIST(second_counts), LIST(second_labels));
     expect(r.first.number == KRESSEDACH_LENGTHS_DIFFER && r.second.number == KRESSEDACH_LENGTHS_DIFFER, "a turn is missing");
 }
 
@@ -100,22 +103,23 @@ static void run_with_edits(void) {
     static const uint64_t moments[] = {2, 3};
     uint8_t roots[LENGTH(toggles)], labels[KRESSEDACH_MOST_NODES];
     uint32_t counts[LENGTH(toggles)], edit_counts[LENGTH(moments)] = {9, 9};
-    struct kressedach_run_report r = kressedach_run_edited(ALONE(sheet), LIST(toggles), LIST(moments), LIST(positions), LIST(codes),
-                                                           LIST(roots), LIST(counts), LIST(labels), LIST(edit_counts));
+    struct kressedach_run_report r;
+    kressedach_run_edited(&r, ALONE(sheet), LIST(toggles), LIST(moments), LIST(positions), LIST(codes), LIST(roots), LIST(counts),
+                          LIST(labels), LIST(edit_counts));
     printf("run with edits: roots %u %u %u, then %u\n", roots[0], roots[1], roots[2], labels[2]);
     expect(r.number == KRESSEDACH_GIVEN && r.nodes == 3 && edit_counts[0] == 1 && edit_counts[1] == 1, "the edits are made");
     expect(roots[0] == 1 && roots[1] == 0 && roots[2] == 1, "in the block, in the bore, and out of it when that is metal too");
     expect(labels[0] == 1 && labels[1] == 0 && labels[2] == 0, "an intersection after the last toggle");
 
     edit_counts[0] = 9;
-    r = kressedach_run_edited(ALONE(sheet), LIST(toggles), LIST(moments), LIST(codes), LIST(codes), LIST(roots), LIST(counts), LIST(labels),
-                              LIST(edit_counts));
+    kressedach_run_edited(&r, ALONE(sheet), LIST(toggles), LIST(moments), LIST(codes), LIST(codes), LIST(roots), LIST(counts),
+                          LIST(labels), LIST(edit_counts));
     expect(r.number == KRESSEDACH_EDIT_WRONG && r.place == 0 && r.nodes == 0 && edit_counts[0] == 9, "no such position");
-    r = kressedach_run_edited(ALONE(sheet), LIST(toggles), moments, 1, LIST(positions), LIST(codes), LIST(roots), LIST(counts), LIST(labels),
-                              LIST(edit_counts));
+    kressedach_run_edited(&r, ALONE(sheet), LIST(toggles), moments, 1, LIST(positions), LIST(codes), LIST(roots), LIST(counts),
+                          LIST(labels), LIST(edit_counts));
     expect(r.number == KRESSEDACH_LENGTHS_DIFFER && r.place == 0, "a moment is missing");
-    r = kressedach_run_edited(ALONE(sheet), LIST(toggles), LIST(moments), LIST(positions), LIST(codes), LIST(roots), LIST(counts),
-                              LIST(labels), edit_counts, 1);
+    kressedach_run_edited(&r, ALONE(sheet), LIST(toggles), LIST(moments), LIST(positions), LIST(codes), LIST(roots), LIST(counts),
+                          LIST(labels), edit_counts, 1);
     expect(r.number == KRESSEDACH_LIST_TOO_SHORT && r.place == 2, "room for the counts of both");
 }
 
@@ -139,30 +143,31 @@ static const uint16_t shapes[] = {0, 1, 1, 0};
 
 static void classify_lines(void) {
     static const uint8_t in_air[2 * 2]; /* two lines, two shapes */
-    struct kressedach_classify_report r = kressedach_classify(ALONE(sheet), LIST(in_air), LIST(lines), LIST(positions), LIST(shapes), WALLS);
+    struct kressedach_classify_report r;
+    kressedach_classify(&r, ALONE(sheet), LIST(in_air), LIST(lines), LIST(positions), LIST(shapes), WALLS);
     print_walls(r.walls);
     expect(r.number == KRESSEDACH_GIVEN && r.walls == 2 && wall_lines[0] == 1 && wall_lines[1] == 1, "two walls");
     expect(starts[0] == 0 && ends[0] == 40 && starts[1] == 60 && ends[1] == 100, "beside the bore, on both sides");
     expect(start_shapes[0] == 0 && end_shapes[0] == 1 && start_shapes[1] == 1 && end_shapes[1] == 0, "from block to bore, from bore to block");
 
-    r = kressedach_classify(ALONE(sheet), in_air, 3, LIST(lines), LIST(positions), LIST(shapes), WALLS);
+    kressedach_classify(&r, ALONE(sheet), in_air, 3, LIST(lines), LIST(positions), LIST(shapes), WALLS);
     printf("with half a row: refused %u at %zu\n", r.number, r.place);
     expect(r.number == KRESSEDACH_ROWS_WRONG && r.place == 0 && r.walls == 0, "a row that is not whole");
-    r = kressedach_classify(ALONE(sheet), in_air, 2, LIST(lines), LIST(positions), LIST(shapes), WALLS);
+    kressedach_classify(&r, ALONE(sheet), in_air, 2, LIST(lines), LIST(positions), LIST(shapes), WALLS);
     expect(r.number == KRESSEDACH_ASTRAY && r.place == 0, "line 1 has no row");
-    r = kressedach_classify(ALONE(sheet), LIST(in_air), LIST(lines), LIST(positions), LIST(shapes), LIST(wall_lines), starts, 3, LIST(ends),
-                            LIST(start_shapes), LIST(end_shapes));
+    kressedach_classify(&r, ALONE(sheet), LIST(in_air), LIST(lines), LIST(positions), LIST(shapes), LIST(wall_lines), starts, 3,
+                        LIST(ends), LIST(start_shapes), LIST(end_shapes));
     expect(r.number == KRESSEDACH_LIST_TOO_SHORT && r.place == ROOM, "room for half the crossings and the rows");
 
-    r = kressedach_classify(ALONE(sheet), NULL, 0, NULL, 0, NULL, 0, NULL, 0, NULL, 0, NULL, 0, NULL, 0, NULL, 0, NULL, 0);
+    kressedach_classify(&r, ALONE(sheet), NULL, 0, NULL, 0, NULL, 0, NULL, 0, NULL, 0, NULL, 0, NULL, 0, NULL, 0, NULL, 0);
     expect(r.number == KRESSEDACH_GIVEN && r.walls == 0, "no lines, no walls");
 }
 
 /* A block that is cut: line 0 starts in it and has no crossing, line 1 starts in it and leaves it at the last crossing. */
 static void classify_cut(void) {
     static const uint8_t in_block[] = {1, 0, 1, 0};
-    struct kressedach_classify_report r =
-        kressedach_classify(ALONE(sheet), LIST(in_block), lines + 1, 3, positions + 1, 3, shapes + 1, 3, WALLS);
+    struct kressedach_classify_report r;
+    kressedach_classify(&r, ALONE(sheet), LIST(in_block), lines + 1, 3, positions + 1, 3, shapes + 1, 3, WALLS);
     print_walls(r.walls);
     expect(r.number == KRESSEDACH_GIVEN && r.walls == 3 && wall_lines[0] == 0 && wall_lines[2] == 1, "three walls");
     expect(starts[0] == KRESSEDACH_OPEN_START && ends[0] == KRESSEDACH_OPEN_END, "metal from end to end");
@@ -182,8 +187,8 @@ static void cross_drawing(void) {
     uint8_t starts_row[2];
     int32_t crossed[4];
     uint16_t crossed_shapes[4];
-    struct kressedach_cross_report r = kressedach_cross(-10, 20, 20, 1, 0, 0, LIST(kinds), LIST(drawing), LIST(starts_row), LIST(crossed),
-                                                        LIST(crossed_shapes));
+    struct kressedach_cross_report r;
+    kressedach_cross(&r, -10, 20, 20, 1, 0, 0, LIST(kinds), LIST(drawing), LIST(starts_row), LIST(crossed), LIST(crossed_shapes));
     printf("cross: %zu crossings of %zu shapes\n", r.crossings, r.shapes);
     expect(r.number == KRESSEDACH_GIVEN && r.shapes == 2 && r.crossings == 4, "the line is crossed");
     expect(starts_row[0] == 0 && starts_row[1] == 0, "it starts in air");
@@ -192,16 +197,17 @@ static void cross_drawing(void) {
 
     /* what is made here goes to classify as it is: its start row, and its crossings with the line's number beside each */
     static const uint32_t line[] = {0, 0, 0, 0};
-    struct kressedach_classify_report w = kressedach_classify(ALONE(sheet), starts_row, r.shapes, line, r.crossings, crossed, r.crossings,
-                                                              crossed_shapes, r.crossings, WALLS);
+    struct kressedach_classify_report w;
+    kressedach_classify(&w, ALONE(sheet), starts_row, r.shapes, line, r.crossings, crossed, r.crossings, crossed_shapes, r.crossings,
+                        WALLS);
     expect(w.number == KRESSEDACH_GIVEN && w.walls == 2 && ends[0] == 50000 && starts[1] == 70000, "walls beside the bore");
 
-    r = kressedach_cross(0, 0, 0, 0, 0, 0, LIST(kinds), LIST(drawing), LIST(starts_row), LIST(crossed), LIST(crossed_shapes));
+    kressedach_cross(&r, 0, 0, 0, 0, 0, 0, LIST(kinds), LIST(drawing), LIST(starts_row), LIST(crossed), LIST(crossed_shapes));
     printf("without a direction: refused %u at %zu\n", r.number, r.place);
     expect(r.number == KRESSEDACH_SHAPE_WRONG && r.place == KRESSEDACH_THE_LINE && r.crossings == 0, "no direction");
-    r = kressedach_cross(-10, 20, 20, 1, 0, 0, LIST(kinds), drawing, 11, LIST(starts_row), LIST(crossed), LIST(crossed_shapes));
+    kressedach_cross(&r, -10, 20, 20, 1, 0, 0, LIST(kinds), drawing, 11, LIST(starts_row), LIST(crossed), LIST(crossed_shapes));
     expect(r.number == KRESSEDACH_SHAPE_WRONG && r.place == 1, "a number that the second shape lacks");
-    r = kressedach_cross(-10, 20, 20, 1, 0, 0, LIST(kinds), LIST(drawing), LIST(starts_row), crossed, 3, LIST(crossed_shapes));
+    kressedach_cross(&r, -10, 20, 20, 1, 0, 0, LIST(kinds), LIST(drawing), LIST(starts_row), crossed, 3, LIST(crossed_shapes));
     expect(r.number == KRESSEDACH_LIST_TOO_SHORT && r.place == 4, "room for three positions");
 }
 
@@ -210,58 +216,63 @@ static void cross_vent(void) {
     uint8_t row[1];
     int32_t crossed[2];
     uint16_t balls[2];
-    struct kressedach_cross_report r = kressedach_cross_balls(LIST(vent), LIST(row), LIST(crossed), LIST(balls));
+    struct kressedach_cross_report r;
+    kressedach_cross_balls(&r, LIST(vent), LIST(row), LIST(crossed), LIST(balls));
     printf("ball: %ld to %ld\n", (long)crossed[0], (long)crossed[1]);
     expect(r.number == KRESSEDACH_GIVEN && r.shapes == 1 && r.crossings == 2 && row[0] == 0, "the ball is crossed");
     expect(crossed[0] == 48800 && crossed[1] == 51200 && balls[0] == 0 && balls[1] == 0, "a half chord of 1200");
-    r = kressedach_cross_balls(vent, 3, LIST(row), LIST(crossed), LIST(balls));
+    kressedach_cross_balls(&r, vent, 3, LIST(row), LIST(crossed), LIST(balls));
     expect(r.number == KRESSEDACH_BALL_WRONG && r.place == 0, "a ball begun");
 }
 
 static void move(void) {
     uint8_t there[sizeof sheet], back[sizeof sheet + 1];
     back[sizeof sheet] = 9;
-    struct kressedach_move_report r = kressedach_move(ALONE(sheet), LIST(there));
+    struct kressedach_move_report r;
+    kressedach_move(&r, ALONE(sheet), LIST(there));
     printf("moved: edition %u, %zu bytes\n", there[4], r.length);
     expect(r.number == KRESSEDACH_GIVEN && r.length == sizeof sheet && there[4] == 2, "the sheet in edition 2");
-    r = kressedach_move(ALONE(there), LIST(back));
+    kressedach_move(&r, ALONE(there), LIST(back));
     expect(r.number == KRESSEDACH_GIVEN && memcmp(back, sheet, sizeof sheet) == 0 && back[sizeof sheet] == 9, "there and back");
-    r = kressedach_move(ALONE(sheet), there, sizeof sheet - 1);
+    kressedach_move(&r, ALONE(sheet), there, sizeof sheet - 1);
     expect(r.number == KRESSEDACH_LIST_TOO_SHORT && r.place == sizeof sheet && r.length == 0, "room for the whole sheet");
     uint8_t exclusive[sizeof sheet];
     memcpy(exclusive, sheet, sizeof sheet);
     exclusive[sizeof sheet - 1] = 0xF3;
-    r = kressedach_move(ALONE(exclusive), LIST(there));
+    kressedach_move(&r, ALONE(exclusive), LIST(there));
     expect(r.number == KRESSEDACH_OUT_OF_USE && r.sheet == KRESSEDACH_NO_SHEET && r.place == sizeof sheet - 2, "no move of an exclusive union");
 }
 
 static void read_pair(void) {
-    struct kressedach_read_report r = kressedach_read(BESIDE(fittings, plate));
+    struct kressedach_read_report r;
+    kressedach_read(&r, BESIDE(fittings, plate));
     printf("beside a fittings sheet: %zu names\n", r.names);
     expect(r.number == KRESSEDACH_GIVEN && r.sheet == KRESSEDACH_NO_SHEET && r.names == 2 && r.leaves == 2, "the pair is read");
 
-    struct kressedach_name_report n = kressedach_name(BESIDE(fittings, plate), 1);
+    struct kressedach_name_report n;
+    kressedach_name(&n, BESIDE(fittings, plate), 1);
     printf("shape 1: bytes %zu to %zu of sheet %u\n", n.first, n.past, n.sheet);
     expect(n.number == KRESSEDACH_GIVEN && n.sheet == KRESSEDACH_CUSTOMERS_SHEET && n.first == 8 && n.past == 13, "the plate's name");
 
     uint8_t sheets[3] = {9, 9, 9};
     size_t firsts[3] = {9, 9, 9}, pasts[3] = {9, 9, 9};
-    struct kressedach_names_report all = kressedach_names(BESIDE(fittings, plate), LIST(sheets), LIST(firsts), LIST(pasts));
+    struct kressedach_names_report all;
+    kressedach_names(&all, BESIDE(fittings, plate), LIST(sheets), LIST(firsts), LIST(pasts));
     expect(all.number == KRESSEDACH_GIVEN && all.names == 2 && sheets[0] == 1 && sheets[1] == 2 && sheets[2] == 9, "both names");
     expect(firsts[1] == n.first && pasts[1] == n.past && firsts[2] == 9 && pasts[2] == 9, "the second stands where it stood alone");
-    all = kressedach_names(BESIDE(fittings, plate), LIST(sheets), firsts, 1, LIST(pasts));
+    kressedach_names(&all, BESIDE(fittings, plate), LIST(sheets), firsts, 1, LIST(pasts));
     expect(all.number == KRESSEDACH_LIST_TOO_SHORT && all.sheet == KRESSEDACH_NO_SHEET && all.place == 2, "no room for the second");
-    n = kressedach_name(BESIDE(fittings, plate), 2);
+    kressedach_name(&n, BESIDE(fittings, plate), 2);
     expect(n.number == KRESSEDACH_NO_SUCH_SHAPE && n.sheet == KRESSEDACH_NO_SHEET && n.place == 0, "no third name");
 
-    r = kressedach_read(BESIDE(plate, plate));
+    kressedach_read(&r, BESIDE(plate, plate));
     printf("a sheet with a formula as fittings: refused %u at %zu of sheet %u\n", r.number, r.place, r.sheet);
     expect(r.number == KRESSEDACH_TAG_OUT_OF_PLACE && r.sheet == KRESSEDACH_FITTINGS_SHEET && r.place == 13, "fittings have no formula");
 
-    r = kressedach_read(BESIDE(fittings, fittings));
+    kressedach_read(&r, BESIDE(fittings, fittings));
     expect(r.number == KRESSEDACH_FITTINGS_NAME && r.sheet == KRESSEDACH_CUSTOMERS_SHEET && r.place == 5, "a name that a fitting has");
 
-    r = kressedach_read(true, NULL, 0, LIST(plate));
+    kressedach_read(&r, true, NULL, 0, LIST(plate));
     expect(r.number == KRESSEDACH_ENDS_TOO_SOON && r.sheet == KRESSEDACH_FITTINGS_SHEET, "an empty fittings sheet is an input");
 }
 
@@ -270,21 +281,22 @@ static void judge_theirs(void) {
     static const uint8_t in_air[2 * 2];
     static const uint32_t their_lines[] = {1, 1, 1, 1};
     static const int32_t their_starts[] = {0, 25, 60, 120}, their_ends[] = {25, 40, 100, 130}, through[] = {25, 100, 100, 130};
-    struct kressedach_judge_report r = kressedach_judge(ALONE(sheet), LIST(in_air), LIST(lines), LIST(positions), LIST(shapes),
-                                                        their_lines, 3, their_starts, 3, their_ends, 3);
+    struct kressedach_judge_report r;
+    kressedach_judge(&r, ALONE(sheet), LIST(in_air), LIST(lines), LIST(positions), LIST(shapes), their_lines, 3, their_starts, 3,
+                     their_ends, 3);
     expect(r.number == KRESSEDACH_GIVEN && r.right && r.index == 3, "the first wall in two parts that touch");
-    r = kressedach_judge(ALONE(sheet), LIST(in_air), LIST(lines), LIST(positions), LIST(shapes), LIST(their_lines), LIST(their_starts),
-                         LIST(through));
+    kressedach_judge(&r, ALONE(sheet), LIST(in_air), LIST(lines), LIST(positions), LIST(shapes), LIST(their_lines), LIST(their_starts),
+                     LIST(through));
     printf("their list: wrong at %zu\n", r.index);
     expect(r.number == KRESSEDACH_GIVEN && !r.right && r.index == 1, "metal where the bore is");
-    r = kressedach_judge(ALONE(sheet), LIST(in_air), LIST(lines), LIST(positions), LIST(shapes), LIST(their_lines), LIST(their_starts),
-                         LIST(their_ends));
+    kressedach_judge(&r, ALONE(sheet), LIST(in_air), LIST(lines), LIST(positions), LIST(shapes), LIST(their_lines), LIST(their_starts),
+                     LIST(their_ends));
     expect(r.number == KRESSEDACH_GIVEN && !r.right && r.index == 3, "one too many");
-    r = kressedach_judge(ALONE(sheet), LIST(in_air), LIST(lines), LIST(positions), LIST(shapes), their_lines, 2, their_starts, 2,
-                         their_ends, 2);
+    kressedach_judge(&r, ALONE(sheet), LIST(in_air), LIST(lines), LIST(positions), LIST(shapes), their_lines, 2, their_starts, 2,
+                     their_ends, 2);
     expect(r.number == KRESSEDACH_GIVEN && !r.right && r.index == 2, "the second wall is lacking");
-    r = kressedach_judge(ALONE(sheet), LIST(in_air), LIST(lines), LIST(positions), LIST(shapes), LIST(their_lines), LIST(their_starts),
-                         their_ends, 3);
+    kressedach_judge(&r, ALONE(sheet), LIST(in_air), LIST(lines), LIST(positions), LIST(shapes), LIST(their_lines), LIST(their_starts),
+                     their_ends, 3);
     expect(r.number == KRESSEDACH_LENGTHS_DIFFER && r.place == 0 && !r.right && r.index == 0, "an end is missing");
 }
 

@@ -1,19 +1,20 @@
 /* Kressedach: reads solid sheets and answers with their wall lists. The C side of the proved library.
  *
- * Link target/staticlib/libhost.a, which `rt staticlib host` writes: cc prog.c libhost.a. It is for x86-64 Linux and position
- * independent. It keeps no state, allocates nothing, calls nothing back, never unwinds, and may be called from any number of threads
- * at once. Of the C library it needs memcpy, memmove and memset at most. Its working memory is on the stack, which the proofs do not
- * count: 512 kilobytes are enough. The most that was measured is 242 KB, for a move of 2047 operations in a row in edition 2, which are
- * read by descent, 112 bytes a code; reading them takes 234 KB.
+ * Link libhost.a, which bindings/archive writes, for Linux on x86-64 or Arm (aarch64): cc prog.c libhost.a. It is position independent,
+ * keeps no state, allocates nothing, calls nothing back, never unwinds, and may be called from any number of threads at once. Of the C
+ * library it needs memcpy, memmove and memset at most. Its working memory is on the stack, which the proofs do not count: 512 kilobytes
+ * are enough. docs/TRUST.md has what was measured, job by job and on both processors.
  *
- * Each function but the crossing makers takes the sheets of a call: the customer's, `sheet`, alone where `fitted` is false; else beside a fittings sheet,
- * `fittings`, whose shapes are numbered first. Where `fitted` is false, `fittings` is not looked at, and may have no bytes; where it is
- * true, an empty fittings sheet is refused as any other that ends too soon.
+ * Each function writes its report, a struct, where its first argument says, and returns nothing: on every processor alike.
  *
- * Each function answers a struct. Where `number` is 0, the job is done: `sheet` and `place` are 0 (but kressedach_name says in `sheet`
- * which sheet holds the name), and the rest is the answer. Else `number` and `place` are the refusal's, `sheet` says which sheet the place
- * is in, and the rest is 0. The page docs/SHEET.md says what a sheet is, byte by byte, and has all refusals with their places, the order in
- * which each job asks, and what the numbers of a tree's records mean. The crossing makers, which take no sheet, answer no `sheet`.
+ * Each function but the crossing makers takes the sheets of a call: the customer's, `sheet`, alone where `fitted` is false; else beside a
+ * fittings sheet, `fittings`, whose shapes are numbered first. Where `fitted` is false, `fittings` is not looked at, and may have no bytes;
+ * where it is true, an empty fittings sheet is refused as any other that ends too soon.
+ *
+ * Where a report's `number` is 0, the job is done: `sheet` and `place` are 0 (but kressedach_name says in `sheet` which sheet holds the
+ * name), and the rest is the answer. Else `number` and `place` are the refusal's, `sheet` says which sheet the place is in, and the rest is
+ * 0. The page docs/SHEET.md says what a sheet is, byte by byte, and has all refusals with their places, the order in which each job asks,
+ * and what the numbers of a tree's records mean. The crossing makers, which take no sheet, report no `sheet`.
  *
  * A refusal writes nothing to any list. Entries of a list past the last one given stay as they were.
  *
@@ -22,10 +23,15 @@
  *
  *  - A list is a pointer, then its number of entries (not of bytes). The entries are there for the whole call. Those of a list that is
  *    read are initialised; a list that is written may hold anything, and need not be cleared.
- *  - The pointer is aligned for its entry: uint16_t to 2, uint32_t and int32_t to 4, uint64_t, size_t and double to 8. Only with no entries may it be NULL.
+ *  - The pointer is aligned for its entry: uint16_t to 2, uint32_t and int32_t to 4, uint64_t, size_t and double to 8. Only with no
+ *    entries may it be NULL.
  *  - A list that is written (it has no `const`) overlaps no other list of the call. Lists that are only read may overlap.
- *  - No other thread writes a list of the call, or reads one that is written, until the call is over.
+ *  - The report is there, aligned and not NULL, and overlaps no list of the call. What it holds before does not matter.
+ *  - No other thread writes a list of the call, or reads one that is written, or the report, until the call is over.
  *  - A list holds at most PTRDIFF_MAX bytes, as every C object does.
+ *  - The crossing makers count with doubles, to the bit: the processor rounds to nearest, halves to even, and keeps subnormal numbers, as
+ *    it does when a program starts. Who has changed that (fesetround, flushing to zero, a part linked with -ffast-math) sets it back
+ *    before a call.
  *
  * The compiler checks these declarations against nothing; bindings/rust/tests/declared.rs compares them with crates/host/src/lib.rt.
  */
@@ -108,9 +114,10 @@ struct kressedach_read_report {
  *
  * The caller keeps: fittings_length bytes at fittings, sheet_length bytes at sheet. Nothing is written.
  */
-struct kressedach_read_report kressedach_read(bool fitted,
-                                              const uint8_t *fittings, size_t fittings_length,
-                                              const uint8_t *sheet, size_t sheet_length);
+void kressedach_read(struct kressedach_read_report *report,
+                     bool fitted,
+                     const uint8_t *fittings, size_t fittings_length,
+                     const uint8_t *sheet, size_t sheet_length);
 
 struct kressedach_name_report {
     uint8_t number;
@@ -125,10 +132,11 @@ struct kressedach_name_report {
  *
  * The caller keeps: fittings_length bytes at fittings, sheet_length bytes at sheet. Nothing is written.
  */
-struct kressedach_name_report kressedach_name(bool fitted,
-                                              const uint8_t *fittings, size_t fittings_length,
-                                              const uint8_t *sheet, size_t sheet_length,
-                                              size_t shape);
+void kressedach_name(struct kressedach_name_report *report,
+                     bool fitted,
+                     const uint8_t *fittings, size_t fittings_length,
+                     const uint8_t *sheet, size_t sheet_length,
+                     size_t shape);
 
 struct kressedach_names_report {
     uint8_t number;
@@ -144,12 +152,13 @@ struct kressedach_names_report {
  * The caller keeps: fittings_length bytes at fittings, sheet_length bytes at sheet; sheets_length, firsts_length and pasts_length entries
  * at sheets, firsts and pasts. The last three are written: none of them overlaps another list. Each needs an entry a name.
  */
-struct kressedach_names_report kressedach_names(bool fitted,
-                                                const uint8_t *fittings, size_t fittings_length,
-                                                const uint8_t *sheet, size_t sheet_length,
-                                                uint8_t *sheets, size_t sheets_length,
-                                                size_t *firsts, size_t firsts_length,
-                                                size_t *pasts, size_t pasts_length);
+void kressedach_names(struct kressedach_names_report *report,
+                      bool fitted,
+                      const uint8_t *fittings, size_t fittings_length,
+                      const uint8_t *sheet, size_t sheet_length,
+                      uint8_t *sheets, size_t sheets_length,
+                      size_t *firsts, size_t firsts_length,
+                      size_t *pasts, size_t pasts_length);
 
 struct kressedach_move_report {
     uint8_t number;
@@ -164,10 +173,11 @@ struct kressedach_move_report {
  *
  * The caller keeps: fittings_length bytes at fittings, sheet_length bytes at sheet, moved_length bytes at moved.
  */
-struct kressedach_move_report kressedach_move(bool fitted,
-                                              const uint8_t *fittings, size_t fittings_length,
-                                              const uint8_t *sheet, size_t sheet_length,
-                                              uint8_t *moved, size_t moved_length);
+void kressedach_move(struct kressedach_move_report *report,
+                     bool fitted,
+                     const uint8_t *fittings, size_t fittings_length,
+                     const uint8_t *sheet, size_t sheet_length,
+                     uint8_t *moved, size_t moved_length);
 
 struct kressedach_build_report {
     uint8_t number;
@@ -185,12 +195,13 @@ struct kressedach_build_report {
  * The caller keeps: fittings_length bytes at fittings, sheet_length bytes at sheet; kinds_length, firsts_length and seconds_length
  * entries at kinds, firsts and seconds. The last three are written: none of them overlaps another list. Each needs an entry a node.
  */
-struct kressedach_build_report kressedach_build(bool fitted,
-                                                const uint8_t *fittings, size_t fittings_length,
-                                                const uint8_t *sheet, size_t sheet_length,
-                                                uint16_t *kinds, size_t kinds_length,
-                                                uint16_t *firsts, size_t firsts_length,
-                                                uint16_t *seconds, size_t seconds_length);
+void kressedach_build(struct kressedach_build_report *report,
+                      bool fitted,
+                      const uint8_t *fittings, size_t fittings_length,
+                      const uint8_t *sheet, size_t sheet_length,
+                      uint16_t *kinds, size_t kinds_length,
+                      uint16_t *firsts, size_t firsts_length,
+                      uint16_t *seconds, size_t seconds_length);
 
 struct kressedach_run_report {
     uint8_t number;
@@ -206,13 +217,14 @@ struct kressedach_run_report {
  * counts_length and labels_length entries at roots, counts and labels. The last three are written: none of them overlaps another list.
  * Roots and counts need an entry a toggle, labels one a node.
  */
-struct kressedach_run_report kressedach_run(bool fitted,
-                                            const uint8_t *fittings, size_t fittings_length,
-                                            const uint8_t *sheet, size_t sheet_length,
-                                            const uint16_t *toggles, size_t toggles_length,
-                                            uint8_t *roots, size_t roots_length,
-                                            uint32_t *counts, size_t counts_length,
-                                            uint8_t *labels, size_t labels_length);
+void kressedach_run(struct kressedach_run_report *report,
+                    bool fitted,
+                    const uint8_t *fittings, size_t fittings_length,
+                    const uint8_t *sheet, size_t sheet_length,
+                    const uint16_t *toggles, size_t toggles_length,
+                    uint8_t *roots, size_t roots_length,
+                    uint32_t *counts, size_t counts_length,
+                    uint8_t *labels, size_t labels_length);
 
 struct kressedach_both_report {
     struct kressedach_run_report first;
@@ -230,18 +242,19 @@ struct kressedach_both_report {
  * second_labels. The last six are written: none of them overlaps another list. A foundry's roots and counts need an entry a toggle of its
  * own, its labels one a node.
  */
-struct kressedach_both_report kressedach_run_both(bool fitted,
-                                                  const uint8_t *fittings, size_t fittings_length,
-                                                  const uint8_t *sheet, size_t sheet_length,
-                                                  const uint8_t *order, size_t order_length,
-                                                  const uint16_t *first, size_t first_length,
-                                                  const uint16_t *second, size_t second_length,
-                                                  uint8_t *first_roots, size_t first_roots_length,
-                                                  uint32_t *first_counts, size_t first_counts_length,
-                                                  uint8_t *first_labels, size_t first_labels_length,
-                                                  uint8_t *second_roots, size_t second_roots_length,
-                                                  uint32_t *second_counts, size_t second_counts_length,
-                                                  uint8_t *second_labels, size_t second_labels_length);
+void kressedach_run_both(struct kressedach_both_report *report,
+                         bool fitted,
+                         const uint8_t *fittings, size_t fittings_length,
+                         const uint8_t *sheet, size_t sheet_length,
+                         const uint8_t *order, size_t order_length,
+                         const uint16_t *first, size_t first_length,
+                         const uint16_t *second, size_t second_length,
+                         uint8_t *first_roots, size_t first_roots_length,
+                         uint32_t *first_counts, size_t first_counts_length,
+                         uint8_t *first_labels, size_t first_labels_length,
+                         uint8_t *second_roots, size_t second_roots_length,
+                         uint32_t *second_counts, size_t second_counts_length,
+                         uint8_t *second_labels, size_t second_labels_length);
 
 /* Runs toggles as kressedach_run does, while operations of the formula become others, without a new build. An edit stands at one index of
  * three lists: after how many toggles (moments), which operation by its postfix position from 0 (positions, under either edition), and the
@@ -257,17 +270,18 @@ struct kressedach_both_report kressedach_run_both(bool fitted,
  * edit_counts_length entries at roots, counts, labels and edit_counts. The last four are written: none of them overlaps another list.
  * Roots and counts need an entry a toggle, labels one a node, edit_counts one an edit.
  */
-struct kressedach_run_report kressedach_run_edited(bool fitted,
-                                                   const uint8_t *fittings, size_t fittings_length,
-                                                   const uint8_t *sheet, size_t sheet_length,
-                                                   const uint16_t *toggles, size_t toggles_length,
-                                                   const uint64_t *moments, size_t moments_length,
-                                                   const uint16_t *positions, size_t positions_length,
-                                                   const uint16_t *codes, size_t codes_length,
-                                                   uint8_t *roots, size_t roots_length,
-                                                   uint32_t *counts, size_t counts_length,
-                                                   uint8_t *labels, size_t labels_length,
-                                                   uint32_t *edit_counts, size_t edit_counts_length);
+void kressedach_run_edited(struct kressedach_run_report *report,
+                           bool fitted,
+                           const uint8_t *fittings, size_t fittings_length,
+                           const uint8_t *sheet, size_t sheet_length,
+                           const uint16_t *toggles, size_t toggles_length,
+                           const uint64_t *moments, size_t moments_length,
+                           const uint16_t *positions, size_t positions_length,
+                           const uint16_t *codes, size_t codes_length,
+                           uint8_t *roots, size_t roots_length,
+                           uint32_t *counts, size_t counts_length,
+                           uint8_t *labels, size_t labels_length,
+                           uint32_t *edit_counts, size_t edit_counts_length);
 
 struct kressedach_classify_report {
     uint8_t number;
@@ -293,18 +307,19 @@ struct kressedach_classify_report {
  * and end_shapes_length entries at wall_lines, starts, ends, start_shapes and end_shapes. The last five are written: none of them
  * overlaps another list. Each needs half as many entries as there are crossings, rounded down, and one more for each row.
  */
-struct kressedach_classify_report kressedach_classify(bool fitted,
-                                                      const uint8_t *fittings, size_t fittings_length,
-                                                      const uint8_t *sheet, size_t sheet_length,
-                                                      const uint8_t *rows, size_t rows_length,
-                                                      const uint32_t *lines, size_t lines_length,
-                                                      const int32_t *positions, size_t positions_length,
-                                                      const uint16_t *shapes, size_t shapes_length,
-                                                      uint32_t *wall_lines, size_t wall_lines_length,
-                                                      int32_t *starts, size_t starts_length,
-                                                      int32_t *ends, size_t ends_length,
-                                                      uint16_t *start_shapes, size_t start_shapes_length,
-                                                      uint16_t *end_shapes, size_t end_shapes_length);
+void kressedach_classify(struct kressedach_classify_report *report,
+                         bool fitted,
+                         const uint8_t *fittings, size_t fittings_length,
+                         const uint8_t *sheet, size_t sheet_length,
+                         const uint8_t *rows, size_t rows_length,
+                         const uint32_t *lines, size_t lines_length,
+                         const int32_t *positions, size_t positions_length,
+                         const uint16_t *shapes, size_t shapes_length,
+                         uint32_t *wall_lines, size_t wall_lines_length,
+                         int32_t *starts, size_t starts_length,
+                         int32_t *ends, size_t ends_length,
+                         uint16_t *start_shapes, size_t start_shapes_length,
+                         uint16_t *end_shapes, size_t end_shapes_length);
 
 struct kressedach_judge_report {
     uint8_t number;
@@ -325,16 +340,17 @@ struct kressedach_judge_report {
  * positions_length and shapes_length entries at lines, positions and shapes; their_lines_length, their_starts_length and their_ends_length
  * entries at their_lines, their_starts and their_ends. Nothing is written.
  */
-struct kressedach_judge_report kressedach_judge(bool fitted,
-                                                const uint8_t *fittings, size_t fittings_length,
-                                                const uint8_t *sheet, size_t sheet_length,
-                                                const uint8_t *rows, size_t rows_length,
-                                                const uint32_t *lines, size_t lines_length,
-                                                const int32_t *positions, size_t positions_length,
-                                                const uint16_t *shapes, size_t shapes_length,
-                                                const uint32_t *their_lines, size_t their_lines_length,
-                                                const int32_t *their_starts, size_t their_starts_length,
-                                                const int32_t *their_ends, size_t their_ends_length);
+void kressedach_judge(struct kressedach_judge_report *report,
+                      bool fitted,
+                      const uint8_t *fittings, size_t fittings_length,
+                      const uint8_t *sheet, size_t sheet_length,
+                      const uint8_t *rows, size_t rows_length,
+                      const uint32_t *lines, size_t lines_length,
+                      const int32_t *positions, size_t positions_length,
+                      const uint16_t *shapes, size_t shapes_length,
+                      const uint32_t *their_lines, size_t their_lines_length,
+                      const int32_t *their_starts, size_t their_starts_length,
+                      const int32_t *their_ends, size_t their_ends_length);
 
 struct kressedach_cross_report {
     uint8_t number;
@@ -356,13 +372,14 @@ struct kressedach_cross_report {
  * entries at starts, positions and shapes. The last three are written: none of them overlaps another list. Starts needs an entry a shape,
  * positions and shapes one a crossing, of which a shape has two at most.
  */
-struct kressedach_cross_report kressedach_cross(double ox, double oy, double oz,
-                                                double dx, double dy, double dz,
-                                                const uint8_t *kinds, size_t kinds_length,
-                                                const double *numbers, size_t numbers_length,
-                                                uint8_t *starts, size_t starts_length,
-                                                int32_t *positions, size_t positions_length,
-                                                uint16_t *shapes, size_t shapes_length);
+void kressedach_cross(struct kressedach_cross_report *report,
+                      double ox, double oy, double oz,
+                      double dx, double dy, double dz,
+                      const uint8_t *kinds, size_t kinds_length,
+                      const double *numbers, size_t numbers_length,
+                      uint8_t *starts, size_t starts_length,
+                      int32_t *positions, size_t positions_length,
+                      uint16_t *shapes, size_t shapes_length);
 
 /* Crosses balls with one line that is parallel to an axis, in whole micrometres. A ball is four numbers: both offsets of the line from the
  * centre (-1000000 to 1000000), the radius (1 to 1000000), the centre along the line (-1000000000 to 1000000000). A ball begun counts, and
@@ -373,10 +390,11 @@ struct kressedach_cross_report kressedach_cross(double ox, double oy, double oz,
  * shapes. The last three are written: none of them overlaps another list. Starts needs an entry a ball, positions and shapes one a
  * crossing, of which a ball has two at most.
  */
-struct kressedach_cross_report kressedach_cross_balls(const int32_t *numbers, size_t numbers_length,
-                                                      uint8_t *starts, size_t starts_length,
-                                                      int32_t *positions, size_t positions_length,
-                                                      uint16_t *shapes, size_t shapes_length);
+void kressedach_cross_balls(struct kressedach_cross_report *report,
+                            const int32_t *numbers, size_t numbers_length,
+                            uint8_t *starts, size_t starts_length,
+                            int32_t *positions, size_t positions_length,
+                            uint16_t *shapes, size_t shapes_length);
 
 #ifdef __cplusplus
 }

@@ -1,36 +1,38 @@
 //! Links the proved library, `libhost.a`.
 //!
 //! 1. Where `KRESSEDACH_LIB_DIR` is set, the archive is taken from that folder.
-//! 2. Else it is taken from `target/staticlib` at the top of the repository, if it is younger than all of the library's sources.
-//! 3. Else `rt staticlib host` proves and compiles it there: from nothing that takes as long as the proofs do, afterwards seconds. Cargo
-//!    hides what a build script prints, so what is proved is said on the terminal, where there is one.
+//! 2. Else the repository's own is taken, for the processor that `KRESSEDACH_PROCESSOR` names or the plain one of the target. Where there
+//!    is none, or an old one, `bindings/archive` proves the library and compiles it: from nothing that takes as long as the proofs do,
+//!    afterwards seconds. Cargo hides what a build script prints, so what is proved is said on the terminal, where there is one.
 //!
-//! The archive is copied to `OUT_DIR`, since `rt ci` removes `target/`.
+//! An archive of another kind of processor is refused. The archive is copied to `OUT_DIR`, since `rt ci` removes `target/`.
 
 use std::fs::OpenOptions;
 use std::io::{BufRead, BufReader, Write};
 use std::path::{Path, PathBuf};
 use std::process::{Command, Stdio};
-use std::time::SystemTime;
 use std::{env, fs};
-
-const TARGET: &str = "x86_64-unknown-linux-gnu";
 
 fn main() {
     println!("cargo:rerun-if-changed=build.rs");
     println!("cargo:rerun-if-env-changed=KRESSEDACH_LIB_DIR");
-    let target = env::var("TARGET").unwrap();
-    if target != TARGET {
-        missing(&format!("libhost.a is for {TARGET}, and this build is for {target}."));
-    }
-    let archive = match env::var_os("KRESSEDACH_LIB_DIR") {
-        Some(dir) => lent(&PathBuf::from(dir)),
-        None => own(&PathBuf::from(env::var_os("CARGO_MANIFEST_DIR").unwrap()).join("../..")),
+    println!("cargo:rerun-if-env-changed=KRESSEDACH_PROCESSOR");
+    let plain = plain();
+    let asked = env::var("KRESSEDACH_PROCESSOR").ok().filter(|asked| !asked.is_empty());
+    let (archive, processor) = match env::var_os("KRESSEDACH_LIB_DIR") {
+        Some(dir) => lent(&PathBuf::from(dir), plain, asked),
+        None => own(&PathBuf::from(env::var_os("CARGO_MANIFEST_DIR").unwrap()).join("../.."), plain, asked),
     };
     let out = PathBuf::from(env::var_os("OUT_DIR").unwrap());
-    if let Err(e) = fs::copy(&archive, out.join("libhost.a")) {
-        missing(&format!("cannot copy {}: {e}.", archive.display()));
+    let bytes = fs::read(&archive).unwrap_or_else(|e| missing(&format!("{} cannot be read: {e}.", archive.display())));
+    if machine(&bytes) != Some(plain) {
+        let found = machine(&bytes).unwrap_or("neither x86-64 nor aarch64");
+        missing(&format!("{} is for {found}, and this build is for {plain}.", archive.display()));
     }
+    if let Err(e) = fs::write(out.join("libhost.a"), bytes) {
+        missing(&format!("{} cannot be copied: {e}.", archive.display()));
+    }
+    println!("cargo:rustc-env=KRESSEDACH_COMPILED_FOR={processor}");
     println!("cargo:rustc-link-search=native={}", out.display());
     println!("cargo:rustc-link-lib=static=host");
 }
@@ -38,44 +40,65 @@ fn main() {
 /// Ends the build and says what is missing, and how it is had.
 fn missing(what: &str) -> ! {
     eprintln!("\nkressedach needs the proved library, libhost.a. {what}");
-    eprintln!("Run 'rt staticlib host' at the top of the repository (rt is the Rattle toolchain),");
+    eprintln!("Run 'bindings/archive PROCESSOR' in the repository (it needs rt, the Rattle toolchain; PROCESSOR is x86-64 or aarch64),");
     eprintln!("or set KRESSEDACH_LIB_DIR to a folder that holds libhost.a.\n");
     std::process::exit(1);
 }
 
-/// The archive of the folder that the caller names.
-fn lent(dir: &Path) -> PathBuf {
+/// The plain processor of the target.
+fn plain() -> &'static str {
+    let part = |name: &str| env::var(name).unwrap_or_default();
+    match (part("CARGO_CFG_TARGET_OS").as_str(), part("CARGO_CFG_TARGET_ARCH").as_str()) {
+        ("linux", "x86_64") => "x86-64",
+        ("linux", "aarch64") => "aarch64",
+        _ => missing(&format!("It is for Linux on x86-64 or aarch64, and this build is for {}.", part("TARGET"))),
+    }
+}
+
+/// The kind of processor that an archive is for, by its first ELF object.
+fn machine(archive: &[u8]) -> Option<&'static str> {
+    let object = archive.windows(4).position(|bytes| bytes == b"\x7fELF")?;
+    match archive.get(object + 18..object + 20)? {
+        [62, 0] => Some("x86-64"),
+        [183, 0] => Some("aarch64"),
+        _ => None,
+    }
+}
+
+/// The archive of the folder that the caller names, and its processor: what the folder's file `processor` says, else the plain one.
+fn lent(dir: &Path, plain: &str, asked: Option<String>) -> (PathBuf, String) {
     let archive = dir.join("libhost.a");
     println!("cargo:rerun-if-changed={}", archive.display());
     if !archive.is_file() {
         missing(&format!("KRESSEDACH_LIB_DIR is {}, and there is no libhost.a in it.", dir.display()));
     }
-    archive
+    let said = fs::read_to_string(dir.join("processor")).map_or(plain.to_string(), |said| said.trim().to_string());
+    match asked {
+        Some(asked) if asked != said => missing(&format!("KRESSEDACH_PROCESSOR is {asked}, and {} is for {said}.", archive.display())),
+        _ => (archive, said),
+    }
 }
 
-/// The archive of the repository at `root`, made where there is none or an old one.
-fn own(root: &Path) -> PathBuf {
+/// The archive of the repository at `root`, made where there is none or an old one, and its processor.
+fn own(root: &Path, plain: &str, asked: Option<String>) -> (PathBuf, String) {
     // A folder here stands for all that is below it. The archive itself must not be named: it is written while this runs, so cargo
     // would take it for changed and run this again each time.
     println!("cargo:rerun-if-changed={}", root.join("crates").display());
     println!("cargo:rerun-if-changed={}", root.join("crates.txt").display());
-    let archive = root.join("target/staticlib/libhost.a");
-    let sources = youngest(&root.join("crates")).max(youngest(&root.join("crates.txt")));
-    if youngest(&archive) <= sources {
-        prove(root);
-    }
-    if !archive.is_file() {
-        missing("'rt staticlib host' ended well and wrote none.");
-    }
-    archive
+    let processor = if env::var("HOST") == env::var("TARGET") { runnable(root) } else { asked.unwrap_or(plain.to_string()) };
+    make(root, &processor);
+    let folder = if processor == "x86-64" { "target/staticlib".to_string() } else { format!("target/archive/{processor}") };
+    (root.join(folder).join("libhost.a"), processor)
 }
 
-/// When a file, or the youngest file of a folder, was last written.
-fn youngest(path: &Path) -> Option<SystemTime> {
-    match fs::read_dir(path) {
-        Ok(entries) => entries.flatten().filter_map(|entry| youngest(&entry.path())).max(),
-        Err(_) => fs::metadata(path).and_then(|about| about.modified()).ok(),
+/// The processor that is asked for, which this machine can run.
+fn runnable(root: &Path) -> String {
+    let said = Command::new("sh").arg("bindings/processor").current_dir(root).output();
+    let said = said.unwrap_or_else(|e| missing(&format!("bindings/processor cannot be run: {e}.")));
+    if !said.status.success() {
+        missing(&format!("{}.", String::from_utf8_lossy(&said.stderr).trim_start_matches("kressedach: ").trim()));
     }
+    String::from_utf8_lossy(&said.stdout).trim().to_string()
 }
 
 /// Says something on the terminal, if there is one.
@@ -85,24 +108,23 @@ fn tell(what: &str) {
     }
 }
 
-fn prove(root: &Path) {
-    if let Err(e) = Command::new("rt").arg("version").output() {
-        missing(&format!("There is none in target/staticlib, and rt cannot be run: {e}."));
-    }
-    tell("kressedach: proving the library with 'rt staticlib host'; from nothing that takes minutes");
-    // what rt says goes one way, in its order
+fn make(root: &Path, processor: &str) {
+    // what the script says goes one way, in its order
     let mut command = Command::new("sh");
-    let started = command.args(["-c", "exec rt staticlib host 2>&1"]).current_dir(root).stdout(Stdio::piped()).spawn();
-    let mut child = started.unwrap_or_else(|e| missing(&format!("'rt staticlib host' cannot be run: {e}.")));
+    let started = command.args(["-c", "exec sh bindings/archive \"$0\" 2>&1", processor]).current_dir(root).stdout(Stdio::piped()).spawn();
+    let mut child = started.unwrap_or_else(|e| missing(&format!("bindings/archive cannot be run: {e}.")));
     let mut said = String::new();
     for line in child.stdout.take().into_iter().flat_map(|out| BufReader::new(out).lines()).map_while(Result::ok) {
         if let Some(proved) = line.strip_prefix("rt: ").filter(|line| line.contains("proved")) {
+            if said.is_empty() {
+                tell("kressedach: proving the library; from nothing that takes minutes");
+            }
             tell(&format!("kressedach: {proved}"));
         }
         said += &(line + "\n");
     }
     if !child.wait().is_ok_and(|status| status.success()) {
         eprint!("{said}");
-        missing("'rt staticlib host' failed, as shown above.");
+        missing(&format!("'bindings/archive {processor}' failed, as shown above."));
     }
 }

@@ -176,24 +176,27 @@ pub fn cross_into(probe: Probe, kinds: &[u8], numbers: &[f64], lists: &mut LineL
     let ([ox, oy, oz], [dx, dy, dz]) = (probe.origin, probe.direction);
     // SAFETY: slices are pointers to that many entries; those that are written are borrowed by nobody else.
     let r = unsafe {
-        ffi::kressedach_cross(
-            ox,
-            oy,
-            oz,
-            dx,
-            dy,
-            dz,
-            kinds.as_ptr(),
-            kinds.len(),
-            numbers.as_ptr(),
-            numbers.len(),
-            lists.starts.as_mut_ptr(),
-            lists.starts.len(),
-            lists.positions.as_mut_ptr(),
-            lists.positions.len(),
-            lists.shapes.as_mut_ptr(),
-            lists.shapes.len(),
-        )
+        ffi::reported(|report| {
+            ffi::kressedach_cross(
+                report,
+                ox,
+                oy,
+                oz,
+                dx,
+                dy,
+                dz,
+                kinds.as_ptr(),
+                kinds.len(),
+                numbers.as_ptr(),
+                numbers.len(),
+                lists.starts.as_mut_ptr(),
+                lists.starts.len(),
+                lists.positions.as_mut_ptr(),
+                lists.positions.len(),
+                lists.shapes.as_mut_ptr(),
+                lists.shapes.len(),
+            )
+        })
     };
     counted(r)
 }
@@ -241,16 +244,19 @@ pub fn cross_balls(balls: &[Ball]) -> Result<Crossed, Refusal> {
 pub fn cross_balls_into(numbers: &[i32], lists: &mut LineLists) -> Result<Counts, Refusal> {
     // SAFETY: slices are pointers to that many entries; those that are written are borrowed by nobody else.
     let r = unsafe {
-        ffi::kressedach_cross_balls(
-            numbers.as_ptr(),
-            numbers.len(),
-            lists.starts.as_mut_ptr(),
-            lists.starts.len(),
-            lists.positions.as_mut_ptr(),
-            lists.positions.len(),
-            lists.shapes.as_mut_ptr(),
-            lists.shapes.len(),
-        )
+        ffi::reported(|report| {
+            ffi::kressedach_cross_balls(
+                report,
+                numbers.as_ptr(),
+                numbers.len(),
+                lists.starts.as_mut_ptr(),
+                lists.starts.len(),
+                lists.positions.as_mut_ptr(),
+                lists.positions.len(),
+                lists.shapes.as_mut_ptr(),
+                lists.shapes.len(),
+            )
+        })
     };
     counted(r)
 }

@@ -100,29 +100,32 @@ pub fn run_edited_into<'a>(
     let (fitted, fittings, sheet) = sheets.into().parts();
     // SAFETY: slices are pointers to that many entries; those that are written are borrowed by nobody else.
     let r = unsafe {
-        ffi::kressedach_run_edited(
-            fitted,
-            fittings.as_ptr(),
-            fittings.len(),
-            sheet.as_ptr(),
-            sheet.len(),
-            toggles.as_ptr(),
-            toggles.len(),
-            edits.moments.as_ptr(),
-            edits.moments.len(),
-            edits.positions.as_ptr(),
-            edits.positions.len(),
-            edits.codes.as_ptr(),
-            edits.codes.len(),
-            lists.roots.as_mut_ptr(),
-            lists.roots.len(),
-            lists.counts.as_mut_ptr(),
-            lists.counts.len(),
-            lists.labels.as_mut_ptr(),
-            lists.labels.len(),
-            edit_counts.as_mut_ptr(),
-            edit_counts.len(),
-        )
+        ffi::reported(|report| {
+            ffi::kressedach_run_edited(
+                report,
+                fitted,
+                fittings.as_ptr(),
+                fittings.len(),
+                sheet.as_ptr(),
+                sheet.len(),
+                toggles.as_ptr(),
+                toggles.len(),
+                edits.moments.as_ptr(),
+                edits.moments.len(),
+                edits.positions.as_ptr(),
+                edits.positions.len(),
+                edits.codes.as_ptr(),
+                edits.codes.len(),
+                lists.roots.as_mut_ptr(),
+                lists.roots.len(),
+                lists.counts.as_mut_ptr(),
+                lists.counts.len(),
+                lists.labels.as_mut_ptr(),
+                lists.labels.len(),
+                edit_counts.as_mut_ptr(),
+                edit_counts.len(),
+            )
+        })
     };
     unless_refused(r.number, r.sheet, r.place, r.nodes)
 }

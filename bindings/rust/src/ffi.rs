@@ -1,5 +1,5 @@
 //! The exported functions of `crates/host`, declared again. The compiler checks this against nothing; `tests/declared.rs` compares it
-//! with `crates/host/src/lib.rt`.
+//! with `crates/host/src/lib.rt`. Each writes its report where its first argument says, on every processor.
 //!
 //! # Safety
 //!
@@ -104,18 +104,27 @@ pub struct CrossReport {
 }
 
 extern "C" {
-    pub fn kressedach_read(fitted: bool, fittings: *const u8, fittings_length: usize, sheet: *const u8, sheet_length: usize) -> ReadReport;
+    pub fn kressedach_read(
+        report: *mut ReadReport,
+        fitted: bool,
+        fittings: *const u8,
+        fittings_length: usize,
+        sheet: *const u8,
+        sheet_length: usize,
+    );
 
     pub fn kressedach_name(
+        report: *mut NameReport,
         fitted: bool,
         fittings: *const u8,
         fittings_length: usize,
         sheet: *const u8,
         sheet_length: usize,
         shape: usize,
-    ) -> NameReport;
+    );
 
     pub fn kressedach_names(
+        report: *mut NamesReport,
         fitted: bool,
         fittings: *const u8,
         fittings_length: usize,
@@ -127,9 +136,10 @@ extern "C" {
         firsts_length: usize,
         pasts: *mut usize,
         pasts_length: usize,
-    ) -> NamesReport;
+    );
 
     pub fn kressedach_move(
+        report: *mut MoveReport,
         fitted: bool,
         fittings: *const u8,
         fittings_length: usize,
@@ -137,9 +147,10 @@ extern "C" {
         sheet_length: usize,
         moved: *mut u8,
         moved_length: usize,
-    ) -> MoveReport;
+    );
 
     pub fn kressedach_build(
+        report: *mut BuildReport,
         fitted: bool,
         fittings: *const u8,
         fittings_length: usize,
@@ -151,9 +162,10 @@ extern "C" {
         firsts_length: usize,
         seconds: *mut u16,
         seconds_length: usize,
-    ) -> BuildReport;
+    );
 
     pub fn kressedach_run(
+        report: *mut RunReport,
         fitted: bool,
         fittings: *const u8,
         fittings_length: usize,
@@ -167,9 +179,10 @@ extern "C" {
         counts_length: usize,
         labels: *mut u8,
         labels_length: usize,
-    ) -> RunReport;
+    );
 
     pub fn kressedach_run_both(
+        report: *mut BothReport,
         fitted: bool,
         fittings: *const u8,
         fittings_length: usize,
@@ -193,9 +206,10 @@ extern "C" {
         second_counts_length: usize,
         second_labels: *mut u8,
         second_labels_length: usize,
-    ) -> BothReport;
+    );
 
     pub fn kressedach_run_edited(
+        report: *mut RunReport,
         fitted: bool,
         fittings: *const u8,
         fittings_length: usize,
@@ -217,9 +231,10 @@ extern "C" {
         labels_length: usize,
         edit_counts: *mut u32,
         edit_counts_length: usize,
-    ) -> RunReport;
+    );
 
     pub fn kressedach_classify(
+        report: *mut ClassifyReport,
         fitted: bool,
         fittings: *const u8,
         fittings_length: usize,
@@ -243,9 +258,10 @@ extern "C" {
         start_shapes_length: usize,
         end_shapes: *mut u16,
         end_shapes_length: usize,
-    ) -> ClassifyReport;
+    );
 
     pub fn kressedach_judge(
+        report: *mut JudgeReport,
         fitted: bool,
         fittings: *const u8,
         fittings_length: usize,
@@ -265,9 +281,10 @@ extern "C" {
         their_starts_length: usize,
         their_ends: *const i32,
         their_ends_length: usize,
-    ) -> JudgeReport;
+    );
 
     pub fn kressedach_cross(
+        report: *mut CrossReport,
         ox: f64,
         oy: f64,
         oz: f64,
@@ -284,9 +301,10 @@ extern "C" {
         positions_length: usize,
         shapes: *mut u16,
         shapes_length: usize,
-    ) -> CrossReport;
+    );
 
     pub fn kressedach_cross_balls(
+        report: *mut CrossReport,
         numbers: *const i32,
         numbers_length: usize,
         starts: *mut u8,
@@ -295,5 +313,16 @@ extern "C" {
         positions_length: usize,
         shapes: *mut u16,
         shapes_length: usize,
-    ) -> CrossReport;
+    );
+}
+
+/// The report of a call, which is told where to write it.
+///
+/// # Safety
+///
+/// `call` has the whole report written.
+pub unsafe fn reported<R>(call: impl FnOnce(*mut R)) -> R {
+    let mut report = std::mem::MaybeUninit::uninit();
+    call(report.as_mut_ptr());
+    unsafe { report.assume_init() }
 }

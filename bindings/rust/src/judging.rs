@@ -130,27 +130,30 @@ pub fn judge_lists<'a>(
     let (fitted, fittings, sheet) = sheets.into().parts();
     // SAFETY: a slice is a pointer to that many entries, which nobody writes while it is borrowed.
     let r = unsafe {
-        ffi::kressedach_judge(
-            fitted,
-            fittings.as_ptr(),
-            fittings.len(),
-            sheet.as_ptr(),
-            sheet.len(),
-            rows.as_ptr(),
-            rows.len(),
-            lines.as_ptr(),
-            lines.len(),
-            positions.as_ptr(),
-            positions.len(),
-            shapes.as_ptr(),
-            shapes.len(),
-            theirs.lines.as_ptr(),
-            theirs.lines.len(),
-            theirs.starts.as_ptr(),
-            theirs.starts.len(),
-            theirs.ends.as_ptr(),
-            theirs.ends.len(),
-        )
+        ffi::reported(|report| {
+            ffi::kressedach_judge(
+                report,
+                fitted,
+                fittings.as_ptr(),
+                fittings.len(),
+                sheet.as_ptr(),
+                sheet.len(),
+                rows.as_ptr(),
+                rows.len(),
+                lines.as_ptr(),
+                lines.len(),
+                positions.as_ptr(),
+                positions.len(),
+                shapes.as_ptr(),
+                shapes.len(),
+                theirs.lines.as_ptr(),
+                theirs.lines.len(),
+                theirs.starts.as_ptr(),
+                theirs.starts.len(),
+                theirs.ends.as_ptr(),
+                theirs.ends.len(),
+            )
+        })
     };
     unless_refused(r.number, r.sheet, r.place, Opinion::of(r.right, r.index, theirs.lines.len()))
 }

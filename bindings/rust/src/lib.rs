@@ -19,6 +19,9 @@ pub use lines::{classify, classify_from, classify_into, Crossing, Start, Wall, W
 pub use refusal::{Refusal, Which};
 use std::ops::Range;
 
+/// The processor that the linked library was compiled for: `x86-64`, `x86-64-v3`, `x86-64-v4` or `aarch64`.
+pub const PROCESSOR: &str = env!("KRESSEDACH_COMPILED_FOR");
+
 /// No dwarf tree has more nodes than this: three times 1024 leaves, less 3.
 pub const MOST_NODES: usize = 3069;
 
@@ -164,7 +167,9 @@ fn unless_refused<T>(number: u8, sheet: u8, place: usize, answer: T) -> Result<T
 pub fn read<'a>(sheets: impl Into<Sheets<'a>>) -> Result<Read, Refusal> {
     let (fitted, fittings, sheet) = sheets.into().parts();
     // SAFETY: a slice is a pointer to that many bytes, which nobody writes while it is borrowed.
-    let r = unsafe { ffi::kressedach_read(fitted, fittings.as_ptr(), fittings.len(), sheet.as_ptr(), sheet.len()) };
+    let r = unsafe {
+        ffi::reported(|report| ffi::kressedach_read(report, fitted, fittings.as_ptr(), fittings.len(), sheet.as_ptr(), sheet.len()))
+    };
     unless_refused(r.number, r.sheet, r.place, Read { names: r.names, leaves: r.leaves, formula: r.first..r.past })
 }
 
@@ -227,19 +232,22 @@ pub fn names_into<'a>(sheets: impl Into<Sheets<'a>>, lists: &mut NameLists) -> R
     let (fitted, fittings, sheet) = sheets.into().parts();
     // SAFETY: slices are pointers to that many entries; those that are written are borrowed by nobody else.
     let r = unsafe {
-        ffi::kressedach_names(
-            fitted,
-            fittings.as_ptr(),
-            fittings.len(),
-            sheet.as_ptr(),
-            sheet.len(),
-            lists.sheets.as_mut_ptr(),
-            lists.sheets.len(),
-            lists.firsts.as_mut_ptr(),
-            lists.firsts.len(),
-            lists.pasts.as_mut_ptr(),
-            lists.pasts.len(),
-        )
+        ffi::reported(|report| {
+            ffi::kressedach_names(
+                report,
+                fitted,
+                fittings.as_ptr(),
+                fittings.len(),
+                sheet.as_ptr(),
+                sheet.len(),
+                lists.sheets.as_mut_ptr(),
+                lists.sheets.len(),
+                lists.firsts.as_mut_ptr(),
+                lists.firsts.len(),
+                lists.pasts.as_mut_ptr(),
+                lists.pasts.len(),
+            )
+        })
     };
     unless_refused(r.number, r.sheet, r.place, r.names)
 }
@@ -263,7 +271,9 @@ pub fn name<'a>(sheets: impl Into<Sheets<'a>>, shape: usize) -> Result<&'a [u8],
     let sheets = sheets.into();
     let (fitted, fittings, sheet) = sheets.parts();
     // SAFETY: a slice is a pointer to that many bytes, which nobody writes while it is borrowed.
-    let r = unsafe { ffi::kressedach_name(fitted, fittings.as_ptr(), fittings.len(), sheet.as_ptr(), sheet.len(), shape) };
+    let r = unsafe {
+        ffi::reported(|report| ffi::kressedach_name(report, fitted, fittings.as_ptr(), fittings.len(), sheet.as_ptr(), sheet.len(), shape))
+    };
     unless_refused(r.number, r.sheet, r.place, sheets.part(r.sheet, r.first..r.past))
 }
 
@@ -299,7 +309,18 @@ pub fn move_into<'a>(sheets: impl Into<Sheets<'a>>, moved: &mut [u8]) -> Result<
     let (fitted, fittings, sheet) = sheets.into().parts();
     // SAFETY: slices are pointers to that many entries; the one that is written is borrowed by nobody else.
     let r = unsafe {
-        ffi::kressedach_move(fitted, fittings.as_ptr(), fittings.len(), sheet.as_ptr(), sheet.len(), moved.as_mut_ptr(), moved.len())
+        ffi::reported(|report| {
+            ffi::kressedach_move(
+                report,
+                fitted,
+                fittings.as_ptr(),
+                fittings.len(),
+                sheet.as_ptr(),
+                sheet.len(),
+                moved.as_mut_ptr(),
+                moved.len(),
+            )
+        })
     };
     unless_refused(r.number, r.sheet, r.place, r.length)
 }
@@ -351,19 +372,22 @@ pub fn build_into<'a>(sheets: impl Into<Sheets<'a>>, kinds: &mut [u16], firsts: 
     let (fitted, fittings, sheet) = sheets.into().parts();
     // SAFETY: slices are pointers to that many entries; those that are written are borrowed by nobody else.
     let r = unsafe {
-        ffi::kressedach_build(
-            fitted,
-            fittings.as_ptr(),
-            fittings.len(),
-            sheet.as_ptr(),
-            sheet.len(),
-            kinds.as_mut_ptr(),
-            kinds.len(),
-            firsts.as_mut_ptr(),
-            firsts.len(),
-            seconds.as_mut_ptr(),
-            seconds.len(),
-        )
+        ffi::reported(|report| {
+            ffi::kressedach_build(
+                report,
+                fitted,
+                fittings.as_ptr(),
+                fittings.len(),
+                sheet.as_ptr(),
+                sheet.len(),
+                kinds.as_mut_ptr(),
+                kinds.len(),
+                firsts.as_mut_ptr(),
+                firsts.len(),
+                seconds.as_mut_ptr(),
+                seconds.len(),
+            )
+        })
     };
     unless_refused(r.number, r.sheet, r.place, Size { leaves: r.leaves, nodes: r.nodes, rounds: r.rounds, height: r.height })
 }
@@ -414,21 +438,24 @@ pub fn run_into<'a>(
     let (fitted, fittings, sheet) = sheets.into().parts();
     // SAFETY: slices are pointers to that many entries; those that are written are borrowed by nobody else.
     let r = unsafe {
-        ffi::kressedach_run(
-            fitted,
-            fittings.as_ptr(),
-            fittings.len(),
-            sheet.as_ptr(),
-            sheet.len(),
-            toggles.as_ptr(),
-            toggles.len(),
-            roots.as_mut_ptr(),
-            roots.len(),
-            counts.as_mut_ptr(),
-            counts.len(),
-            labels.as_mut_ptr(),
-            labels.len(),
-        )
+        ffi::reported(|report| {
+            ffi::kressedach_run(
+                report,
+                fitted,
+                fittings.as_ptr(),
+                fittings.len(),
+                sheet.as_ptr(),
+                sheet.len(),
+                toggles.as_ptr(),
+                toggles.len(),
+                roots.as_mut_ptr(),
+                roots.len(),
+                counts.as_mut_ptr(),
+                counts.len(),
+                labels.as_mut_ptr(),
+                labels.len(),
+            )
+        })
     };
     unless_refused(r.number, r.sheet, r.place, r.nodes)
 }
@@ -512,31 +539,34 @@ pub fn run_both_into<'a>(
     let ([first, second], [to_first, to_second]) = (toggles, lists);
     // SAFETY: slices are pointers to that many entries; those that are written are borrowed by nobody else.
     let r = unsafe {
-        ffi::kressedach_run_both(
-            fitted,
-            fittings.as_ptr(),
-            fittings.len(),
-            sheet.as_ptr(),
-            sheet.len(),
-            order.as_ptr(),
-            order.len(),
-            first.as_ptr(),
-            first.len(),
-            second.as_ptr(),
-            second.len(),
-            to_first.roots.as_mut_ptr(),
-            to_first.roots.len(),
-            to_first.counts.as_mut_ptr(),
-            to_first.counts.len(),
-            to_first.labels.as_mut_ptr(),
-            to_first.labels.len(),
-            to_second.roots.as_mut_ptr(),
-            to_second.roots.len(),
-            to_second.counts.as_mut_ptr(),
-            to_second.counts.len(),
-            to_second.labels.as_mut_ptr(),
-            to_second.labels.len(),
-        )
+        ffi::reported(|report| {
+            ffi::kressedach_run_both(
+                report,
+                fitted,
+                fittings.as_ptr(),
+                fittings.len(),
+                sheet.as_ptr(),
+                sheet.len(),
+                order.as_ptr(),
+                order.len(),
+                first.as_ptr(),
+                first.len(),
+                second.as_ptr(),
+                second.len(),
+                to_first.roots.as_mut_ptr(),
+                to_first.roots.len(),
+                to_first.counts.as_mut_ptr(),
+                to_first.counts.len(),
+                to_first.labels.as_mut_ptr(),
+                to_first.labels.len(),
+                to_second.roots.as_mut_ptr(),
+                to_second.roots.len(),
+                to_second.counts.as_mut_ptr(),
+                to_second.counts.len(),
+                to_second.labels.as_mut_ptr(),
+                to_second.labels.len(),
+            )
+        })
     };
     [r.first, r.second].map(|r| unless_refused(r.number, r.sheet, r.place, r.nodes))
 }

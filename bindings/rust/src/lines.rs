@@ -237,31 +237,34 @@ pub fn classify_into<'a>(
     let (fitted, fittings, sheet) = sheets.into().parts();
     // SAFETY: slices are pointers to that many entries; those that are written are borrowed by nobody else.
     let r = unsafe {
-        ffi::kressedach_classify(
-            fitted,
-            fittings.as_ptr(),
-            fittings.len(),
-            sheet.as_ptr(),
-            sheet.len(),
-            rows.as_ptr(),
-            rows.len(),
-            lines.as_ptr(),
-            lines.len(),
-            positions.as_ptr(),
-            positions.len(),
-            shapes.as_ptr(),
-            shapes.len(),
-            walls.lines.as_mut_ptr(),
-            walls.lines.len(),
-            walls.starts.as_mut_ptr(),
-            walls.starts.len(),
-            walls.ends.as_mut_ptr(),
-            walls.ends.len(),
-            walls.start_shapes.as_mut_ptr(),
-            walls.start_shapes.len(),
-            walls.end_shapes.as_mut_ptr(),
-            walls.end_shapes.len(),
-        )
+        ffi::reported(|report| {
+            ffi::kressedach_classify(
+                report,
+                fitted,
+                fittings.as_ptr(),
+                fittings.len(),
+                sheet.as_ptr(),
+                sheet.len(),
+                rows.as_ptr(),
+                rows.len(),
+                lines.as_ptr(),
+                lines.len(),
+                positions.as_ptr(),
+                positions.len(),
+                shapes.as_ptr(),
+                shapes.len(),
+                walls.lines.as_mut_ptr(),
+                walls.lines.len(),
+                walls.starts.as_mut_ptr(),
+                walls.starts.len(),
+                walls.ends.as_mut_ptr(),
+                walls.ends.len(),
+                walls.start_shapes.as_mut_ptr(),
+                walls.start_shapes.len(),
+                walls.end_shapes.as_mut_ptr(),
+                walls.end_shapes.len(),
+            )
+        })
     };
     unless_refused(r.number, r.sheet, r.place, r.walls)
 }

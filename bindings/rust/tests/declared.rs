@@ -1,4 +1,5 @@
-//! The two declarations of the boundary, `ffi.rs` and `kressedach.h`, are those that `crates/host/src/lib.rt` asks for.
+//! The two declarations of the boundary, `ffi.rs` and `kressedach.h`, are those that `crates/host/src/lib.rt` asks for: what a function of
+//! the library returns, it writes where a first argument more says.
 
 use std::fs;
 
@@ -76,7 +77,8 @@ fn the_declarations_agree() {
         let (parameters, rest) = rest.split_once(") -> ").unwrap();
         let result = rest.split_whitespace().next().unwrap();
         let (c, rust): (Vec<_>, Vec<_>) = parameters.split(", ").map(parameter).unzip();
-        declared(format!("{} {name}({});", c_type(result), c.join(", ")), format!("pub fn {name}({}) -> {result};", rust.join(", ")));
+        let (c, rust) = (c.join(", "), rust.join(", "));
+        declared(format!("void {name}({} *report, {c});", c_type(result)), format!("pub fn {name}(report: *mut {result}, {rust});"));
     }
     for (what, most) in [("NODES", kressedach::MOST_NODES), ("NAMES", kressedach::MOST_NAMES)] {
         assert!(text("../c/kressedach.h").contains(&format!("#define KRESSEDACH_MOST_{what} {most}\n")));
@@ -84,6 +86,6 @@ fn the_declarations_agree() {
     // nothing is declared that is not exported
     let count = |s: &str, of: &str| s.matches(of).count();
     assert_eq!((structs.len(), functions.len()), (10, 12), "structs and functions of the host");
-    assert_eq!((count(&header, "_report {"), count(&header, "_report kressedach_")), (10, 12), "of the header");
+    assert_eq!((count(&header, "_report {"), count(&header, "void kressedach_")), (10, 12), "of the header");
     assert_eq!((count(&ffi, "pub struct "), count(&ffi, "pub fn ")), (10, 12), "of ffi.rs");
 }

@@ -1,4 +1,5 @@
-//! The first command, `./try`: what it needs it says before the long part, and what it proves while it does. Its tools are stood in for.
+//! The first command, `./try`, and what makes the archive for it: what it needs it says before the long part, the first answer comes before
+//! any proof, and what is proved is said while it goes on. The machine and its tools are stood in for.
 
 mod said;
 
@@ -10,33 +11,62 @@ use std::process::Command;
 
 const ROOT: &str = concat!(env!("CARGO_MANIFEST_DIR"), "/../..");
 
-/// What stands for rt: it proves two crates, or fails at the second.
-const PROVES: &str = "echo \"$*\" >&2; echo 'fn outcome::x: proved'; echo 'rt: outcome proved (1 s)'; echo 'rt: basics proved (2 s)' >&2\n";
-const FAILS: &str = "echo 'rt: outcome proved (1 s)'; echo 'fn basics::y: refused'; echo 'rt: basics NOT PROVED (exit 1, 2 s)'; exit 1\n";
+/// What stands for rt: it runs a program, proves two crates and then the library; or fails at the second.
+const PROVES: &str = r#"case $1 in
+doc) echo "$(dirname "$0")/kit/docs/START-HERE.md" ;;
+try) echo 'first_walls ran' ;;
+check) echo 'fn outcome::x: proved'; echo 'rt: outcome proved (1 s)'; echo 'rt: basics proved (2 s)' >&2 ;;
+staticlib)
+    echo 'rt: outcome proved (unchanged since it was last proved)'
+    [ -z "${RATTLE_HOME:-}" ] || "$RATTLE_HOME/on/aarch64/toolchain/bin/clang" module.bc -o module.o
+    mkdir -p target/staticlib; echo archive >target/staticlib/libhost.a
+    echo 'rt: target/staticlib/libhost.a has the functions of host' ;;
+esac
+"#;
+const FAILS: &str = "[ \"$1\" != try ] || exit 0; echo 'rt: outcome proved (1 s)'; echo 'fn basics::y: refused'; echo 'rt: basics NOT PROVED (exit 1, 2 s)'; exit 1\n";
+const WRONG: &str = "[ \"$1\" != try ] || { echo 'the interpreter wrote something else'; exit 1; }\n";
 
-/// A folder with what the command takes of the repository, the shell's own tools and these, each a line of shell.
-fn tools(name: &str, tools: &[(&str, &str)]) -> PathBuf {
+/// What stands for uname, on these machines.
+const X86_64: &str = "case $1 in -s) echo Linux ;; *) echo x86_64 ;; esac\n";
+const ARM: &str = "case $1 in -s) echo Linux ;; *) echo aarch64 ;; esac\n";
+const OTHER: &str = "case $1 in -s) echo Linux ;; *) echo riscv64 ;; esac\n";
+
+const SHELLS: [&str; 19] = [
+    "awk", "cat", "chmod", "cp", "date", "dirname", "find", "grep", "head", "ln", "mkdir", "mktemp", "mv", "rm", "sed", "sh", "tail",
+    "tee", "touch",
+];
+
+/// A folder with what the command takes of the repository, the shell's own tools and these, each a text of shell.
+fn tools(name: &str, machine: &str, tools: &[(&str, &str)]) -> PathBuf {
     let folder = Path::new(env!("CARGO_TARGET_TMPDIR")).join(name);
     let _ = fs::remove_dir_all(&folder);
-    fs::create_dir_all(folder.join("crates")).unwrap();
+    fs::create_dir_all(folder.join("crates/first_walls")).unwrap();
+    fs::create_dir_all(folder.join("bindings")).unwrap();
     symlink(Path::new(ROOT).join("examples"), folder.join("examples")).unwrap();
-    for file in ["try", "crates.txt"] {
+    for file in ["try", "crates.txt", "bindings/archive", "bindings/processor", "crates/first_walls/stdout"] {
         fs::copy(Path::new(ROOT).join(file), folder.join(file)).unwrap();
     }
-    for tool in ["sh", "dirname", "uname", "find", "grep", "mktemp", "rm", "tee", "sed", "tail"] {
+    for tool in SHELLS {
         let place = ["/bin", "/usr/bin"].iter().map(|place| Path::new(place).join(tool)).find(|path| path.exists()).unwrap();
         symlink(place, folder.join(tool)).unwrap();
     }
-    for (tool, line) in tools {
-        fs::write(folder.join(tool), format!("#!/bin/sh\n{line}")).unwrap();
-        fs::set_permissions(folder.join(tool), fs::Permissions::from_mode(0o755)).unwrap();
+    let stood_in = tools.iter().copied().chain([("uname", machine)]);
+    for (tool, text) in stood_in {
+        program(&folder.join(tool), text);
     }
     folder
 }
 
-fn tried(folder: &Path) -> (Option<i32>, String, String) {
+fn program(path: &Path, text: &str) {
+    fs::create_dir_all(path.parent().unwrap()).unwrap();
+    fs::write(path, format!("#!/bin/sh\n{text}")).unwrap();
+    fs::set_permissions(path, fs::Permissions::from_mode(0o755)).unwrap();
+}
+
+fn tried(folder: &Path, processor: Option<&str>) -> (Option<i32>, String, String) {
     let mut command = Command::new("/bin/sh");
-    let output = command.arg(folder.join("try")).env("PATH", folder).env_remove("KRESSEDACH_LIB_DIR").output().unwrap();
+    command.arg(folder.join("try")).env("PATH", folder).env_remove("KRESSEDACH_LIB_DIR").env_remove("KRESSEDACH_PROCESSOR");
+    let output = command.envs(processor.map(|named| ("KRESSEDACH_PROCESSOR", named))).output().unwrap();
     let text = |bytes: &[u8]| String::from_utf8_lossy(bytes).into_owned();
     (output.status.code(), text(&output.stdout), text(&output.stderr))
 }
@@ -46,32 +76,94 @@ fn cargo() -> String {
     format!("while [ \"$1\" != -- ]; do shift; done; shift; exec {WALLCHECK} \"$@\"\n")
 }
 
-const NEEDS: &str = "This needs rt (the Rattle toolchain), cargo, a C compiler (cc), and x86-64 Linux.\n";
+const NEEDS: &str = "This needs rt (the Rattle toolchain), cargo, a C compiler (cc), and Linux on x86-64 or Arm (aarch64).\n";
 
-#[test]
-fn what_it_proves_and_prints() {
-    let cargo = cargo();
-    let (status, said, wrong) = tried(&tools("try-all", &[("rt", PROVES), ("cargo", &cargo), ("cc", "")]));
-    assert_eq!((status, wrong.as_str()), (Some(0), ""), "{said}");
+/// The walls that the README prints.
+fn walls() -> String {
     let readme = fs::read_to_string(format!("{ROOT}/README.md")).unwrap();
     let walls: Vec<&str> =
         readme.lines().skip_while(|line| !line.contains("line,start,end")).map_while(|line| line.strip_prefix("    ")).collect();
     assert_eq!(walls.len(), 4);
-    let (before, after) = said.split_once("  outcome proved (1 s)\n  basics proved (2 s)\n").unwrap_or_else(|| panic!("{said}"));
-    assert!(before.starts_with(NEEDS) && before.lines().nth(1).unwrap().starts_with("Proving the library"), "{before}");
-    assert!(after.ends_with(&format!("\n{}\n", walls.join("\n"))), "{after}");
+    walls.join("\n") + "\n"
+}
+
+#[test]
+fn what_it_proves_and_prints() {
+    let cargo = cargo();
+    let folder = tools("try-all", X86_64, &[("rt", PROVES), ("cargo", &cargo), ("cc", "")]);
+    let (status, said, wrong) = tried(&folder, None);
+    assert_eq!((status, wrong.as_str()), (Some(0), ""), "{said}");
+    let (first, rest) = said.split_once("Proving the library for x86-64, ").unwrap_or_else(|| panic!("{said}"));
+    let due =
+        format!("{NEEDS}Two lines through a bored block, by the library's own code, which is not yet proved on this machine:\n{}", walls());
+    assert_eq!(first, due);
+    let crates: usize = rest.split(' ').next().unwrap().parse().unwrap();
+    for (k, name) in ["outcome", "basics", "host"].iter().enumerate() {
+        let line = format!("\n  {name} proved; {} crates left, 0 min ", crates - k - 1);
+        assert_eq!(rest.matches(&line).count(), 1, "{line}{rest}");
+    }
+    assert!(rest.ends_with(&format!("examples/block.sheet:\n{}", walls())), "{rest}");
+    assert!(!folder.join("target/archive").exists());
 }
 
 /// What is proved already is not proved again; nor is anything where a library is lent.
 #[test]
 fn nothing_is_proved_twice() {
     let cargo = cargo();
-    let folder = tools("try-again", &[("rt", FAILS), ("cargo", &cargo), ("cc", "")]);
+    let folder = tools("try-again", X86_64, &[("rt", FAILS), ("cargo", &cargo), ("cc", "")]);
     fs::create_dir_all(folder.join("target/staticlib")).unwrap();
     fs::write(folder.join("target/staticlib/libhost.a"), b"").unwrap();
-    let (status, said, wrong) = tried(&folder);
+    let (status, said, wrong) = tried(&folder, None);
     assert_eq!((status, wrong.as_str()), (Some(0), ""), "{said}");
     assert!(!said.contains("Proving") && said.ends_with("\n2,0,100000,Block,Block\n"), "{said}");
+}
+
+/// On Arm the module that was proved is compiled once more, and the archive for x86-64 that rt writes beside it is not taken for it.
+#[test]
+fn on_arm_the_archive_is_for_arm() {
+    let cargo = cargo();
+    let folder = tools("try-arm", ARM, &[("rt", PROVES), ("cargo", &cargo), ("cc", "")]);
+    let toolchain = folder.join("kit/on/aarch64/toolchain/bin");
+    fs::create_dir_all(folder.join("kit/docs")).unwrap();
+    fs::write(folder.join("module.bc"), "the module").unwrap();
+    // the last word after -o is what is written: the words that it was told
+    program(&toolchain.join("clang"), "all=$*; while [ \"$1\" != -o ]; do shift; done; echo \"$all\" >\"$2\"\n");
+    program(&toolchain.join("llvm-ar"), "cp \"$4\" \"$3\"\n");
+    let (status, said, wrong) = tried(&folder, None);
+    assert_eq!((status, wrong.as_str()), (Some(0), ""), "{said}");
+    assert!(said.contains("Proving the library for aarch64, "), "{said}");
+    let made = fs::read_to_string(folder.join("target/archive/aarch64/libhost.a")).unwrap();
+    assert!(made.contains("--target=aarch64-unknown-linux-gnu") && made.contains("-ffp-contract=off"), "{made}");
+    assert_eq!(fs::read_to_string(folder.join("target/archive/aarch64/processor")).unwrap(), "aarch64\n");
+    assert_eq!(fs::read_to_string(folder.join("target/archive/module.bc")).unwrap(), "the module");
+    let (status, said, _) = tried(&folder, None);
+    assert!(status == Some(0) && !said.contains("Proving"), "{said}");
+}
+
+/// A processor that there is not, that is of another kind of machine, or that this one lacks, is a message.
+#[test]
+fn a_processor_that_this_machine_cannot_run_is_said() {
+    let cargo = cargo();
+    let there = [("rt", PROVES), ("cargo", cargo.as_str()), ("cc", "")];
+    let plain = "head -n 0\n";
+    for (machine, processor, due) in [
+        (X86_64, Some("aarch64"), "KRESSEDACH_PROCESSOR is aarch64, and this machine is x86_64"),
+        (ARM, Some("x86-64-v3"), "KRESSEDACH_PROCESSOR is x86-64-v3, and this machine is aarch64"),
+        (
+            X86_64,
+            Some("x86-64-v9"),
+            "KRESSEDACH_PROCESSOR is x86-64-v9, and the library is compiled for x86-64, x86-64-v3, x86-64-v4 or aarch64",
+        ),
+        (X86_64, Some("x86-64-v4"), "KRESSEDACH_PROCESSOR is x86-64-v4, and the processor of this machine lacks avx"),
+        (OTHER, None, "the library is compiled for x86-64 and for Arm (aarch64), and this machine is riscv64"),
+    ] {
+        let folder = tools("try-processor", machine, &there);
+        // what reads /proc/cpuinfo finds no flags
+        fs::remove_file(folder.join("sed")).unwrap();
+        program(&folder.join("sed"), plain);
+        let (status, said, wrong) = tried(&folder, processor);
+        assert_eq!((status, said.as_str(), wrong), (Some(1), NEEDS, format!("kressedach: {due}\n")));
+    }
 }
 
 #[test]
@@ -79,7 +171,7 @@ fn what_is_missing_is_said_before_anything_is_proved() {
     let cargo = cargo();
     for (missing, there) in [("rt", ["cargo", "cc"]), ("cargo", ["rt", "cc"]), ("cc", ["rt", "cargo"])] {
         let line = |tool: &str| if tool == "rt" { PROVES } else { cargo.as_str() };
-        let (status, said, wrong) = tried(&tools(&format!("try-no-{missing}"), &there.map(|tool| (tool, line(tool)))));
+        let (status, said, wrong) = tried(&tools(&format!("try-no-{missing}"), X86_64, &there.map(|tool| (tool, line(tool)))), None);
         assert_eq!((status, said.as_str()), (Some(1), NEEDS), "{missing}");
         assert!(wrong.starts_with(&format!("There is no\n  {missing}: ")), "{wrong}");
     }
@@ -88,8 +180,17 @@ fn what_is_missing_is_said_before_anything_is_proved() {
 #[test]
 fn a_proof_that_fails_is_shown() {
     let cargo = cargo();
-    let (status, said, wrong) = tried(&tools("try-fails", &[("rt", FAILS), ("cargo", &cargo), ("cc", "")]));
+    let (status, said, wrong) = tried(&tools("try-fails", X86_64, &[("rt", FAILS), ("cargo", &cargo), ("cc", "")]), None);
     assert_eq!(status, Some(1));
-    assert!(said.ends_with("  outcome proved (1 s)\n  basics NOT PROVED (exit 1, 2 s)\n"), "{said}");
+    assert!(said.contains("\n  outcome proved; ") && said.ends_with("\n  basics NOT PROVED (exit 1, 2 s)\n"), "{said}");
     assert!(wrong.contains("fn basics::y: refused") && wrong.contains("The library is not proved."), "{wrong}");
+}
+
+/// No wall is shown that the library's code does not give.
+#[test]
+fn a_first_answer_that_is_another_is_not_shown() {
+    let cargo = cargo();
+    let (status, said, wrong) = tried(&tools("try-wrong", X86_64, &[("rt", WRONG), ("cargo", &cargo), ("cc", "")]), None);
+    assert_eq!((status, said.as_str()), (Some(1), NEEDS));
+    assert!(wrong.contains("does not give the walls") && wrong.contains("wrote something else"), "{wrong}");
 }

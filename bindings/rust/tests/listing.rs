@@ -4,7 +4,7 @@
 //! are compared over every form of formula with up to ten leaves, and some larger ones. The contraction does not depend on which
 //! operation stands where, so every operation is a union here, and every leaf the one shape.
 //!
-//! The program is `target/bin/listing` at the top of the repository, which `rt check listing` leaves there, or the file that
+//! The program is the one that `rt check listing` leaves in `target/bin`, run by `.ci/listing`, or the file that
 //! `KRESSEDACH_LISTING` names.
 
 use peer::formula::{Formula, Op};
@@ -18,7 +18,7 @@ use std::process::{Command, Stdio};
 fn listing(bytes: &[u8]) -> String {
     let program = match std::env::var_os("KRESSEDACH_LISTING") {
         Some(file) => PathBuf::from(file),
-        None => PathBuf::from(env!("CARGO_MANIFEST_DIR")).join("../../target/bin/listing"),
+        None => PathBuf::from(env!("CARGO_MANIFEST_DIR")).join("../../.ci/listing"),
     };
     let mut child = Command::new(&program)
         .stdin(Stdio::piped())

@@ -431,7 +431,8 @@ fn usage() {
     assert_eq!(said(&["cross", "a", "b", "--fittings", "c"]), usage("'cross' takes no sheet", "help cross"));
     assert_eq!(said(&["cross", "-", "-"]), usage("only one of the files can be standard input", "help cross"));
     assert_eq!(said(&["walls", "-", "-"]), usage("only one of the files can be standard input", "help walls"));
-    assert_eq!(said(&["--version"]).1, concat!("wallcheck ", env!("CARGO_PKG_VERSION"), "\n"));
+    let due = format!("wallcheck {}, with the library compiled for {}\n", env!("CARGO_PKG_VERSION"), kressedach::PROCESSOR);
+    assert_eq!(said(&["--version"]).1, due);
 }
 
 /// A page of all commands, and one for each, which two ways ask for.

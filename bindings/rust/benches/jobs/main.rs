@@ -4,6 +4,7 @@
 //! answers of each row are compared with those of `peer`.
 
 mod edits;
+mod levels;
 mod plain;
 mod rows;
 
@@ -43,6 +44,7 @@ fn main() {
         println!("At {leaves} leaves classify is {least:.1} to {most:.1} times faster than walking.");
     }
     edited(edits);
+    levels::print(best);
 }
 
 /// Times an edit beside a toggle of one leaf and a new build: edits and toggles as the difference of two runs.
@@ -88,12 +90,15 @@ fn verdict(said: &[Said], what: &str, is_so: fn(&Said) -> bool) {
 fn heading() {
     let date = Command::new("date").args(["-u", "+%F"]).output().map(|said| String::from_utf8_lossy(&said.stdout).trim().to_string());
     let cpu = std::fs::read_to_string("/proc/cpuinfo").unwrap_or_default();
-    let model = cpu.lines().find_map(|line| line.strip_prefix("model name")).unwrap_or("unknown").trim_start_matches([' ', '\t', ':']);
+    let model =
+        cpu.lines().find_map(|line| line.strip_prefix("model name")).unwrap_or("no model named").trim_start_matches([' ', '\t', ':']);
     let cores = std::thread::available_parallelism().map_or(1, usize::from);
     println!("# Benchmarks\n");
     println!(
-        "`cargo bench --offline -q` in `bindings/rust` prints this page. Measured on {}, {model}, {cores} cores.\n",
-        date.unwrap_or_default()
+        "`cargo bench --offline -q` in `bindings/rust` prints this page. Measured on {}, {} ({model}), {cores} cores, with the library compiled for {}.\n",
+        date.unwrap_or_default(),
+        std::env::consts::ARCH,
+        kressedach::PROCESSOR
     );
     println!(
         "Nanoseconds an item, the best of many turns: an item is a leaf for read, move and build, a toggle for run, a crossing for classify, a shape for cross."

@@ -353,26 +353,26 @@ impl Starts {
     }
 }
 
-struct Lines {
-    sheet: Vec<u8>,
-    rows: Vec<u8>,
-    lines: Vec<u32>,
-    positions: Vec<i32>,
-    shapes: Vec<u16>,
+pub struct Lines {
+    pub sheet: Vec<u8>,
+    pub rows: Vec<u8>,
+    pub lines: Vec<u32>,
+    pub positions: Vec<i32>,
+    pub shapes: Vec<u16>,
 }
 
 /// The lists that walls are written to.
 #[derive(Clone)]
-struct Room {
-    lines: Vec<u32>,
-    starts: Vec<i32>,
-    ends: Vec<i32>,
-    start_shapes: Vec<u16>,
-    end_shapes: Vec<u16>,
+pub struct Room {
+    pub lines: Vec<u32>,
+    pub starts: Vec<i32>,
+    pub ends: Vec<i32>,
+    pub start_shapes: Vec<u16>,
+    pub end_shapes: Vec<u16>,
 }
 
 impl Room {
-    fn of(walls: usize) -> Room {
+    pub fn of(walls: usize) -> Room {
         Room {
             lines: vec![0; walls],
             starts: vec![0; walls],
@@ -396,6 +396,16 @@ const WORDS: Way = |l, walls| plain::by_words(&l.sheet, l.plain(), walls).unwrap
 const WALK: Way = |l, walls| plain::by_walk(&l.sheet, l.plain(), walls).unwrap();
 
 impl Lines {
+    fn of(sheet: Vec<u8>, rows: Vec<u8>, all: &[Crossing]) -> Lines {
+        Lines {
+            sheet,
+            rows,
+            lines: all.iter().map(|c| c.line).collect(),
+            positions: all.iter().map(|c| c.position).collect(),
+            shapes: all.iter().map(|c| c.shape).collect(),
+        }
+    }
+
     fn plain(&self) -> plain::Lines<'_> {
         plain::Lines { rows: &self.rows, lines: &self.lines, positions: &self.positions, shapes: &self.shapes }
     }
@@ -418,6 +428,12 @@ fn classify(formula: &'static str, leaves: usize, a_line: usize, starts: Starts,
     let (sheet, names) = sheet(formula, leaves);
     let named = format!("{a_line} a line{}", starts.named());
     lines_row(formula, leaves, sheet, starts.rows(names, count / a_line), crossings(names, a_line, count), named)
+}
+
+/// Lines in air, with random crossings, so many a line.
+pub fn lines(formula: &str, leaves: usize, a_line: usize, count: usize) -> Lines {
+    let (sheet, names) = sheet(formula, leaves);
+    Lines::of(sheet, Starts::Air.rows(names, count / a_line), &crossings(names, a_line, count))
 }
 
 /// The same, a call that brings few crossings.
@@ -450,13 +466,7 @@ fn together(leaves: usize, count: usize) -> Row {
 fn lines_row(formula: &'static str, leaves: usize, sheet: Vec<u8>, rows: Vec<u8>, all: Vec<Crossing>, named: String) -> Row {
     let count = all.len();
     let room = count / 2 + rows.len() / leaves.min(256);
-    let lines = std::rc::Rc::new(Lines {
-        sheet: sheet.clone(),
-        rows: rows.clone(),
-        lines: all.iter().map(|c| c.line).collect(),
-        positions: all.iter().map(|c| c.position).collect(),
-        shapes: all.iter().map(|c| c.shape).collect(),
-    });
+    let lines = std::rc::Rc::new(Lines::of(sheet.clone(), rows.clone(), &all));
     let timed = |way: Way| -> Box<dyn FnMut()> {
         let (lines, mut room) = (lines.clone(), Room::of(room));
         Box::new(move || _ = black_box(way(black_box(&lines), &mut room.lent())))
@@ -503,16 +513,16 @@ fn lines_row(formula: &'static str, leaves: usize, sheet: Vec<u8>, rows: Vec<u8>
 }
 
 /// A line and the shapes that it crosses: half-spaces or boxes by their kinds and numbers, or balls.
-struct Drawing {
-    probe: Probe,
-    kinds: Vec<u8>,
-    numbers: Vec<f64>,
+pub struct Drawing {
+    pub probe: Probe,
+    pub kinds: Vec<u8>,
+    pub numbers: Vec<f64>,
     balls: Vec<i32>,
 }
 
 impl Drawing {
     /// So many shapes near the line, of which most are crossed.
-    fn of(shapes: &str, count: usize) -> Drawing {
+    pub fn of(shapes: &str, count: usize) -> Drawing {
         let dice = &mut Dice::of(14, count as u64);
         let mut drawing = Drawing {
             probe: Probe {

@@ -59,7 +59,9 @@ fn answer(args: &[&[u8]]) -> Result<Vec<u8>, Stop> {
 fn told(fittings: Option<Source>, args: &[&[u8]]) -> Result<String, Stop> {
     let files = |sheet| Files::of(fittings, Source(sheet));
     match *args {
-        [b"--version" | b"-V"] => Ok(concat!("wallcheck ", env!("CARGO_PKG_VERSION"), "\n").into()),
+        [b"--version" | b"-V"] => {
+            Ok(format!("wallcheck {}, with the library compiled for {}\n", env!("CARGO_PKG_VERSION"), kressedach::PROCESSOR).into())
+        }
         [b"show", sheet] => page_jobs::show(files(sheet)?),
         [b"read", b"--names", sheet] => sheet_jobs::names(files(sheet)?),
         [b"read", sheet] => sheet_jobs::read(files(sheet)?),

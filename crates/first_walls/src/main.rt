@@ -1,0 +1,114 @@
+// The walls that two lines find in a bored block: the first answer of `./try`, before anything is proved.
+use job_classify::ClassifyAnswer;
+
+fn number(n: usize) {
+    io::print_decimal(1, n as u64);
+    io::write_all(1, b",");
+}
+
+fn position(z: i32) {
+    let m = cross_marks::mark_of(z);
+    if m < 2147483648 {
+        io::write_all(1, b"-");
+        number((2147483648 - m) as usize);
+    } else {
+        number((m - 2147483648) as usize);
+    }
+}
+
+fn name(sheet: &[u8], shape: u16, end: &[u8]) {
+    io::write_all(1, job_name::name(false, b"", sheet, shape as usize));
+    io::write_all(1, end);
+}
+
+fn wall(sheet: &[u8], line: u32, start: i32, end: i32, start_shape: u16, end_shape: u16) {
+    number(line as usize);
+    position(start);
+    position(end);
+    name(sheet, start_shape, b",");
+    name(sheet, end_shape, b"\n");
+}
+
+// Line 0 meets nothing; line 1 goes through block and bore, line 2 through the block alone.
+fn classify(
+    sheet: &[u8],
+    lines: &mut [u32; 6],
+    starts: &mut [i32; 6],
+    ends: &mut [i32; 6],
+    start_shapes: &mut [u16; 6],
+    end_shapes: &mut [u16; 6],
+) -> usize {
+    let in_air = [0u8; 6];
+    let line = [1u32, 1, 1, 1, 2, 2];
+    let position = [0i32, 40000, 60000, 100000, 0, 100000];
+    let shape = [0u16, 1, 1, 0, 0, 0];
+    match job_classify::classify(
+        false,
+        b"",
+        sheet,
+        &in_air,
+        &line,
+        &position,
+        &shape,
+        lines,
+        starts,
+        ends,
+        start_shapes,
+        end_shapes,
+    ) {
+        ClassifyAnswer::Walls { walls } => walls,
+        ClassifyAnswer::Refused {
+            number: _,
+            place: _,
+        } => 0,
+        ClassifyAnswer::Unfit {
+            number: _,
+            place: _,
+        } => 0,
+    }
+}
+
+fn main() {
+    let sheet =
+        b"\x01\x00\x02\x00\x01\x02\x00\x05Block\x02\x00\x04Bore\x03\x00\x06\x00\x00\x00\x01\xff\xf2";
+    let mut lines = [0u32; 6];
+    let mut starts = [0i32; 6];
+    let mut ends = [0i32; 6];
+    let mut start_shapes = [0u16; 6];
+    let mut end_shapes = [0u16; 6];
+    let walls = classify(
+        sheet,
+        &mut lines,
+        &mut starts,
+        &mut ends,
+        &mut start_shapes,
+        &mut end_shapes,
+    );
+    io::write_all(1, b"line,start,end,start_shape,end_shape\n");
+    if walls == 3 {
+        wall(
+            sheet,
+            lines[0],
+            starts[0],
+            ends[0],
+            start_shapes[0],
+            end_shapes[0],
+        );
+        wall(
+            sheet,
+            lines[1],
+            starts[1],
+            ends[1],
+            start_shapes[1],
+            end_shapes[1],
+        );
+        wall(
+            sheet,
+            lines[2],
+            starts[2],
+            ends[2],
+            start_shapes[2],
+            end_shapes[2],
+        );
+    }
+}
