@@ -53,13 +53,14 @@ fn printed(commands: &str) -> String {
     String::from_utf8_lossy(&[said, given].concat()).into_owned()
 }
 
-/// The file names of the sheets, and the words that name the fittings sheet of each: its text's first remark does. Those with none first.
+/// The file names of the sheets, and the words that name the fittings sheet of each: its text names the page of one. Those with none first.
 fn sheets() -> Vec<(String, String)> {
     let files = std::fs::read_dir(EXAMPLES).unwrap().map(|entry| entry.unwrap().file_name().into_string().unwrap());
     let beside = |sheet: String| {
         let text = sheet.replace(".sheet", ".txt");
         let page = std::fs::read_to_string(Path::new(EXAMPLES).join(&text)).unwrap_or_else(|e| panic!("{text}: {e}"));
-        let fittings = page.lines().next().and_then(|line| line.strip_prefix("# beside ")).map(|file| format!("--fittings {file} "));
+        let fittings = page.lines().find_map(|line| line.strip_prefix("fittings "));
+        let fittings = fittings.map(|text| format!("--fittings {} ", text.replace(".txt", ".sheet")));
         (fittings.unwrap_or_default(), sheet)
     };
     let mut sheets: Vec<(String, String)> = files.filter(|name| name.ends_with(".sheet")).map(beside).collect();
@@ -74,7 +75,7 @@ fn the_sheets_are_made_of_the_texts() {
     assert_eq!(sheets.len(), 7);
     for (beside, sheet) in sheets {
         let text = sheet.replace(".sheet", ".txt");
-        let (made, said) = said_to(b"", &format!("wallcheck make {beside}{text}"));
+        let (made, said) = said_to(b"", &format!("wallcheck make {text}"));
         assert_eq!(String::from_utf8_lossy(&said), "", "{text}");
         let path = Path::new(EXAMPLES).join(&sheet);
         if std::env::var_os("KRESSEDACH_WRITE_EXAMPLES").is_some() {
@@ -82,13 +83,13 @@ fn the_sheets_are_made_of_the_texts() {
         }
         assert!(std::fs::read(&path).unwrap() == made, "{sheet} is not what is made of {text}");
         let (page, _) = said_to(b"", &format!("wallcheck show {beside}{sheet}"));
-        assert_eq!(said_to(&page, &format!("wallcheck make {beside}-")).0, made, "{sheet}");
+        assert_eq!(said_to(&page, "wallcheck make -").0, made, "{sheet}");
     }
 }
 
 #[test]
 fn the_commands_print_as_written() {
-    for (page, due) in [("README.md", 30), ("NEWCOMERS.md", 8)] {
+    for (page, due) in [("README.md", 35), ("NEWCOMERS.md", 10)] {
         let mut commands = 0;
         for (_, lines) in blocks(page, "console") {
             for said in format!("\n{}", lines.join("\n")).split("\n$ ").skip(1) {
@@ -105,10 +106,12 @@ fn the_commands_print_as_written() {
 #[test]
 fn the_files_are_as_written() {
     let texts = blocks("NEWCOMERS.md", "text");
-    assert_eq!(texts.len(), 1);
+    assert_eq!(texts.len(), 3);
     for (name, lines) in texts {
         assert_eq!(std::fs::read_to_string(Path::new(EXAMPLES).join(&name)).unwrap().trim_end(), lines.join("\n"), "{name}");
     }
     let starts = std::fs::read(Path::new(EXAMPLES).join("cut-starts.csv")).unwrap();
     assert_eq!(said_to(b"", "wallcheck cross --starts cut-shapes.csv cut-lines.csv").0, starts);
+    let crossings = std::fs::read(Path::new(EXAMPLES).join("cut-crossings.csv")).unwrap();
+    assert_eq!(said_to(b"", "wallcheck cross cut-shapes.csv cut-lines.csv").0, crossings);
 }

@@ -14,7 +14,7 @@ fn why_a_formula_is_wrong() {
     let wrong =
         |place: usize, why: &str| refused(&format!("refused 7 at byte {place} of the customer's sheet: the formula is wrong\n  {why}"));
     let read = |codes: &[u16]| wallcheck(&["read", "-"], &sheet(&names, codes));
-    assert_eq!(read(&[0, 5]), wrong(30, "the code there is shape 5, and the last is 4"));
+    assert_eq!(read(&[0, 5]), wrong(30, "the code there is shape 5, and the last is 4; is '--fittings FILE' missing?"));
     assert_eq!(read(&[256]), wrong(28, "there is no such code as 0x0100"));
     assert_eq!(read(&[0xFFF4]), wrong(28, "there is no such code as 0xFFF4"));
     let few = |operands: usize| format!("with fewer than two operands before it: {operands} (formulas are postfix)");
@@ -28,7 +28,7 @@ fn why_a_formula_is_wrong() {
     assert_eq!(wallcheck(&["read", "-"], &odd), wrong(25, "it has 3 bytes, and each code has two"));
 
     let first = |codes: &[u16]| wallcheck(&["read", "-"], &sheet_first(&names, codes));
-    assert_eq!(first(&[0xFFF0, 0, 5]), wrong(32, "the code there is shape 5, and the last is 4"));
+    assert_eq!(first(&[0xFFF0, 0, 5]), wrong(32, "the code there is shape 5, and the last is 4; is '--fittings FILE' missing?"));
     assert_eq!(first(&[0xFFF0, 0, 1, 2]), wrong(34, "the formula is complete before the code there"));
     assert_eq!(first(&[0, 0xFFF1]), wrong(30, "the formula is complete before the code there"));
     let ends = "it ends before its operations have two operands each (in edition 2 they stand after it)";
@@ -37,7 +37,7 @@ fn why_a_formula_is_wrong() {
     // the fittings' names count
     let lugs = file("messages-lugs.sheet", &fittings(&["Lug", "Boss"]));
     let beside = wallcheck(&["read", "--fittings", &lugs, "-"], &sheet(&["Plate"], &[3]));
-    assert_eq!(beside, wrong(16, "the code there is shape 3, and the last is 2"));
+    assert_eq!(beside, wrong(16, "the code there is shape 3, and the last is 2; are these the fittings that it was made beside?"));
 }
 
 /// The file that is at fault, of all that a command takes.
@@ -58,8 +58,8 @@ fn echoed_text_is_escaped_and_cut() {
     let path = file("echoed.sheet", &sheet(&["A"], &[0]));
     let said = |list: &str| wallcheck(&["run", &path, "-"], list.as_bytes()).2;
     let heading = "wallcheck: standard input: row 1: the heading is to be name or shape, and it is ";
-    assert_eq!(said("line;position;name\n1;2;A\n"), format!("{heading}\"line;position;name\"; fields are divided by commas, not by ;\n"));
-    assert_eq!(said("line\tname\n"), format!("{heading}\"line\\tname\"; fields are divided by commas, not by tabs\n"));
+    assert_eq!(said("line;position;name\n1;2;A\n"), format!("{heading}\"line;position;name\"\n"));
+    assert_eq!(said("line\tname\n"), format!("{heading}\"line\\tname\"\n"));
     assert_eq!(said("\u{1b}[2J\n"), format!("{heading}\"\\u{{1b}}[2J\"\n"));
     assert_eq!(said(&"x".repeat(100_000)), format!("{heading}\"{}\"...\n", "x".repeat(60)));
     for list in [

@@ -47,9 +47,27 @@ fn beside_a_fittings_sheet() {
     assert_eq!(wallcheck(&["show", &lugs], b""), answered("# a fittings sheet: names, and no formula\nLug\nBoss\n"));
     let own = sheet(&["Plate"], &[2, 0, 0xFFF0]);
     assert_eq!(made(&["--fittings", &lugs], "Plate\nformula Plate union Lug"), own);
-    let page = "# beside a fittings sheet with the names Lug Boss\nedition 1\nPlate\n\nformula\n  Plate union Lug\n\n# the formula never uses Boss\n";
-    assert_eq!(wallcheck(&["show", "--fittings", &lugs, "-"], &own), answered(page));
-    assert_eq!(made(&["--fittings", &lugs], page), own);
+    let (beside, rest) = (
+        "# beside a fittings sheet with the names Lug Boss\nedition 1\n",
+        "Plate\n\nformula\n  Plate union Lug\n\n# the formula never uses Boss\n",
+    );
+    let page = format!("{beside}fittings {lugs}\n{rest}");
+    assert_eq!(wallcheck(&["show", "--fittings", &lugs, "-"], &own), answered(&page));
+    assert_eq!(made(&[], &page), own);
+    assert_eq!(made(&["--fittings", &lugs], &format!("{beside}{rest}")), own);
+    // standard input has no name that a page could have
+    let unnamed = wallcheck(&["show", "--fittings", "-", &file("pages-own.sheet", &own)], &fittings(&["Lug", "Boss"]));
+    assert_eq!(unnamed, answered(&format!("{beside}{rest}")));
+    let twice = wallcheck(&["make", "--fittings", &lugs, "-"], page.as_bytes());
+    assert_eq!((twice.0, twice.1.as_str()), (Some(2), ""));
+    assert!(
+        twice.2.contains("standard input names its fittings, ") && twice.2.contains("'--fittings' beside that is one too many"),
+        "{}",
+        twice.2
+    );
+    // the page of the fittings will do
+    let text = file("pages-lugs.txt", b"Lug\nBoss\n");
+    assert_eq!(made(&["--fittings", &text], "Plate\nformula Plate union Lug"), own);
 
     let said = |args: &[&str], page: &str| wallcheck(&[&["make"], args, &["-"]].concat(), page.as_bytes());
     let stands = "standard input: has no formula, and makes a fittings sheet, which stands beside none";
@@ -59,7 +77,7 @@ fn beside_a_fittings_sheet() {
     let taken = "standard input: line 1, column 1: Lug is taken already, in the fittings sheet";
     assert_eq!(said(&["--fittings", &lugs], "Lug\nformula Lug"), unreadable(taken));
     let plate = file("pages-plate.sheet", &own);
-    let formula = "refused 2 at byte 13 of the fittings sheet: a tag that is unknown or out of place\n  the tag there is 3";
+    let formula = "refused 2 at byte 13 of the fittings sheet: a tag that is unknown or out of place\n  it has a formula: it is a customer's sheet, and --fittings takes names alone";
     assert_eq!(said(&["--fittings", &plate], "A\nformula A"), refused_of(&plate, formula));
     assert_eq!(wallcheck(&["make", "--fittings", "-", "-"], b"").0, Some(2));
 }
@@ -67,7 +85,7 @@ fn beside_a_fittings_sheet() {
 #[test]
 fn wrong_pages_and_sheets() {
     let said = |page: &[u8]| wallcheck(&["make", "-"], page);
-    let due = "there is no shape \"port\"; there is Port; names are compared letter by letter";
+    let due = "there is no shape \"port\"; there are Port and PORT; names are compared letter by letter";
     assert_eq!(said(b"Port\nPORT\nformula port"), unreadable(&format!("standard input: line 3, column 9: {due}")));
     assert_eq!(said(b"Port\n\xFF\n"), unreadable("standard input: row 2: is not text in UTF-8"));
     // exclusive union is out of use: a page that says so has it in edition 2, and nothing is brought there
@@ -102,7 +120,8 @@ fn sheets_there_and_back() {
 fn back(args: &[&str], sheet: &[u8]) -> Vec<u8> {
     let (status, page, said) = wallcheck(&[&["show"], args, &["-"]].concat(), sheet);
     assert_eq!((status, said.as_str()), (Some(0), ""));
-    let (status, back, _) = wallcheck_bytes(&[&["make"], args, &["-"]].concat(), page.as_bytes());
+    // a page that is shown beside fittings names them
+    let (status, back, _) = wallcheck_bytes(&["make", "-"], page.as_bytes());
     assert_eq!(status, Some(0), "{page}");
     back
 }

@@ -5,6 +5,7 @@ use std::ffi::OsStr;
 use std::io::Write;
 use std::path::PathBuf;
 use std::process::{Command, Stdio};
+use std::sync::atomic::{AtomicUsize, Ordering};
 
 /// Exit status, standard output, standard error.
 pub type Said = (Option<i32>, String, String);
@@ -42,9 +43,12 @@ pub fn unreadable(text: &str) -> Said {
     (Some(2), String::new(), format!("wallcheck: {text}\n"))
 }
 
-/// A file with these bytes, and its path.
+/// A file with these bytes, and its path. It is there whole at once: another test may read one of this name meanwhile.
 pub fn file(name: &str, bytes: &[u8]) -> String {
-    let path = PathBuf::from(env!("CARGO_TARGET_TMPDIR")).join(name);
-    std::fs::write(&path, bytes).unwrap();
+    static FILES: AtomicUsize = AtomicUsize::new(0);
+    let folder = PathBuf::from(env!("CARGO_TARGET_TMPDIR"));
+    let (path, beside) = (folder.join(name), folder.join(format!("new-{}", FILES.fetch_add(1, Ordering::Relaxed))));
+    std::fs::write(&beside, bytes).unwrap();
+    std::fs::rename(&beside, &path).unwrap();
     path.to_str().unwrap().into()
 }

@@ -1,11 +1,15 @@
 //! Edits from CSV, and a run with them.
 
+use crate::answer::Answer;
+use crate::asked::Asked;
 use crate::csv;
-use crate::files::{one_stdin, Files, Source};
+use crate::faults::Faults;
+use crate::files::Files;
 use crate::lists::{self, List, Shapes};
+use crate::page;
 use crate::shown;
 use crate::stop::Stop;
-use crate::toggle_jobs::labels_of;
+use crate::toggle_jobs::{self, labels_of};
 use crate::words::{self, OPERATIONS};
 use kressedach::{Edit, Edited, Operation, Refusal};
 use std::fmt::Write as _;
@@ -14,18 +18,20 @@ use std::str::FromStr;
 /// The code that stands for an operation that there is none of: it is a leaf's, so the library refuses it in its turn.
 const NO_OPERATION: u16 = 0;
 
-pub fn run(fittings: Option<Source>, sheet: Source, toggles: Source, edits: Source, labels: bool) -> Result<String, Stop> {
-    one_stdin(&[fittings, Some(sheet), Some(toggles), Some(edits)])?;
-    let files = Files::of(fittings, sheet)?;
+/// A run, with edits where they are asked for.
+pub fn run(asked: &Asked) -> Result<Answer, Stop> {
+    let Some(edits) = asked.source("--edits") else { return toggle_jobs::run(asked) };
+    let (files, toggles) = (Files::asked(asked)?, asked.file(1));
     let texts = [toggles.text()?, edits.text()?];
     let names = files.names()?;
     let list = lists::toggles(&texts[0], &Shapes::of(&names)).map_err(|wrong| toggles.wrong(wrong))?;
-    let changes = changes(&texts[1]).map_err(|wrong| edits.wrong(wrong))?;
+    let changes = changes(&texts[1], true).map_err(|wrong| edits.wrong(wrong))?;
     let edited = kressedach::run_edited(files.sheets(), &list.entries, &changes.entries).map_err(|refusal| match refusal.number {
         20 => edits.refused(refusal, of_edit(&files, &names, &changes, refusal, list.entries.len())),
         _ => files.refused_or(toggles, refusal, words::of_toggles(&names, &list, refusal)),
     })?;
-    Ok(if labels { labels_of(&edited.ran) } else { told(&names, &list.entries, &changes.entries, &edited) })
+    let labels = asked.has("--labels");
+    Ok(Answer::text(if labels { labels_of(&edited.ran) } else { told(&names, &list.entries, &changes.entries, &edited) }))
 }
 
 /// Toggles and edits in the order in which they act.
@@ -46,34 +52,41 @@ fn told(names: &[&str], toggles: &[u16], edits: &[Edit], edited: &Edited) -> Str
     text
 }
 
-/// Edits: the columns after, position, and one of operation and code.
-fn changes(text: &str) -> Result<List<'_, Edit>, String> {
-    let due = "after,position,operation or after,position,code";
-    let (heading, mut rows) = csv::headed(text, due)?;
+/// Edits: the columns position, one of operation and code, and where they have a moment, after.
+pub fn changes(text: &str, timed: bool) -> Result<List<'_, Edit>, Faults> {
+    let due = match timed {
+        true => "after,position,operation or after,position,code",
+        false => "position,operation or position,code",
+    };
+    let (heading, rows) = csv::headed(text, due)?;
     let place = |name: &str| heading.place(name);
     let (by_word, code_at) = (place("operation").is_some(), place("operation").or(place("code")));
-    let (Some(after), Some(position), Some(code_at), 3) = (place("after"), place("position"), code_at, heading.fields.len()) else {
-        return Err(heading.wrong(due));
-    };
-    let (mut fields, mut list) = (Vec::new(), List::none(text));
-    while let Some(row) = rows.next(&mut fields)? {
-        heading.judged(row, &fields)?;
-        let at_row = |wrong| format!("row {row}: {wrong}");
-        let word = fields[code_at].as_ref();
-        let code = if by_word { called(word) } else { code(word).map_err(at_row)? };
-        if by_word && code == NO_OPERATION {
-            list.stranger.get_or_insert_with(|| word.into());
-        }
-        let after = whole(&fields[after], "after", "18446744073709551615").map_err(at_row)?;
-        let position = whole(&fields[position], "position", "65535").map_err(at_row)?;
-        list.entries.push(Edit { after, position, code });
+    let after = place("after");
+    if !timed && after.is_some() {
+        return Err((heading.wrong(due) + ": these edits are made at once, and after no toggles").into());
     }
+    let (Some(position), Some(code_at)) = (place("position"), code_at) else { return Err(heading.wrong(due).into()) };
+    if heading.fields.len() != 2 + usize::from(timed) || after.is_some() != timed {
+        return Err(heading.wrong(due).into());
+    }
+    let mut list = List::none(text);
+    rows.each(&heading, |_, fields| {
+        let word = fields[code_at].as_ref();
+        let code = if by_word { called(word) } else { code(word)? };
+        let after = after.map_or(Ok(0), |after| whole(&fields[after], "after", "18446744073709551615"))?;
+        let position = whole(&fields[position], "position", "65535")?;
+        if by_word && code == NO_OPERATION {
+            list.estrange(word);
+        }
+        list.entries.push(Edit { after, position, code });
+        Ok(())
+    })?;
     Ok(list)
 }
 
 /// The code of an operation that is called so.
 fn called(word: &str) -> u16 {
-    let operation = OPERATIONS.iter().position(|name| *name == word).map(|at| Operation::ALL[at]);
+    let operation = Operation::ALL.into_iter().find(|operation| [OPERATIONS[*operation as usize], page::word(*operation)].contains(&word));
     operation.map_or(NO_OPERATION, Operation::code)
 }
 
@@ -88,7 +101,7 @@ fn whole<T: FromStr>(text: &str, column: &str, most: &str) -> Result<T, String> 
 }
 
 /// About refusal 20: why an edit is none.
-fn of_edit(files: &Files, names: &[&str], list: &List<Edit>, refusal: Refusal, toggles: usize) -> Option<String> {
+pub fn of_edit(files: &Files, names: &[&str], list: &List<Edit>, refusal: Refusal, toggles: usize) -> Option<String> {
     let edit = list.entries[refusal.place];
     let (_, formula) = kressedach::formula(files.sheets()).ok()?;
     let codes = formula.codes();
@@ -97,7 +110,7 @@ fn of_edit(files: &Files, names: &[&str], list: &List<Edit>, refusal: Refusal, t
         Some(leaf) if Operation::of_code(*leaf).is_none() => {
             format!("at position {} stands {}, which is no operation", edit.position, names[usize::from(*leaf)])
         }
-        _ if Operation::of_code(edit.code).is_none() => match &list.stranger {
+        _ if Operation::of_code(edit.code).is_none() => match list.stranger(refusal.place) {
             Some(word) => format!("there is no operation {}; they are {}", shown::quoted(word), OPERATIONS.join(", ")),
             None => format!("code 0x{:04X} is no operation; they are 0xFFF0 to 0xFFF3", edit.code),
         },

@@ -1,7 +1,10 @@
 //! The files that a command line names: sheets and lists.
 
+use crate::asked::Asked;
+use crate::faults::Faults;
+use crate::kinds;
 use crate::shown;
-use crate::stop::Stop;
+use crate::stop::{Refused, Stop};
 use crate::words;
 use kressedach::{Refusal, Sheets, Which};
 use std::ffi::OsStr;
@@ -27,16 +30,34 @@ impl Source<'_> {
         }
     }
 
-    pub fn wrong(self, what: impl Into<String>) -> Stop {
-        Stop::File(self.shown(), what.into())
+    pub fn wrong(self, what: impl Into<Faults>) -> Stop {
+        Stop::Faults(self.shown(), what.into())
     }
 
     pub fn refused(self, refusal: Refusal, about: Option<String>) -> Stop {
         Stop::refused(self.shown(), refusal, about)
     }
 
+    /// A refusal whose reason is known better than its number says.
+    pub fn refused_for(self, refusal: Refusal, why: String, about: String) -> Stop {
+        Stop::Refused(Refused { file: self.shown(), refusal, why: Some(why), about: Some(about) })
+    }
+
     pub fn text(self) -> Result<String, Stop> {
-        String::from_utf8(self.bytes(u64::MAX)?).map_err(|e| {
+        self.text_of(self.whole()?)
+    }
+
+    /// All bytes of a file.
+    pub fn whole(self) -> Result<Vec<u8>, Stop> {
+        self.bytes(u64::MAX)
+    }
+
+    /// Bytes of the file as text.
+    pub fn text_of(self, bytes: Vec<u8>) -> Result<String, Stop> {
+        if let Some(other) = kinds::no_text(&bytes) {
+            return Err(self.wrong(other));
+        }
+        String::from_utf8(bytes).map_err(|e| {
             let good = &e.as_bytes()[..e.utf8_error().valid_up_to()];
             let row = 1 + good.iter().filter(|byte| **byte == b'\n').count();
             self.wrong(format!("row {row}: is not text in UTF-8"))
@@ -46,6 +67,14 @@ impl Source<'_> {
     pub fn sheet(self) -> Result<Vec<u8>, Stop> {
         // a sheet has at most 13,062 bytes, and with one more the answer is the same as with all
         self.bytes(13_063)
+    }
+
+    /// What reads the file from its beginning.
+    pub fn reader(self) -> Result<Box<dyn Read>, Stop> {
+        if self.is_stdin() {
+            return Ok(Box::new(io::stdin()));
+        }
+        File::open(OsStr::from_bytes(self.0)).map(|file| Box::new(file) as Box<dyn Read>).map_err(|e| self.wrong(e.to_string()))
     }
 
     /// The bytes of a file, so many at most.
@@ -63,14 +92,6 @@ impl Source<'_> {
     }
 }
 
-/// Only one of a command's files can be standard input.
-pub fn one_stdin(sources: &[Option<Source>]) -> Result<(), Stop> {
-    match sources.iter().flatten().filter(|source| source.is_stdin()).count() {
-        0 | 1 => Ok(()),
-        _ => Err(Stop::Usage("only one of the files can be standard input".into())),
-    }
-}
-
 /// The sheets of a call: their files, and their bytes.
 pub struct Files<'a> {
     sources: (Option<Source<'a>>, Source<'a>),
@@ -79,10 +100,25 @@ pub struct Files<'a> {
 }
 
 impl<'a> Files<'a> {
+    /// The sheet that stands first after a command, and that of `--fittings`.
+    pub fn asked(asked: &Asked<'a>) -> Result<Files<'a>, Stop> {
+        Files::of(asked.source("--fittings"), asked.file(0))
+    }
+
     pub fn of(fittings: Option<Source<'a>>, customers: Source<'a>) -> Result<Files<'a>, Stop> {
-        one_stdin(&[fittings, Some(customers)])?;
         let bytes = (fittings.map(Source::sheet).transpose()?, customers.sheet()?);
         Ok(Files { sources: (fittings, customers), fittings: bytes.0, customers: bytes.1 })
+    }
+
+    /// Sheets that are there already, each with the file that it comes from.
+    pub fn holding(fittings: Option<(Source<'a>, &[u8])>, customers: (Source<'a>, &[u8])) -> Files<'a> {
+        let sources = (fittings.map(|(source, _)| source), customers.0);
+        Files { sources, fittings: fittings.map(|(_, sheet)| sheet.to_vec()), customers: customers.1.to_vec() }
+    }
+
+    /// The same files, with another customer's sheet.
+    pub fn with(self, customers: Vec<u8>) -> Files<'a> {
+        Files { customers, ..self }
     }
 
     pub fn sheets(&self) -> Sheets<'_> {

@@ -1,75 +1,100 @@
-//! The help: a page of all commands, and one for each.
+//! The help: a page of all commands, and one for each. What a command and its options are called stands in the table alone.
 
+use crate::answer::Answer;
+use crate::asked::Asked;
+use crate::man;
 use crate::stop::{no_such, Stop};
+use crate::table::{self, Command, Opt, COMMANDS, OPTIONS};
 
-/// A command: its name, the files that it takes, and the parts of its help.
-pub struct Command {
-    pub name: &'static str,
-    takes: &'static str,
-    parts: &'static [&'static str],
-}
+pub const HEADING: &str = "where is there metal?";
+pub const HEAD: &str = include_str!("help/overview-head.txt");
+pub const TAIL: &str = include_str!("help/overview-tail.txt");
+pub const EXIT_STATUS: &str = include_str!("help/exit-status.txt");
 
-const OVERVIEW: &str = include_str!("help/overview.txt");
-const CROSSINGS: &str = include_str!("help/part-crossings.txt");
-const LISTS: &str = include_str!("help/part-lists.txt");
-const FITTINGS: &str = include_str!("help/part-fittings.txt");
+/// How wide the made lines are at most.
+const WIDTH: usize = 79;
 
-const COMMANDS: &[Command] = &[
-    Command { name: "walls", takes: "two files: SHEET CROSSINGS", parts: &[include_str!("help/walls.txt"), CROSSINGS, LISTS, FITTINGS] },
-    Command {
-        name: "judge",
-        takes: "three files: SHEET CROSSINGS THEIRS",
-        parts: &[include_str!("help/judge.txt"), CROSSINGS, LISTS, FITTINGS],
-    },
-    Command { name: "make", takes: "one file: TEXT", parts: &[include_str!("help/make.txt")] },
-    Command { name: "show", takes: "one file: SHEET", parts: &[include_str!("help/show.txt")] },
-    Command { name: "read", takes: "one file: SHEET", parts: &[include_str!("help/read.txt"), FITTINGS] },
-    Command { name: "list", takes: "one file: SHEET", parts: &[include_str!("help/list.txt"), FITTINGS] },
-    Command { name: "run", takes: "two files: SHEET TOGGLES", parts: &[include_str!("help/run.txt"), LISTS, FITTINGS] },
-    Command { name: "both", takes: "four files: SHEET TOGGLES TOGGLES ORDER", parts: &[include_str!("help/both.txt"), LISTS, FITTINGS] },
-    Command { name: "move", takes: "one file: SHEET", parts: &[include_str!("help/move.txt"), FITTINGS] },
-    Command { name: "cross", takes: "two files: SHAPES LINES", parts: &[include_str!("help/cross.txt"), LISTS] },
+/// Parts that several commands have, with those that have them.
+pub const PARTS: &[(&str, &[&str])] = &[
+    (include_str!("help/part-drawing.txt"), &["check", "cross"]),
+    (include_str!("help/part-crossings.txt"), &["walls", "judge"]),
+    (include_str!("help/part-lists.txt"), &["check", "walls", "judge", "run", "both", "cross"]),
+    (include_str!("help/part-fittings.txt"), &["walls", "judge", "read", "list", "run", "both", "move"]),
 ];
 
-impl Command {
-    /// That it is given something else than it takes.
-    pub fn usage(&self) -> Stop {
-        Stop::Usage(format!("'{}' takes {}", self.name, self.takes))
+/// What is said of a command alone.
+pub fn about(command: &str) -> &'static str {
+    match command {
+        "check" => include_str!("help/check.txt"),
+        "raster" => include_str!("help/raster.txt"),
+        "make" => include_str!("help/make.txt"),
+        "show" => include_str!("help/show.txt"),
+        "walls" => include_str!("help/walls.txt"),
+        "judge" => include_str!("help/judge.txt"),
+        "cross" => include_str!("help/cross.txt"),
+        "read" => include_str!("help/read.txt"),
+        "list" => include_str!("help/list.txt"),
+        "run" => include_str!("help/run.txt"),
+        "both" => include_str!("help/both.txt"),
+        "move" => include_str!("help/move.txt"),
+        "help" => include_str!("help/help.txt"),
+        "completions" => include_str!("help/completions.txt"),
+        _ => "",
     }
 }
 
-/// The command of this name.
-pub fn named(word: &[u8]) -> Option<&'static Command> {
-    COMMANDS.iter().find(|command| command.name.as_bytes() == word)
-}
-
-/// The help that a command line asks for: `--help`, `help`, `help COMMAND` or `COMMAND --help`.
-pub fn asked(args: &[&[u8]]) -> Option<Result<String, Stop>> {
-    let of = |command: &Command| command.parts.join("\n");
-    match *args {
-        [b"help" | b"--help" | b"-h", word, ..] => Some(named(word).map(of).ok_or_else(|| no_such("command", word))),
-        [b"help" | b"--help" | b"-h"] => Some(Ok(OVERVIEW.into())),
-        [word, ref rest @ ..] if rest.iter().any(|word| [&b"--help"[..], b"-h"].contains(word)) => named(word).map(of).map(Ok),
-        _ => None,
+pub fn help(asked: &Asked) -> Result<Answer, Stop> {
+    match asked.words() {
+        [] if asked.has("--man") => Ok(Answer::text(man::page())),
+        [] => Ok(Answer::text(of(None))),
+        [_, ..] if asked.has("--man") => Err(Stop::Usage("'--man' is the help of all commands, and takes none".into())),
+        [word, ..] => table::named(word).map(|command| Answer::text(of(Some(command)))).ok_or_else(|| no_such("command", word)),
     }
 }
 
-#[cfg(test)]
-mod tests {
-    use super::*;
+/// The help of a command, or of all.
+pub fn of(command: Option<&Command>) -> String {
+    let Some(command) = command else { return overview() };
+    let options: String = command.options().map(|option| columns(&written(option), option.about, 25)).collect();
+    let parts = PARTS.iter().filter(|(_, commands)| commands.contains(&command.name)).map(|(part, _)| *part);
+    let first = [&usage(command)[..], about(command.name), &format!("Options:\n\n{options}")].join("\n");
+    [first].into_iter().chain(parts.map(String::from)).collect::<Vec<_>>().join("\n")
+}
 
-    #[test]
-    fn the_overview_has_every_command() {
-        assert!(OVERVIEW.lines().count() <= 60, "the overview is longer than 60 lines");
-        for command in COMMANDS {
-            assert!(OVERVIEW.contains(&format!("\n  wallcheck {} ", command.name)), "{}", command.name);
-            let help = command.parts.join("\n");
-            assert!(help.starts_with(&format!("wallcheck {} ", command.name)), "{}", command.name);
-            assert!(
-                help.lines().chain(OVERVIEW.lines()).all(|line| line.len() <= 80),
-                "{}: a line is longer than a terminal",
-                command.name
-            );
+/// A command with its words.
+pub fn usage(command: &Command) -> String {
+    format!("wallcheck {} [OPTION]... {}\n", command.name, command.takes.join(" "))
+}
+
+/// An option with its value's word.
+pub fn written(option: &Opt) -> String {
+    option.names.join(", ") + &option.value.map_or(String::new(), |value| format!(" {value}"))
+}
+
+fn overview() -> String {
+    let commands: String = COMMANDS
+        .iter()
+        .map(|command| columns(&format!("wallcheck {} {}", command.name, command.takes.join(" ")), command.about, 37))
+        .collect();
+    let alone: Vec<&str> = OPTIONS.iter().filter(|option| option.commands.is_empty()).map(Opt::name).collect();
+    let others = columns(&format!("wallcheck --help | {}", alone.join(" | ")), "", 37);
+    [&format!("wallcheck: {HEADING}\n"), HEAD, &(commands + &others), TAIL, EXIT_STATUS].join("\n")
+}
+
+/// A word, and from a column on, beside it or below it, what is said of it.
+fn columns(word: &str, about: &str, column: usize) -> String {
+    let mut lines = vec![format!("  {word}")];
+    if lines[0].len() >= column {
+        lines.push(String::new());
+    }
+    for word in about.split_whitespace() {
+        if lines.last().is_some_and(|line| line.len() + 1 + word.len() > WIDTH) {
+            lines.push(String::new());
+        }
+        if let Some(line) = lines.last_mut() {
+            let blank = column.saturating_sub(line.len());
+            *line += &format!("{}{word}", " ".repeat(blank.max(1)));
         }
     }
+    lines.join("\n") + "\n"
 }

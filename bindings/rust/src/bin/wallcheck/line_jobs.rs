@@ -1,13 +1,21 @@
 //! Lines: the walls of crossings, and the crossings of a drawing.
 
-use crate::csv;
-use crate::drawing::{self, Drawing, Fault};
-use crate::files::{one_stdin, Files, Source};
+use crate::answer::Answer;
+use crate::asked::Asked;
+use crate::check::directions;
+use crate::drawing::{self, Crossed, Drawing};
+use crate::edited;
+use crate::files::{Files, Source};
 use crate::lists::{self, List, Shapes};
+use crate::page::unused;
 use crate::shown;
-use crate::stop::Stop;
+use crate::stop::{say, Stop};
+use crate::wall_table::{WallTable, Wanted};
 use crate::words;
-use kressedach::{Crossing, Refusal, Start, Wall};
+use kressedach::{Crossing, Refusal, Start};
+
+/// So many warnings of a kind are said one by one.
+const MOST_SAID: usize = 10;
 
 /// Where lines start, and their crossings: the files and what they list. Lines that all start in air need no file of starts.
 pub struct Lines<'a> {
@@ -35,6 +43,37 @@ impl<'a> Lines<'a> {
         &self.crossings.1.entries
     }
 
+    /// How many lines there are.
+    fn count(&self) -> u64 {
+        let mut numbers: Vec<u32> = self.crossings().iter().map(|crossing| crossing.line).collect();
+        numbers.dedup();
+        numbers.extend(self.starts().iter().map(|start| start.line));
+        numbers.sort_unstable();
+        numbers.dedup();
+        numbers.len() as u64
+    }
+
+    /// Says which shapes are crossed that the formula never uses: a bore that is forgotten there is solid metal.
+    pub fn say_unused(&self, files: &Files, names: &[&str]) {
+        let Ok((_, formula)) = kressedach::formula(files.sheets()) else { return };
+        let unused = unused(&formula, names.len());
+        let mut firsts: Vec<Option<usize>> = vec![None; names.len()];
+        if !unused.is_empty() {
+            for (at, crossing) in self.crossings().iter().enumerate() {
+                firsts[usize::from(crossing.shape)].get_or_insert(at);
+            }
+        }
+        let crossed: Vec<(usize, usize)> = unused.into_iter().filter_map(|shape| Some((shape, firsts[shape]?))).collect();
+        let file = self.crossings.0.shown();
+        for (shape, at) in crossed.iter().take(MOST_SAID) {
+            let (row, name) = (self.crossings.1.row(*at), names[*shape]);
+            say(&format!("wallcheck: {file}: row {row}: {name} is crossed, and the formula never uses it\n"));
+        }
+        if crossed.len() > MOST_SAID {
+            say(&format!("wallcheck: {file}: {} more shapes are crossed that the formula never uses\n", crossed.len() - MOST_SAID));
+        }
+    }
+
     /// A refusal of the sheets, the starts or the crossings.
     pub fn refused(&self, files: &Files, names: &[&str], refusal: Refusal) -> Stop {
         match (refusal.number, &self.starts) {
@@ -44,46 +83,47 @@ impl<'a> Lines<'a> {
     }
 }
 
-pub fn walls(fittings: Option<Source>, starts: Option<Source>, sheet: Source, crossings: Source) -> Result<Vec<u8>, Stop> {
-    one_stdin(&[fittings, starts, Some(sheet), Some(crossings)])?;
-    let files = Files::of(fittings, sheet)?;
+pub fn walls(asked: &Asked) -> Result<Answer, Stop> {
+    let (wanted, starts, crossings) = (Wanted::of(asked)?, asked.source("--starts"), asked.file(1));
+    let files = Files::asked(asked)?;
+    let files = match asked.source("--edits") {
+        Some(edits) => edited::files(files, edits)?,
+        None => files,
+    };
     let text = crossings.text()?;
     let names = files.names()?;
     let starts_text = starts.map_or(Ok(String::new()), Source::text)?;
     let lines = Lines::of(&names, starts.map(|starts| (starts, &starts_text[..])), (crossings, &text))?;
     let walls = kressedach::classify_from(files.sheets(), lines.starts(), lines.crossings())
         .map_err(|refusal| lines.refused(&files, &names, refusal))?;
-    Ok(walls_of(&walls, &names))
+    lines.say_unused(&files, &names);
+    let (mut table, mut text) = (WallTable::of(wanted, &names), wanted.heading().into_bytes());
+    walls.iter().for_each(|wall| table.put(&mut text, wall, None));
+    let said = if wanted.summary { table.summary(lines.count(), "") } else { String::new() };
+    Ok(Answer::text(text).but(table.status(), said))
 }
 
-/// An open end has no shape, and no name is empty.
-pub fn walls_of(walls: &[Wall], names: &[&str]) -> Vec<u8> {
-    let names: Vec<_> = names.iter().map(|name| csv::quoted(name)).collect();
-    let mut text = b"line,start,end,start_shape,end_shape\n".to_vec();
-    for wall in walls {
-        for number in [i64::from(wall.line), wall.start.into(), wall.end.into()] {
-            csv::put(&mut text, number);
-            text.push(b',');
-        }
-        for (shape, after) in [(wall.start_shape, b','), (wall.end_shape, b'\n')] {
-            text.extend_from_slice(names.get(usize::from(shape)).map_or(b"", |name| name.as_bytes()));
-            text.push(after);
-        }
-    }
-    text
-}
-
-pub fn cross(shapes: Source, lines: Source, starts: bool) -> Result<Vec<u8>, Stop> {
-    one_stdin(&[Some(shapes), Some(lines)])?;
+pub fn cross(asked: &Asked) -> Result<Answer, Stop> {
+    let (shapes, lines) = (asked.file(0), asked.file(1));
     let (shapes_text, lines_text) = (shapes.text()?, lines.text()?);
     let drawing = Drawing::of(&shapes_text).map_err(|wrong| shapes.wrong(wrong))?;
     let on = drawing::lines(&lines_text).map_err(|wrong| lines.wrong(wrong))?;
-    drawing.crossed(&on, starts).map_err(|fault| match fault {
-        Fault::Lines(wrong) => lines.wrong(wrong),
-        Fault::Refused { refusal, line, line_row, shape: None } => lines.refused(refusal, Some(format!("row {line_row}: line {line}"))),
-        Fault::Refused { refusal, line, line_row, shape: Some((label, row)) } => {
-            let at_line = format!("on line {line}, row {line_row} of {}", lines.shown());
-            shapes.refused(refusal, Some(format!("row {row}: {}, {at_line}", shown::quoted(&label))))
-        }
-    })
+    let crossed = drawing.crossed(&on, asked.has("--starts")).map_err(|fault| fault.stop(shapes, lines))?;
+    directions::say_lengths(&on, lines);
+    if !asked.has("--starts") {
+        say_starts(&crossed, lines);
+    }
+    Ok(Answer::text(crossed.text))
+}
+
+/// Says that lines start in shapes: without their starts what lies there would be air.
+fn say_starts(crossed: &Crossed, lines: Source) {
+    let Some((line, label)) = &crossed.inside else { return };
+    let label = shown::quoted(label);
+    let others = match crossed.inside_lines {
+        1 => String::new(),
+        many => format!(", and {many} lines in all start in shapes"),
+    };
+    let why = "'walls' needs what 'cross --starts' gives, by its --starts; 'check' uses it by itself";
+    say(&format!("wallcheck: {}: line {line} starts in {label}{others}: {why}\n", lines.shown()));
 }

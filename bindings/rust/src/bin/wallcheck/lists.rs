@@ -1,9 +1,9 @@
 //! Toggle, crossing and start lists, and the order of two toggle lists, from CSV.
 
 use crate::csv::{self, Heading};
+use crate::faults::Faults;
 use crate::shown;
 use kressedach::{Crossing, Start};
-use std::borrow::Cow;
 use std::collections::HashMap;
 use std::hash::{BuildHasherDefault, Hasher};
 use std::str::FromStr;
@@ -37,17 +37,32 @@ impl<'a> Shapes<'a> {
     }
 }
 
+/// More words are said of no list.
+const MOST_STRANGERS: usize = 16;
+
 /// A list, with what is needed to say where an entry comes from.
 pub struct List<'a, T> {
     pub entries: Vec<T>,
-    /// The first name that the sheet does not have.
-    pub stranger: Option<String>,
+    /// Words that are none that there is, with their entries: the first ones, as many as are said.
+    strangers: Vec<(usize, String)>,
     text: &'a str,
 }
 
 impl<'a, T> List<'a, T> {
     pub fn none(text: &'a str) -> List<'a, T> {
-        List { entries: vec![], stranger: None, text }
+        List { entries: vec![], strangers: vec![], text }
+    }
+
+    /// Says of the entry that comes next that its word is none that there is.
+    pub fn estrange(&mut self, word: &str) {
+        if self.strangers.len() < MOST_STRANGERS {
+            self.strangers.push((self.entries.len(), word.into()));
+        }
+    }
+
+    /// The word of an entry that is none that there is.
+    pub fn stranger(&self, index: usize) -> Option<&str> {
+        self.strangers.iter().find(|(entry, _)| *entry == index).map(|(_, word)| word.as_str())
     }
 
     /// The row of an entry in the file, from 1.
@@ -56,32 +71,32 @@ impl<'a, T> List<'a, T> {
     }
 }
 
-pub fn toggles<'a>(text: &'a str, shapes: &Shapes) -> Result<List<'a, u16>, String> {
+pub fn toggles<'a>(text: &'a str, shapes: &Shapes) -> Result<List<'a, u16>, Faults> {
     list(text, [], shapes, |_, shape| Ok(shape))
 }
 
-pub fn crossings<'a>(text: &'a str, shapes: &Shapes) -> Result<List<'a, Crossing>, String> {
+pub fn crossings<'a>(text: &'a str, shapes: &Shapes) -> Result<List<'a, Crossing>, Faults> {
     list(text, ["line", "position"], shapes, |[line, position], shape| {
         Ok(Crossing { line: number(line, "line")?, position: number(position, "position")?, shape })
     })
 }
 
 /// The shapes in which lines start.
-pub fn starts<'a>(text: &'a str, shapes: &Shapes) -> Result<List<'a, Start>, String> {
+pub fn starts<'a>(text: &'a str, shapes: &Shapes) -> Result<List<'a, Start>, Faults> {
     list(text, ["line"], shapes, |[line], shape| Ok(Start { line: number(line, "line")?, shape }))
 }
 
 /// An order: one column, `foundry`, with an entry a turn.
-pub fn order(text: &str) -> Result<Vec<u8>, String> {
-    let (heading, mut rows) = csv::headed(text, "foundry")?;
+pub fn order(text: &str) -> Result<Vec<u8>, Faults> {
+    let (heading, rows) = csv::headed(text, "foundry")?;
     if heading.fields != ["foundry"] {
-        return Err(heading.wrong("foundry"));
+        return Err(heading.wrong("foundry").into());
     }
-    let (mut fields, mut order) = (Vec::new(), Vec::new());
-    while let Some(row) = rows.next(&mut fields)? {
-        heading.judged(row, &fields)?;
-        order.push(number(&fields[0], "foundry").map_err(|wrong| format!("row {row}: {wrong}"))?);
-    }
+    let mut order = Vec::new();
+    rows.each(&heading, |_, fields| {
+        order.push(number(&fields[0], "foundry")?);
+        Ok(())
+    })?;
     Ok(order)
 }
 
@@ -91,23 +106,23 @@ fn list<'a, T, const N: usize>(
     columns: [&str; N],
     shapes: &Shapes,
     entry: impl Fn([&str; N], u16) -> Result<T, String>,
-) -> Result<List<'a, T>, String> {
-    let (heading, mut rows) = csv::headed(text, &due(&columns))?;
+) -> Result<List<'a, T>, Faults> {
+    let (heading, rows) = csv::headed(text, &due(&columns))?;
     let Columns { places, shape, by_name } = judged(&heading, columns)?;
-    let (mut fields, mut list): (Vec<Cow<str>>, _) = (Vec::new(), List::none(text));
-    while let Some(row) = rows.next(&mut fields)? {
-        heading.judged(row, &fields)?;
-        let at_row = |wrong| format!("row {row}: {wrong}");
+    let mut list = List::none(text);
+    rows.each(&heading, |_, fields| {
         let text = fields[shape].as_ref();
         let shape = match by_name {
             true => shapes.0.get(text).copied().unwrap_or(NO_SHAPE),
-            false => number(text, "shape").map_err(|wrong| at_row(format!("{wrong}; names stand below the heading 'name'")))?,
+            false => number(text, "shape").map_err(|wrong| format!("{wrong}; names stand below the heading 'name'"))?,
         };
+        let entry = entry(places.map(|at| fields[at].as_ref()), shape)?;
         if by_name && shape == NO_SHAPE {
-            list.stranger.get_or_insert_with(|| text.into());
+            list.estrange(text);
         }
-        list.entries.push(entry(places.map(|at| fields[at].as_ref()), shape).map_err(at_row)?);
-    }
+        list.entries.push(entry);
+        Ok(())
+    })?;
     Ok(list)
 }
 

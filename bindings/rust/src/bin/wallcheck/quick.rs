@@ -2,8 +2,8 @@
 //!
 //! A time is no test: `cargo test --offline --release --bin wallcheck -- --ignored --nocapture` measures it.
 
-use crate::line_jobs::walls_of;
 use crate::lists::{crossings, Shapes};
+use crate::wall_table::walls_of;
 use kressedach::{classify_from, classify_into, WallLists};
 use peer::make::sheet;
 use std::alloc::{GlobalAlloc, Layout, System};

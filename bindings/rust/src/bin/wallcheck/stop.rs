@@ -1,5 +1,6 @@
 //! Why the command ends without an answer, what it says then, and its exit status.
 
+use crate::faults::Faults;
 use crate::shown;
 use kressedach::Refusal;
 use std::io::{self, Write as _};
@@ -9,33 +10,40 @@ use std::process::ExitCode;
 pub struct Refused {
     pub file: String,
     pub refusal: Refusal,
+    /// The reason, where it is known better than the number says.
+    pub why: Option<String>,
     pub about: Option<String>,
 }
 
 /// Why the command ends without an answer.
 pub enum Stop {
     Refused(Refused),
-    /// Of two foundries: the rows of the one that is not refused, and each that is.
-    Foundries(String, Vec<(usize, Refused)>),
-    /// Another ray caster's list is not right: where, and what was expected there. That is an answer, and goes to standard output.
-    Wrong(String),
     Usage(String),
-    /// A file that cannot be read or is not what its command takes, or standard output that cannot be written.
+    /// A file that cannot be read or is not what its command takes.
+    Faults(String, Faults),
+    /// A file or standard output that cannot be written.
     File(String, String),
     /// What reads the output has gone: not worth a word.
     Gone,
 }
 
 impl Refused {
-    fn words(&self, whose: &str) -> String {
-        let about = self.about.iter().map(|about| format!("  {about}\n"));
-        format!("wallcheck: {whose}{}: {}\n{}", self.file, self.refusal, about.collect::<String>())
+    pub fn words(&self, whose: &str) -> String {
+        let about = self.about.iter().flat_map(|about| about.lines()).map(|line| format!("  {line}\n"));
+        let refused = match (&self.why, self.refusal.place_in_words()) {
+            (None, _) => self.refusal.to_string(),
+            (Some(why), place) => {
+                let place = place.map_or(String::new(), |place| format!(" {place}"));
+                format!("refused {}{place}: {why}", self.refusal.number)
+            }
+        };
+        format!("wallcheck: {whose}{}: {refused}\n{}", self.file, about.collect::<String>())
     }
 }
 
 impl Stop {
     pub fn refused(file: impl Into<String>, refusal: Refusal, about: Option<String>) -> Stop {
-        Stop::Refused(Refused { file: file.into(), refusal, about })
+        Stop::Refused(Refused { file: file.into(), refusal, why: None, about })
     }
 
     /// Says why on standard error, and after a command that is known where its help is.
@@ -43,16 +51,8 @@ impl Stop {
         let help = command.map_or("--help".into(), |command| format!("help {command}"));
         let (status, words) = match self {
             Stop::Refused(refused) => (1, refused.words("")),
-            Stop::Foundries(text, refused) => {
-                // one foundry is refused, whether or not the other's rows can be written
-                let _ = out(text.as_bytes());
-                (1, refused.iter().map(|(foundry, refused)| refused.words(&format!("foundry {foundry}: "))).collect())
-            }
-            Stop::Wrong(text) => match out(text.as_bytes()) {
-                Ok(()) => (3, String::new()),
-                Err(stop) => return stop.report(command),
-            },
             Stop::Usage(what) => (2, format!("wallcheck: {what}\nTry 'wallcheck {help}'.\n")),
+            Stop::Faults(name, faults) => (2, faults.lines().map(|fault| format!("wallcheck: {name}: {fault}\n")).collect()),
             Stop::File(name, what) => (2, format!("wallcheck: {name}: {what}\n")),
             Stop::Gone => (2, String::new()),
         };
@@ -66,14 +66,14 @@ pub fn say(words: &str) {
     let _ = io::stderr().write_all(words.as_bytes());
 }
 
-/// Writes an answer, or says why not.
-pub fn out(answer: &[u8]) -> Result<(), Stop> {
+/// Writes an answer to standard output, or says why not.
+pub fn out(write: impl FnOnce(&mut io::StdoutLock) -> io::Result<()>) -> Result<(), Stop> {
     let cannot = |why: String| Stop::File("standard output".into(), why);
     if crate::closed::stdout_was_closed() {
         return Err(cannot("is closed".into()));
     }
     let mut stdout = io::stdout().lock();
-    stdout.write_all(answer).and_then(|()| stdout.flush()).map_err(|e| match e.kind() {
+    write(&mut stdout).and_then(|()| stdout.flush()).map_err(|e| match e.kind() {
         io::ErrorKind::BrokenPipe => Stop::Gone,
         _ => cannot(e.to_string()),
     })

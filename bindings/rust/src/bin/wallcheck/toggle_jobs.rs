@@ -1,22 +1,23 @@
 //! Toggles on the contracted tree, of one list or of two foundries.
 
+use crate::answer::Answer;
+use crate::asked::Asked;
 use crate::csv;
-use crate::files::{one_stdin, Files, Source};
+use crate::files::Files;
 use crate::lists::{self, List, Shapes};
 use crate::stop::{Refused, Stop};
 use crate::words;
 use kressedach::{Ran, Refusal};
 use std::fmt::Write as _;
 
-pub fn run(fittings: Option<Source>, sheet: Source, toggles: Source, labels: bool) -> Result<String, Stop> {
-    one_stdin(&[fittings, Some(sheet), Some(toggles)])?;
-    let files = Files::of(fittings, sheet)?;
+pub fn run(asked: &Asked) -> Result<Answer, Stop> {
+    let (files, toggles) = (Files::asked(asked)?, asked.file(1));
     let text = toggles.text()?;
     let names = files.names()?;
     let list = lists::toggles(&text, &Shapes::of(&names)).map_err(|wrong| toggles.wrong(wrong))?;
     let ran = kressedach::run(files.sheets(), &list.entries)
         .map_err(|refusal| files.refused_or(toggles, refusal, words::of_toggles(&names, &list, refusal)))?;
-    Ok(if labels { labels_of(&ran) } else { roots_of(&ran, &list.entries, &names) })
+    Ok(Answer::text(if asked.has("--labels") { labels_of(&ran) } else { roots_of(&ran, &list.entries, &names) }))
 }
 
 pub fn labels_of(ran: &Ran) -> String {
@@ -37,9 +38,9 @@ fn roots_of(ran: &Ran, toggles: &[u16], names: &[&str]) -> String {
 }
 
 /// The toggles of two foundries on one tree, turn by turn.
-pub fn both(fittings: Option<Source>, sheet: Source, toggles: [Source; 2], order: Source) -> Result<String, Stop> {
-    one_stdin(&[fittings, Some(sheet), Some(toggles[0]), Some(toggles[1]), Some(order)])?;
-    let files = Files::of(fittings, sheet)?;
+pub fn both(asked: &Asked) -> Result<Answer, Stop> {
+    let files = Files::asked(asked)?;
+    let [toggles @ .., order] = [1, 2, 3].map(|place| asked.file(place));
     let names = files.names()?;
     let texts = [toggles[0].text()?, toggles[1].text()?];
     let list = |foundry: usize| lists::toggles(&texts[foundry], &Shapes::of(&names)).map_err(|wrong| toggles[foundry].wrong(wrong));
@@ -50,16 +51,16 @@ pub fn both(fittings: Option<Source>, sheet: Source, toggles: [Source; 2], order
         return Err(order.refused(refusal, Some(words::of_order(&turns, [0, 1].map(|k: usize| lists[k].entries.len())))));
     }
     let text = turn_by_turn(&ran, &turns, &lists, &names);
-    let mut refused = Vec::new();
+    let mut refused = String::new();
     for (foundry, ran) in ran.iter().enumerate() {
         if let Err(refusal) = ran {
             let (file, about) = (toggles[foundry].shown(), words::of_toggles(&names, &lists[foundry], *refusal));
-            refused.push((foundry, Refused { file, refusal: *refusal, about }));
+            refused += &Refused { file, refusal: *refusal, why: None, about }.words(&format!("foundry {foundry}: "));
         }
     }
     match refused.is_empty() {
-        true => Ok(text),
-        false => Err(Stop::Foundries(text, refused)),
+        true => Ok(Answer::text(text)),
+        false => Ok(Answer::text(text).but(1, refused)),
     }
 }
 

@@ -1,8 +1,10 @@
 //! What stands at the place of a refusal, for the person who has to mend it; and what a node is.
 
+use crate::faults::Faults;
+use crate::kinds;
 use crate::lists::List;
 use crate::shown;
-use kressedach::{Crossing, Node, Operation, Refusal, Sheets, Start, Which, OPEN_START};
+use kressedach::{Crossing, Node, Operation, Refusal, Sheets, Start, Which, OPEN_END, OPEN_START};
 
 pub const OPERATIONS: [&str; 4] = ["union", "intersection", "difference", "exclusive union"];
 
@@ -27,7 +29,13 @@ pub fn of_sheet(sheets: Sheets, refusal: Refusal) -> Option<String> {
         Which::Customers => sheets.customers,
     };
     match refusal.number {
-        2 => Some(of_tag(*sheet.get(place)?, place)),
+        1 if refusal.sheet == Some(Which::Customers) && kressedach::read_fittings(sheet).is_ok() => {
+            Some("it is a fittings sheet, names without a formula: --fittings takes it".into())
+        }
+        2 if refusal.sheet == Some(Which::Fittings) && matches!(sheet[place], 3 | 4) => {
+            Some("it has a formula: it is a customer's sheet, and --fittings takes names alone".into())
+        }
+        2 => Some(of_tag(sheet, place)),
         4 | 5 | 17 => Some(match (two(sheet, place + 1)?, name(sheet, place)) {
             (1..=32, Some(name)) => format!("the name there is {name}"),
             (length, _) => format!("the name there has {length} bytes; 1 to 32 are allowed"),
@@ -39,9 +47,11 @@ pub fn of_sheet(sheets: Sheets, refusal: Refusal) -> Option<String> {
 }
 
 /// About a tag that is out of place. A file that begins with letters is text, and no sheet.
-fn of_tag(tag: u8, place: usize) -> String {
-    match (tag, place) {
-        (b' '..=b'~', 0) => format!("the tag there is {tag}; is it a text? 'wallcheck make' makes a sheet of one"),
+fn of_tag(sheet: &[u8], place: usize) -> String {
+    let tag = sheet[place];
+    match (tag, place, kinds::other(sheet)) {
+        (_, 0, Some(other)) => format!("the file {other}"),
+        (b' '..=b'~', 0, None) => format!("the tag there is {tag}; is it a text? 'wallcheck make' makes a sheet of one"),
         _ => format!("the tag there is {tag}"),
     }
 }
@@ -53,7 +63,9 @@ fn of_formula(sheets: Sheets, place: usize) -> Option<String> {
     let names = own + sheets.fittings.map_or(Some(0), |fittings| after_names(fittings).map(|(_, names)| names))?;
     let (length, postfix) = (two(sheet, tag + 1)?, sheet.get(tag) == Some(&3));
     if place != tag {
-        return Some(of_code(two(sheet, place)?, names, postfix, waiting(sheet.get(tag + 3..place)?)));
+        let code = two(sheet, place)?;
+        let about = of_code(code, names, postfix, waiting(sheet.get(tag + 3..place)?));
+        return Some(if code < 256 && usize::from(code) >= names { about + of_fittings(sheets) } else { about });
     }
     Some(match (length, postfix) {
         (0, _) => "it has no code; each has two bytes".into(),
@@ -76,6 +88,14 @@ fn of_code(code: u16, names: usize, postfix: bool, waiting: usize) -> String {
     }
 }
 
+/// A shape past the last one may be a fitting's, or come after fittings.
+fn of_fittings(sheets: Sheets) -> &'static str {
+    match sheets.fittings {
+        None => "; is '--fittings FILE' missing?",
+        Some(_) => "; are these the fittings that it was made beside?",
+    }
+}
+
 /// How many operands wait after codes in postfix order.
 fn waiting(codes: &[u8]) -> usize {
     let codes = codes.chunks_exact(2).map(|two| u16::from_be_bytes([two[0], two[1]]));
@@ -92,9 +112,10 @@ fn after_names(sheet: &[u8]) -> Option<(usize, usize)> {
     Some((tag, names))
 }
 
-/// About a refusal of toggles.
+/// About a refusal of toggles: all whose shape there is none of.
 pub fn of_toggles(names: &[&str], list: &List<u16>, refusal: Refusal) -> Option<String> {
-    (refusal.number == 10).then(|| unknown_shape(names, list, refusal.place, list.entries[refusal.place]))
+    let shapes = list.entries.iter().copied().enumerate().filter(|_| refusal.number == 10);
+    unknown_shapes(names, list, shapes).told()
 }
 
 /// About an order that does not mix lists of these lengths.
@@ -108,44 +129,56 @@ pub fn of_order(order: &[u8], lengths: [usize; 2]) -> String {
 
 /// About a refusal of start rows: they are made of this list, so what is wrong is a shape in it.
 pub fn of_starts(names: &[&str], list: &List<Start>) -> Option<String> {
-    let at = list.entries.iter().position(|start| usize::from(start.shape) >= names.len())?;
-    Some(unknown_shape(names, list, at, list.entries[at].shape))
+    unknown_shapes(names, list, list.entries.iter().map(|start| start.shape).enumerate()).told()
 }
 
-/// About a refusal of crossings. Every line has a start row, so 15 is for a position.
+/// About a refusal of crossings: all that are at fault, of which it names the first.
 pub fn of_crossings(names: &[&str], list: &List<Crossing>, refusal: Refusal) -> Option<String> {
-    let at = refusal.place;
-    let about = match refusal.number {
-        10 => return Some(unknown_shape(names, list, at, list.entries[at].shape)),
-        11 => {
-            let (before, here) = (list.entries[at - 1], list.entries[at]);
-            match here.line < before.line {
-                true => format!("line {} comes after line {}", here.line, before.line),
-                false => format!("position {} comes after {} on line {}", here.position, before.position, here.line),
-            }
-        }
-        15 => {
-            let position = list.entries[at].position;
+    let at_fault = (0..list.entries.len()).skip(refusal.place).filter_map(|at| of_crossing(names, list, at));
+    at_fault.filter(|_| matches!(refusal.number, 10 | 11 | 15)).collect::<Faults>().told()
+}
+
+/// Why a crossing is none. Every line has a start row, so 15 is for a position.
+fn of_crossing(names: &[&str], list: &List<Crossing>, at: usize) -> Option<String> {
+    let here = list.entries[at];
+    let before = at.checked_sub(1).map(|before| list.entries[before]);
+    let about = match here {
+        Crossing { shape, .. } if usize::from(shape) >= names.len() => return Some(unknown_shape(names, list, at, shape)),
+        Crossing { position, .. } if [OPEN_START, OPEN_END].contains(&position) => {
             let open = if position == OPEN_START { "start" } else { "end" };
             format!("position {position} is the mark of a wall's open {open}; no crossing stands there")
         }
-        _ => return None,
+        _ => match before.filter(|before| (here.line, here.position) < (before.line, before.position))? {
+            before if here.line < before.line => format!("line {} comes after line {}", here.line, before.line),
+            before => format!("position {} comes after {} on line {}", here.position, before.position, here.line),
+        },
     };
     Some(format!("row {}: {about}", list.row(at)))
 }
 
+/// All entries whose shape there is none of.
+fn unknown_shapes<T>(names: &[&str], list: &List<T>, shapes: impl Iterator<Item = (usize, u16)>) -> Faults {
+    let strange = shapes.filter(|(_, shape)| usize::from(*shape) >= names.len());
+    strange.map(|(at, shape)| unknown_shape(names, list, at, shape)).collect()
+}
+
 fn unknown_shape<T>(names: &[&str], list: &List<T>, at: usize, shape: u16) -> String {
     let row = list.row(at);
-    match &list.stranger {
+    match list.stranger(at) {
         Some(name) => format!("row {row}: the sheet has no name {}; {}", shown::quoted(name), letter_by_letter(names, name)),
         None => format!("row {row}: shape {shape}, and the last one is {}", names.len() - 1),
     }
 }
 
-/// About a name that is not there: the one that differs from it only in case, if there is one.
+/// About a name that is not there: all that differ from it only in case.
 pub fn letter_by_letter(names: &[&str], name: &str) -> String {
-    let like = names.iter().find(|other| other.eq_ignore_ascii_case(name));
-    like.map_or(String::new(), |other| format!("there is {other}; ")) + "names are compared letter by letter"
+    let like: Vec<&str> = names.iter().copied().filter(|other| other.eq_ignore_ascii_case(name)).collect();
+    let there = match &like[..] {
+        [] => String::new(),
+        [one] => format!("there is {one}; "),
+        [most @ .., last] => format!("there are {} and {last}; ", most.join(", ")),
+    };
+    there + "names are compared letter by letter"
 }
 
 /// The name whose tag is at an offset, in quotation marks; bytes that no name may have are shown escaped.

@@ -16,13 +16,26 @@ pub struct Names<'a> {
 }
 
 impl Names<'_> {
-    fn shape(&self, name: &str, at: At) -> Result<Formula, Wrong> {
-        match self.taken.get(name) {
+    /// The leaf of this number, from 1. After a name that is none the formula is read all the same.
+    fn leaf(&self, token: &Token, number: usize, wrongs: &mut Vec<Wrong>) -> Result<Formula, Wrong> {
+        if number > MOST_LEAVES {
+            return Err(token.at.wrong(format!("a leaf more than {MOST_LEAVES}, which is the most")));
+        }
+        Ok(self.shape(token).unwrap_or_else(|wrong| {
+            wrongs.push(wrong);
+            Formula::shape(0)
+        }))
+    }
+
+    /// The shape of a name; what is wrong already stands for any.
+    fn shape(&self, token: &Token) -> Result<Formula, Wrong> {
+        let Kind::Name(name) = &token.kind else { return Ok(Formula::shape(0)) };
+        match self.taken.get(name.as_ref()) {
             Some((shape, _)) => Ok(Formula::shape(*shape)),
             None => {
                 let mut names: Vec<&str> = self.taken.keys().copied().collect();
                 names.sort_by_key(|name| self.taken[name].0);
-                Err(at.wrong(format!("there is no shape {}; {}", shown::quoted(name), letter_by_letter(&names, name))))
+                Err(token.at.wrong(format!("there is no shape {}; {}", shown::quoted(name), letter_by_letter(&names, name))))
             }
         }
     }
@@ -56,19 +69,22 @@ impl Chain {
     }
 }
 
-/// The formula of all these tokens, and where its first exclusive union stands.
-pub fn of(tokens: &[Token], end: At, names: &Names) -> Result<(Formula, Option<At>), Wrong> {
+/// The formula of all these tokens, and where its first exclusive union stands. After a name that is none, or operations that are mixed,
+/// the rest is read all the same.
+pub fn of(tokens: &[Token], end: At, names: &Names, wrongs: &mut Vec<Wrong>) -> Option<(Formula, Option<At>)> {
+    read(tokens, end, names, wrongs).map_err(|wrong| wrongs.push(wrong)).ok()
+}
+
+fn read(tokens: &[Token], end: At, names: &Names, wrongs: &mut Vec<Wrong>) -> Result<(Formula, Option<At>), Wrong> {
     let (mut chains, mut here) = (Vec::new(), Chain::default());
     let (mut leaves, mut exclusive, mut whole) = (0, None, false);
-    for token in tokens {
+    let mut rest = tokens.iter().peekable();
+    while let Some(token) = rest.next() {
         let at = token.at;
         match (&token.kind, whole) {
-            (Kind::Name(name), false) => {
+            (Kind::Name(_) | Kind::Wrong, false) => {
                 leaves += 1;
-                if leaves > MOST_LEAVES {
-                    return Err(at.wrong(format!("a leaf more than {MOST_LEAVES}, which is the most")));
-                }
-                here.operand(names.shape(name, at)?);
+                here.operand(names.leaf(token, leaves, wrongs)?);
                 whole = true;
             }
             (Kind::Open, false) => chains.push(std::mem::replace(&mut here, Chain { open: Some(at), ..Chain::default() })),
@@ -78,8 +94,12 @@ pub fn of(tokens: &[Token], end: At, names: &Names) -> Result<(Formula, Option<A
                 inner.into_iter().for_each(|inner| here.operand(inner));
             }
             (Kind::Word(Word::Operation(operation)), true) => {
-                here.operation(*operation, at)?;
-                exclusive = exclusive.or((*operation == Operation::Exclusive).then_some(at));
+                wrongs.extend(here.operation(*operation, at).err());
+                if *operation == Operation::Exclusive {
+                    exclusive = exclusive.or(Some(at));
+                    // `exclusive union` says the same
+                    rest.next_if(|next| next.kind == Kind::Word(Word::Operation(Operation::Union)));
+                }
                 whole = false;
             }
             _ => return Err(at.wrong(format!("{}, and {} stands here{}", due(whole, here.open), token.shown(), hint(token, whole)))),

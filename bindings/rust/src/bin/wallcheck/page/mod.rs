@@ -7,14 +7,16 @@ mod reading;
 mod tests;
 mod tokens;
 
-pub use printing::{fittings_page, sheet_page};
-pub use reading::read;
+pub use printing::{fittings_page, sheet_page, Shown};
+pub use reading::{names_fittings, read};
+pub use tokens::word;
 
+use crate::faults::Faults;
 use kressedach::{Edition, Formula, Operation};
 use std::fmt;
 
 /// A place of a page: line and column, from 1.
-#[derive(Debug, Clone, Copy, PartialEq, Eq)]
+#[derive(Debug, Clone, Copy, PartialEq, Eq, PartialOrd, Ord)]
 pub struct At {
     pub line: usize,
     pub column: usize,
@@ -37,6 +39,13 @@ impl fmt::Display for Wrong {
     fn fmt(&self, f: &mut fmt::Formatter<'_>) -> fmt::Result {
         write!(f, "line {}, column {}: {}", self.at.line, self.at.column, self.what)
     }
+}
+
+/// All that is wrong with a page, in the order of its places. At one place the first is said: what follows may come of it.
+fn faults(mut wrongs: Vec<Wrong>) -> Faults {
+    wrongs.sort_by_key(|wrong| wrong.at);
+    wrongs.dedup_by_key(|wrong| wrong.at);
+    wrongs.iter().map(Wrong::to_string).collect()
 }
 
 /// What a page says.

@@ -11,18 +11,21 @@ fn there_and_back(fittings: Option<&[u8]>, sheet: &[u8]) -> Result<(), String> {
     let names = names(sheets).map_err(|refusal| refusal.to_string())?;
     let fitted = fittings.map_or(vec![], |fittings| read_fittings(fittings).unwrap());
     assert_eq!(names[..fitted.len()], fitted[..]);
-    let text = sheet_page(edition, &names, fitted.len(), &formula);
-    let page = read(&text, &fitted).map_err(|wrong| format!("{wrong}\n{text}"))?;
-    let own: Vec<&str> = page.names.iter().map(|(name, _)| name.as_str()).collect();
-    let (formula, edition) = (page.formula.ok_or("no formula")?, page.edition.ok_or("no edition")?);
-    let back = match fittings {
-        Some(fittings) => encode_beside(fittings, &own, &formula, edition),
-        None => encode(&own, &formula, edition),
-    };
-    match back {
-        Ok(back) if back == sheet => Ok(()),
-        other => Err(format!("{other:?}\n{text}")),
+    let beside = fittings.map(|_| "lugs (2).sheet");
+    for positions in [false, true] {
+        let text = sheet_page(&Shown { edition, names: &names, fittings: fitted.len(), beside, formula: &formula, positions });
+        let page = read(&text, &fitted).map_err(|wrong| format!("{wrong:?}\n{text}"))?;
+        let own: Vec<&str> = page.names.iter().map(|(name, _)| name.as_str()).collect();
+        let (formula, edition) = (page.formula.ok_or("no formula")?, page.edition.ok_or("no edition")?);
+        let back = match fittings {
+            Some(fittings) => encode_beside(fittings, &own, &formula, edition),
+            None => encode(&own, &formula, edition),
+        };
+        if back != Ok(sheet.to_vec()) || names_fittings(&text).as_deref() != beside {
+            return Err(format!("{back:?}\n{text}"));
+        }
     }
+    Ok(())
 }
 
 /// The same formula in edition 2, exclusive unions too.
@@ -75,6 +78,8 @@ fn names_that_have_to_be_quoted() {
         "\"\"",
         "a\"",
         "edition1",
+        "fittings",
+        "Fittings:",
     ];
     let all: Vec<&str> = letters.iter().chain(&among).map(String::as_str).chain(words.into_iter().filter(|word| *word != "(")).collect();
     let codes: Vec<u16> = (0..all.len() as u16).flat_map(|shape| [Some(shape), (shape > 0).then_some(0xFFF0)]).flatten().collect();
@@ -87,7 +92,7 @@ fn names_that_have_to_be_quoted() {
 
 fn codes(formula: &str) -> Vec<u16> {
     let page = format!("A\nB\nC\nD\nformula {formula}");
-    read(&page, &[]).unwrap_or_else(|wrong| panic!("{formula}: {wrong}")).formula.unwrap().codes().to_vec()
+    read(&page, &[]).unwrap_or_else(|wrong| panic!("{formula}: {wrong:?}")).formula.unwrap().codes().to_vec()
 }
 
 #[test]
@@ -104,7 +109,7 @@ fn formulas() {
 }
 
 fn wrong(page: &str) -> String {
-    read(page, &["Lug"]).map_or_else(|wrong| wrong.to_string(), |page| format!("{page:?}"))
+    read(page, &["Lug"]).map_or_else(|wrong| wrong.told().unwrap_or_default(), |page| format!("{page:?}"))
 }
 
 #[test]
@@ -192,10 +197,92 @@ fn wrong_formulas() {
 fn what_the_formula_never_uses() {
     let formula = Formula::shape(0).difference(Formula::shape(3));
     assert_eq!(unused(&formula, 5), [1, 2, 4]);
-    let page = sheet_page(Edition::One, &["Lug", "Boss", "Plate", "Bore", "Bolt"], 2, &formula);
+    let names = ["Lug", "Boss", "Plate", "Bore", "Bolt"];
+    let shown = Shown { edition: Edition::One, names: &names, fittings: 2, beside: Some("lugs.txt"), formula: &formula, positions: false };
+    let page = sheet_page(&shown);
     assert!(page.starts_with(
-        "# beside a fittings sheet with the names Lug Boss\nedition 1\nPlate\nBore\nBolt\n\nformula\n  Lug difference Bore\n"
+        "# beside a fittings sheet with the names Lug Boss\nedition 1\nfittings lugs.txt\nPlate\nBore\nBolt\n\nformula\n  Lug difference Bore\n"
     ));
     assert!(page.ends_with("\n# the formula never uses Boss Plate Bolt\n"), "{page}");
     assert!(page.lines().all(|line| line.len() <= 78));
+}
+
+/// Behind each operation its position among the codes in postfix order, in a page that makes the same sheet.
+#[test]
+fn positions() {
+    let leaf = Formula::shape;
+    let formula = leaf(0).union(leaf(1)).difference(leaf(2).exclusive(leaf(1)));
+    let (names, edition) = (["Body", "Lug", "Bore"], Edition::Two);
+    let page = sheet_page(&Shown { edition, names: &names, fittings: 0, beside: None, formula: &formula, positions: true });
+    let due = "  (Body union      # position 2\n  Lug) difference  # position 6\n  (Bore exclusive  # position 5\n  Lug)\n";
+    assert_eq!(page, format!("edition 2\nBody\nLug\nBore\n\nformula\n{due}"));
+    assert_eq!(read(&page, &[]).unwrap().formula, Some(formula));
+}
+
+#[test]
+fn fittings_that_a_page_names() {
+    let beside = |page: &str| {
+        read(page, &["Lug"]).map(|read| (names_fittings(page), read.names.len())).map_err(|wrong| wrong.told().unwrap_or_default())
+    };
+    for (page, due) in [
+        ("fittings lugs.txt\nA\nformula A", (Some("lugs.txt"), 1)),
+        ("# a remark\nedition 2\n\n  fittings \"my \"\"lugs\"\".txt\"  # another\nA\nformula A", (Some("my \"lugs\".txt"), 1)),
+        ("fittings\nA\nformula fittings union A", (None, 2)),
+        ("fittings lugs\nfittings\nformula fittings", (Some("lugs"), 1)),
+        ("edition 1\nA\nfittings\nformula fittings", (None, 2)),
+    ] {
+        assert_eq!(beside(page), Ok((due.0.map(String::from), due.1)), "{page}");
+        assert_eq!(names_fittings(page).as_deref(), due.0, "{page}");
+    }
+    let end = "the end of the line is due after";
+    let quoted = "a name with a space or a bracket stands in quotation marks";
+    let nearly = "the line fittings FILE has small letters, no colon, and stands before the names";
+    for (page, due) in [
+        ("fittings my lugs.txt\nA\n", format!("line 1, column 13: {end} the file of the fittings, and \"lugs.txt\" stands here; {quoted}")),
+        ("fittings a(2)\nA\n", format!("line 1, column 11: {end} the file of the fittings, and ( stands here; {quoted}")),
+        ("fittings (a)\nA\n", format!("line 1, column 10: a file's name is due after the word fittings, and ( stands here; {quoted}")),
+        ("fittings \"\"\nA\n", "line 1, column 10: a file's name is due after the word fittings".into()),
+        ("A\nfittings lugs.txt\n", format!("line 2, column 10: {end} a name like fittings, and \"lugs.txt\" stands here; {nearly}")),
+        ("Fittings: lugs.txt\nA\n", format!("line 1, column 11: {end} a name like fittings, and \"lugs.txt\" stands here; {nearly}")),
+        ("\"fittings\" lugs.txt\nA\n", format!("line 1, column 12: {end} a name like fittings, and \"lugs.txt\" stands here; {nearly}")),
+    ] {
+        assert_eq!(beside(page), Err(due), "{page}");
+        assert_eq!(names_fittings(page), None);
+    }
+}
+
+#[test]
+fn exclusive_unions_have_two_spellings() {
+    assert_eq!(codes("A exclusive union B exclusive C"), codes("A exclusive B exclusive union C"));
+    assert_eq!(codes("(A exclusive\nunion B) union C"), codes("(A exclusive B) union C"));
+    assert!(wrong("A\nB\nformula A exclusive union union B").contains("column 27: a shape's name or ( is due, and the word union"));
+    assert!(wrong("A\nB\nformula A exclusive union B union A").contains("column 29: union after exclusive: brackets are due"));
+    assert!(wrong("A\nB\nformula A union exclusive B").contains("column 17: a shape's name or ( is due, and the word exclusive"));
+}
+
+/// All at once, in the order of their places, and none that only comes of another.
+#[test]
+fn everything_that_is_wrong() {
+    let page = "edition 3\nA\nBolt hole\nA\nUnion\n5\"\nBö\nB\nFormula: (a union C) difference B union Bolt\n  exclusive Bö";
+    let due = [
+        "line 1, column 9: 1 or 2 is due after the word edition, and \"3\" stands here",
+        "line 3, column 6: the end of the line is due after a name, and \"hole\" stands here; names have no spaces",
+        "line 4, column 1: A is taken already, on line 2",
+        "line 5, column 1: \"Union\" is nearly the word union, which has small letters and no colon; a name stands in quotation marks",
+        "line 6, column 1: \"5\\\"\": put the name in quotation marks, and double those inside",
+        "line 7, column 1: \"Bö\" has \"ö\"; names have letters, digits and signs from ! to ~ alone",
+        "line 9, column 1: \"Formula:\" is nearly the word formula, which has small letters and no colon; a name stands in quotation marks",
+        "line 9, column 11: there is no shape \"a\"; there is A; names are compared letter by letter",
+        "line 9, column 19: there is no shape \"C\"; names are compared letter by letter",
+        "line 9, column 35: union after difference: brackets are due, to say which of the two comes first",
+        "and more",
+    ];
+    assert_eq!(wrong(page).lines().collect::<Vec<_>>(), due);
+    // where a formula no longer can be read, what was found before is said with it
+    let due =
+        ["line 2, column 9: there is no shape \"B\"; names are compared letter by letter", "line 2, column 18: a ) that closes nothing"];
+    assert_eq!(wrong("A\nformula B union A) union C").lines().collect::<Vec<_>>(), due);
+    assert_eq!(wrong("\"A\nformula A"), "line 1, column 1: a quotation mark that is not closed on its line");
+    let spelt = "line 4, column 9: there is no shape \"port\"; there are Port and PORT; names are compared letter by letter";
+    assert_eq!(wrong("Port\nA\nPORT\nformula port"), spelt);
 }

@@ -1,0 +1,43 @@
+//! From a drawing to its walls in one command, in which no fittings sheet, shape, start or length is forgotten without a word.
+
+pub mod directions;
+mod drawn;
+mod faces;
+mod given;
+mod pieces;
+mod progress;
+mod run;
+mod solids;
+
+use crate::answer::{Answer, Waiting};
+use crate::asked::Asked;
+use crate::drawing::Drawing;
+use crate::page::unused;
+use crate::stop::{say, Stop};
+use crate::wall_table::Wanted;
+use directions::Lengths;
+use given::Given;
+use run::{Judged, Run};
+use solids::Solids;
+
+pub fn check(asked: &Asked) -> Result<Answer, Stop> {
+    let wanted = Wanted::of(asked)?;
+    let (shapes, lines) = (asked.file(1), asked.file(2));
+    let given = Given::of(asked)?;
+    let files = given.files();
+    let names = files.names()?;
+    let (_, formula) = kressedach::formula(files.sheets()).map_err(|refusal| files.refused(refusal))?;
+    let drawing = Drawing::of(&shapes.text()?).map_err(|wrong| shapes.wrong(wrong))?;
+    let numbers = drawn::numbers(&drawing, &names, &formula).map_err(|wrong| shapes.wrong(wrong))?;
+    for remark in drawn::remarks(&drawing, &numbers, &names, &formula) {
+        say(&format!("wallcheck: {}: {remark}\n", shapes.shown()));
+    }
+    let (solids, never) = (Solids::of(&drawing, &numbers, names.len()), unused(&formula, names.len()));
+    let used = solids.plain().into_iter().filter(|(name, _)| !never.contains(&usize::from(*name))).collect();
+    let judged = Judged { files: &files, names: &names, solids, used };
+    let lengths = Lengths::of(asked.has("--normalise"));
+    let mut run = Run::of(&judged, wanted, lengths, (shapes, lines), Waiting::begin(asked.output())?);
+    run.all()?;
+    let (waiting, status, said) = run.end()?;
+    Ok(Answer::waited(waiting).but(status, said))
+}
