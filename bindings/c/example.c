@@ -211,6 +211,41 @@ static void cross_drawing(void) {
     expect(r.number == KRESSEDACH_LIST_TOO_SHORT && r.place == 4, "room for three positions");
 }
 
+/* Two lines: one past the block, one through both. */
+static const double probes[] = {
+    -10, 50, 20, 1, 0, 0,
+    -10, 20, 20, 1, 0, 0,
+};
+
+static void cross_lines(void) {
+    uint8_t rows[2 * 2];
+    uint32_t line_numbers[4];
+    int32_t crossed[4];
+    uint16_t crossed_shapes[4];
+#define CROSSED LIST(rows), LIST(line_numbers), LIST(crossed), LIST(crossed_shapes)
+    struct kressedach_cross_many_report r;
+    kressedach_cross_many(&r, LIST(kinds), LIST(drawing), LIST(probes), CROSSED);
+    printf("cross many: %zu crossings of %zu lines\n", r.crossings, r.lines);
+    expect(r.number == KRESSEDACH_GIVEN && r.place == 0 && r.line == 0 && r.lines == 2 && r.crossings == 4, "the lines are crossed");
+    expect(line_numbers[0] == 1 && line_numbers[3] == 1 && crossed[0] == 10000 && crossed[3] == 110000, "the second alone");
+
+    /* what is made here goes to classify as it is */
+    struct kressedach_classify_report w;
+    kressedach_classify(&w, ALONE(sheet), LIST(rows), LIST(line_numbers), LIST(crossed), LIST(crossed_shapes), WALLS);
+    print_walls(w.walls);
+    expect(w.number == KRESSEDACH_GIVEN && w.walls == 2 && wall_lines[0] == 1 && ends[0] == 50000 && starts[1] == 70000, "two walls");
+
+    kressedach_cross_many(&r, LIST(kinds), LIST(drawing), probes, 11, CROSSED);
+    printf("a line begun: refused %u at %zu, line %zu\n", r.number, r.place, r.line);
+    expect(r.number == KRESSEDACH_SHAPE_WRONG && r.place == KRESSEDACH_THE_LINE && r.line == 1 && r.lines == 0, "a line begun counts");
+    kressedach_cross_many(&r, LIST(kinds), drawing, 11, LIST(probes), CROSSED);
+    expect(r.number == KRESSEDACH_SHAPE_WRONG && r.place == 1 && r.line == 0, "a shape is at fault on the first line");
+    kressedach_cross_many(&r, LIST(kinds), LIST(drawing), LIST(probes), LIST(rows), LIST(line_numbers), crossed, 3, LIST(crossed_shapes));
+    expect(r.number == KRESSEDACH_LIST_TOO_SHORT && r.place == 4 && r.line == 0 && r.crossings == 0, "room for three positions");
+    kressedach_cross_many(&r, LIST(kinds), LIST(drawing), NULL, 0, NULL, 0, NULL, 0, NULL, 0, NULL, 0);
+    expect(r.number == KRESSEDACH_GIVEN && r.lines == 0 && r.crossings == 0, "no lines, no crossings");
+}
+
 static void cross_vent(void) {
     static const int32_t vent[] = {300, -400, 1300, 50000};
     uint8_t row[1];
@@ -312,6 +347,7 @@ int main(void) {
     classify_cut();
     judge_theirs();
     cross_drawing();
+    cross_lines();
     cross_vent();
     return failures == 0 ? 0 : 1;
 }

@@ -13,8 +13,9 @@
  *
  * Where a report's `number` is 0, the job is done: `sheet` and `place` are 0 (but kressedach_name says in `sheet` which sheet holds the
  * name), and the rest is the answer. Else `number` and `place` are the refusal's, `sheet` says which sheet the place is in, and the rest is
- * 0. The page docs/SHEET.md says what a sheet is, byte by byte, and has all refusals with their places, the order in which each job asks,
- * and what the numbers of a tree's records mean. The crossing makers, which take no sheet, report no `sheet`.
+ * 0 (but kressedach_cross_many says in `line` which line it is of). The page docs/SHEET.md says what a sheet is, byte by byte, and has all
+ * refusals with their places, the order in which each job asks, and what the numbers of a tree's records mean. The crossing makers, which
+ * take no sheet, report no `sheet`.
  *
  * A refusal writes nothing to any list. Entries of a list past the last one given stay as they were.
  *
@@ -62,7 +63,7 @@ enum kressedach_number {
     KRESSEDACH_FALLS = 11,         /* the index */
     KRESSEDACH_ODD = 12,           /* given no more: a line may end in metal */
     KRESSEDACH_LENGTHS_DIFFER = 13, /* 0: lists that go together; of two foundries: the order does not mix their lists */
-    KRESSEDACH_ROWS_WRONG = 14,    /* 0: start rows of a length that is no multiple of the names, more than 4294967296 of them, or a byte above 1 */
+    KRESSEDACH_ROWS_WRONG = 14,    /* 0: start rows of a length that is no multiple of the names, a byte in them above 1, more than 4294967296 rows or lines */
     KRESSEDACH_ASTRAY = 15,        /* the index: a position at either end mark, or a line with no start row */
     KRESSEDACH_SHAPE_WRONG = 16,   /* 256 for more than 256 shapes, 65535 for the line, else the first shape at fault */
     KRESSEDACH_FITTINGS_NAME = 17, /* a customer's name equal to a fitting's: the tag's offset */
@@ -171,7 +172,8 @@ struct kressedach_move_report {
  * and no other byte. A sheet without exclusive unions, 0xFFF3, moved again, is the same bytes as before; one with them moves to edition 1
  * alone. Refusals: 1 to 7 and 17; 19 for a sheet of edition 1 with 0xFFF3, at the first one; then 9, place the sheet's length.
  *
- * The caller keeps: fittings_length bytes at fittings, sheet_length bytes at sheet, moved_length bytes at moved.
+ * The caller keeps: fittings_length bytes at fittings, sheet_length bytes at sheet, moved_length bytes at moved. The last is written: it
+ * overlaps no other list. It needs as many bytes as the sheet has.
  */
 void kressedach_move(struct kressedach_move_report *report,
                      bool fitted,
@@ -259,8 +261,8 @@ void kressedach_run_both(struct kressedach_both_report *report,
 /* Runs toggles as kressedach_run does, while operations of the formula become others, without a new build. An edit stands at one index of
  * three lists: after how many toggles (moments), which operation by its postfix position from 0 (positions, under either edition), and the
  * new operation's code. Edits with equal moments act in list order, after the root of the toggle before them is given. Each root and label
- * is that of a build of the sheet as edited by then, with the same shapes inside; the labels are those after the last edit. An edit's count
- * is the number of labels that it reworks, its own node's included.
+ * is that of a build of the sheet as edited by then, with the same shapes inside; the labels are those at the end, after the last toggle and
+ * the last edit. An edit's count is the number of labels that it reworks, its own node's included.
  *
  * Refusals: 1 to 7 and 17, 8, 13 for moments, positions and codes of unequal length, 10, 20 edit by edit, then 9 for roots, counts, labels,
  * edit_counts in this order.
@@ -380,6 +382,37 @@ void kressedach_cross(struct kressedach_cross_report *report,
                       uint8_t *starts, size_t starts_length,
                       int32_t *positions, size_t positions_length,
                       uint16_t *shapes, size_t shapes_length);
+
+struct kressedach_cross_many_report {
+    uint8_t number;
+    size_t place;
+    size_t line;      /* refused 16 for a line, or for a shape on it: the line's number; else 0 */
+    size_t lines;     /* how many lines, each with a row of an entry a shape in rows */
+    size_t crossings; /* how many entries were given in each of line_numbers, positions and shapes */
+};
+
+/* Crosses half-spaces and boxes with many lines: what kressedach_cross gives for each, one after another, in the lists that
+ * kressedach_classify takes, as they are. A line is six of lines: its origin, its direction. A line begun counts, and a number that it
+ * lacks is not finite. The shapes are those of kressedach_cross. Lines are numbered from 0: row k of rows is line k's start row, and
+ * line_numbers has each crossing's line.
+ *
+ * Refusals: 16 for more than 256 shapes, also with no line; 14 at place 0 for more than 4294967296 lines; then line by line 16, for the
+ * line, else for the first shape at fault; then 9 for rows, line_numbers, positions, shapes in this order. With no lines no shape is looked
+ * at, and nothing is written; with no shapes the lines are judged, and there are no rows and no crossings.
+ *
+ * The caller keeps: kinds_length bytes at kinds, numbers_length entries at numbers, lines_length entries at lines; rows_length,
+ * line_numbers_length, positions_length and shapes_length entries at rows, line_numbers, positions and shapes. The last four are written:
+ * none of them overlaps another list. Rows needs an entry a line and shape, the others one a crossing, of which a shape has two at most on
+ * each line.
+ */
+void kressedach_cross_many(struct kressedach_cross_many_report *report,
+                           const uint8_t *kinds, size_t kinds_length,
+                           const double *numbers, size_t numbers_length,
+                           const double *lines, size_t lines_length,
+                           uint8_t *rows, size_t rows_length,
+                           uint32_t *line_numbers, size_t line_numbers_length,
+                           int32_t *positions, size_t positions_length,
+                           uint16_t *shapes, size_t shapes_length);
 
 /* Crosses balls with one line that is parallel to an axis, in whole micrometres. A ball is four numbers: both offsets of the line from the
  * centre (-1000000 to 1000000), the radius (1 to 1000000), the centre along the line (-1000000000 to 1000000000). A ball begun counts, and

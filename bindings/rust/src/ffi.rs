@@ -103,6 +103,16 @@ pub struct CrossReport {
     pub crossings: usize,
 }
 
+/// What crossing many lines answers.
+#[repr(C)]
+pub struct CrossManyReport {
+    pub number: u8,
+    pub place: usize,
+    pub line: usize,
+    pub lines: usize,
+    pub crossings: usize,
+}
+
 extern "C" {
     pub fn kressedach_read(
         report: *mut ReadReport,
@@ -297,6 +307,24 @@ extern "C" {
         numbers_length: usize,
         starts: *mut u8,
         starts_length: usize,
+        positions: *mut i32,
+        positions_length: usize,
+        shapes: *mut u16,
+        shapes_length: usize,
+    );
+
+    pub fn kressedach_cross_many(
+        report: *mut CrossManyReport,
+        kinds: *const u8,
+        kinds_length: usize,
+        numbers: *const f64,
+        numbers_length: usize,
+        lines: *const f64,
+        lines_length: usize,
+        rows: *mut u8,
+        rows_length: usize,
+        line_numbers: *mut u32,
+        line_numbers_length: usize,
         positions: *mut i32,
         positions_length: usize,
         shapes: *mut u16,

@@ -2,6 +2,7 @@
 #![warn(missing_docs)]
 
 mod cross;
+mod cross_many;
 mod edits;
 mod encode;
 mod ffi;
@@ -11,6 +12,7 @@ mod lines;
 mod refusal;
 
 pub use cross::{cross, cross_balls, cross_balls_into, cross_into, Axis, Ball, Counts, Crossed, LineLists, Probe, Shape, BOX};
+pub use cross_many::{cross_many, cross_many_into, LineRefusal, ManyCounts, ManyCrossed, ManyLists};
 pub use edits::{run_edited, run_edited_into, Edit, EditLists, Edited};
 pub use encode::{encode, encode_beside, encode_fittings, formula, read_fittings, Edition};
 pub use formula::{Formula, Operation};

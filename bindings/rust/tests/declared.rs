@@ -85,7 +85,7 @@ fn the_declarations_agree() {
     }
     // nothing is declared that is not exported
     let count = |s: &str, of: &str| s.matches(of).count();
-    assert_eq!((structs.len(), functions.len()), (10, 12), "structs and functions of the host");
-    assert_eq!((count(&header, "_report {"), count(&header, "void kressedach_")), (10, 12), "of the header");
-    assert_eq!((count(&ffi, "pub struct "), count(&ffi, "pub fn ")), (10, 12), "of ffi.rs");
+    assert_eq!((structs.len(), functions.len()), (11, 13), "structs and functions of the host");
+    assert_eq!((count(&header, "_report {"), count(&header, "void kressedach_")), (11, 13), "of the header");
+    assert_eq!((count(&ffi, "pub struct "), count(&ffi, "pub fn ")), (11, 13), "of ffi.rs");
 }

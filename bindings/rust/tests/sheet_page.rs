@@ -60,8 +60,8 @@ fn callers_find_the_page() {
     ] {
         assert!(text(page).contains("docs/SHEET.md"), "{page}");
     }
-    let sources =
-        ["lib", "cross", "edits", "encode", "formula", "judging", "lines", "refusal"].map(|file| format!("bindings/rust/src/{file}.rs"));
+    let sources = ["lib", "cross", "cross_many", "edits", "encode", "formula", "judging", "lines", "refusal"]
+        .map(|file| format!("bindings/rust/src/{file}.rs"));
     let pages =
         ["README.md", "examples/README.md", "examples/NEWCOMERS.md", "bindings/rust/README.md", "bindings/c/kressedach.h", "docs/SHEET.md"];
     for page in pages.map(String::from).iter().chain(&sources) {

@@ -102,10 +102,10 @@ module _ {number : ℕ} {cuts : List Cut} {bytes keys : List ℕ} {n m : ℕ} (w
   in-order : map crossingOf (rising (take m keys)) ≡ lineCrossings cuts
   in-order = map-inOrder crossingOf ltb before keeps (take m keys) ∙ ap (inOrder before) (whole .gathered .keyed)
 
-  starts-count : length (startRow cuts) ≡ n
+  pub starts-count : length (startRow cuts) ≡ n
   starts-count = length-map cuts startOf ∙ whole .gathered .all
 
-  crossings-count : length (lineCrossings cuts) ≡ m
+  pub crossings-count : length (lineCrossings cuts) ≡ m
   crossings-count =
       let held = whole .held in
       ap length (sym in-order) ∙ length-map (rising (take m keys)) crossingOf ∙ length-inOrder ltb (take m keys) ∙ length-take-le m keys (omega (arith, held .keys-sized, held .few, held .some))
@@ -123,17 +123,25 @@ module _ {number : ℕ} {cuts : List Cut} {bytes keys : List ℕ} {n m : ℕ} (w
   pub short-shapes : (L : MadeLists) → n ≤ length (L .starts) → m ≤ length (L .positions) → length (L .shapes) < m → Crossed (answered number cuts (length (L .starts)) (length (L .positions)) (length (L .shapes))) L (answer.Refused 9 m) L
   short-shapes L g h k = refusal _ L 9 m (asked _ _ _ ∙ rw (starts-count, crossings-count, le-leb n (length (L .starts)) g, le-leb m (length (L .positions)) h, lt-leb m (length (L .shapes)) k))
 
+  -- what is written is what the cuts give
+  range : Every (λ x. allowed (positionOf x)) (map crossingOf (rising (take m keys)))
+  range = rw in-order (crossings-in-range cuts r)
+
+  module _ (L L′ : MadeLists) (w : Written n m bytes keys L L′) where
+    pub starts-written : L′ .starts ≡ filled (startRow cuts) (L .starts)
+    starts-written = w .starts ∙ ap (λ l. filled l (L .starts)) (whole .gathered .started)
+
+    pub positions-written : L′ .positions ≡ filled (map positionOf (lineCrossings cuts)) (L .positions)
+    positions-written = w .positions ∙ ap (λ l. filled l (L .positions)) (positions-read (rising (take m keys)) range ∙ ap (map positionOf) in-order)
+
+    pub shapes-written : L′ .shapes ≡ filled (map shapeOf (lineCrossings cuts)) (L .shapes)
+    shapes-written = w .shapes ∙ ap (λ l. filled l (L .shapes)) (shapes-read (rising (take m keys)) ∙ ap (map shapeOf) in-order)
+
   pub given-all : (L L′ : MadeLists) → Roomy n m L → Written n m bytes keys L L′ → Crossed (answered number cuts (length (L .starts)) (length (L .positions)) (length (L .shapes))) L (answer.Crossed n m) L′
   given-all L L′ room w =
       let o : answered number cuts (length (L .starts)) (length (L .positions)) (length (L .shapes)) ≡ given cuts =
       asked _ _ _ ∙ rw (starts-count, crossings-count, le-leb n (length (L .starts)) (room .starts), le-leb m (length (L .positions)) (room .positions), le-leb m (length (L .shapes)) (room .shapes)) in
-      let range : Every (λ x. allowed (positionOf x)) (map crossingOf (rising (take m keys))) = rw in-order (crossings-in-range cuts r) in
       record {
         answer = rw (o, starts-count, crossings-count);
-        lists =
-            record {
-              starts-list = rw o (w .starts ∙ ap (λ l. filled l (L .starts)) (whole .gathered .started));
-              positions-list = rw o (w .positions ∙ ap (λ l. filled l (L .positions)) (positions-read (rising (take m keys)) range ∙ ap (map positionOf) in-order));
-              shapes-list = rw o (w .shapes ∙ ap (λ l. filled l (L .shapes)) (shapes-read (rising (take m keys)) ∙ ap (map shapeOf) in-order));
-            };
+        lists = record { starts-list = rw o (starts-written L L′ w); positions-list = rw o (positions-written L L′ w); shapes-list = rw o (shapes-written L L′ w) };
       }

@@ -65,7 +65,7 @@ fn order(keys: &mut [u64], m: usize)
 }
 
 // Puts the keys into order and writes the lists.
-fn write(
+pub fn write(
     n: usize,
     m: usize,
     bytes: &[u8],

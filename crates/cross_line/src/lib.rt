@@ -14,7 +14,7 @@ ghost use Rattle.cross_shapes.specs.Shapes.{finite, isZero};
 ghost use Rattle.cross_line.specs.Lent.{shapeFrom};
 ghost use Rattle.cross_line.specs.Crossing.{allThree, goodProbe, shapeCuts, crossingShapes};
 
-fn number_at(numbers: &[f64], k: usize) -> f64
+pub fn number_at(numbers: &[f64], k: usize) -> f64
     ensures { λ r. ⌜ r ≡ getD (now (numbers .entry)) k nan ⌝ }
 {
     if k < numbers.len() {
@@ -23,7 +23,7 @@ fn number_at(numbers: &[f64], k: usize) -> f64
     0.0 / 0.0
 }
 
-fn shape_at(kinds: &[u8], numbers: &[f64], i: usize) -> Shape
+pub fn shape_at(kinds: &[u8], numbers: &[f64], i: usize) -> Shape
     requires { ⌜ (i < length (now kinds)) × (i < 256) ⌝ }
     ensures { λ r. ⌜ r ≡ shapeFrom (getD (now (kinds .entry)) i 0) (drop (6 * i) (now (numbers .entry))) ⌝ }
 {
@@ -63,7 +63,7 @@ fn three_zero(a: f64, b: f64, c: f64) -> bool
     false
 }
 
-fn good_probe(probe: Probe) -> bool
+pub fn good_probe(probe: Probe) -> bool
     ensures { λ r. ⌜ r ≡ goodProbe probe ⌝ }
 {
     if three_finite(probe.ox, probe.oy, probe.oz) {
@@ -75,7 +75,13 @@ fn good_probe(probe: Probe) -> bool
 }
 
 // All the shapes of one line, in turn.
-fn gather(probe: Probe, kinds: &[u8], numbers: &[f64], bytes: &mut [u8], keys: &mut [u64]) -> Row
+pub fn gather(
+    probe: Probe,
+    kinds: &[u8],
+    numbers: &[f64],
+    bytes: &mut [u8],
+    keys: &mut [u64],
+) -> Row
     requires { ⌜ (length (now kinds) ≤ 256) × (length (now bytes) ≡ 256) × (length (now keys) ≡ 512) ⌝ }
     ensures { λ r. ⌜ Ends 16 (shapeCuts probe (now (kinds .entry)) (now (numbers .entry))) (now (bytes .exit)) (now (keys .exit)) r ⌝ }
 {

@@ -22,7 +22,7 @@ use Rattle.cross_shapes.specs.declared.Span.{Span}
 use Rattle.cross_shapes.specs.declared.Span.the-variants.{Missed, Free, Between}
 
 -- ---- the lesser and the greater of two positions, by their marks
-lesser-mark : (a b : ℕ) → unmark (min a b) ≡ lesser (unmark a) (unmark b)
+pub lesser-mark : (a b : ℕ) → unmark (min a b) ≡ lesser (unmark a) (unmark b)
 unfolding lesser
 lesser-mark a b = rw (unmark-lt a b) (by (ltb a b) refl)
   where
@@ -30,7 +30,7 @@ lesser-mark a b = rw (unmark-lt a b) (by (ltb a b) refl)
     by true e = let h = ltb-true a b e in let i : min a b ≡ a = omega arith in ap unmark i
     by false e = let h = ltb-false a b e in let i : min a b ≡ b = omega arith in ap unmark i
 
-greater-mark : (a b : ℕ) → unmark (max a b) ≡ greater (unmark a) (unmark b)
+pub greater-mark : (a b : ℕ) → unmark (max a b) ≡ greater (unmark a) (unmark b)
 unfolding greater
 greater-mark a b = rw (unmark-lt a b) (by (ltb a b) refl)
   where

@@ -47,7 +47,7 @@ pub fn is_zero(x: f64) -> bool
     x == 0.0
 }
 
-fn least(a: u32, b: u32) -> u32
+pub fn least(a: u32, b: u32) -> u32
     ensures { λ r. ⌜ r ≡ min a b ⌝ }
 {
     if a < b {
@@ -56,7 +56,7 @@ fn least(a: u32, b: u32) -> u32
     b
 }
 
-fn most(a: u32, b: u32) -> u32
+pub fn most(a: u32, b: u32) -> u32
     ensures { λ r. ⌜ r ≡ max a b ⌝ }
 {
     if a < b {
@@ -134,7 +134,7 @@ fn box_span(probe: Probe, lx: f64, ly: f64, lz: f64, hx: f64, hy: f64, hz: f64) 
     meet_both(meet_both(x, y), z)
 }
 
-fn good_pair(low: f64, high: f64) -> bool
+pub fn good_pair(low: f64, high: f64) -> bool
     ensures { λ r. ⌜ r ≡ goodPair low high ⌝ }
 {
     if is_finite(low) {

@@ -9,16 +9,27 @@ use mathlib.Core.Option.{Option, none, some}
 use borrow.Author.Tests.{eq-eqb, ne-eqb, le-leb, lt-leb, le-ltb}
 use lib.Dec.{ltb, leb}
 use lib.IntN.{ℤ}
-use lib.ListN.{length, length-append}
+use lib.Ieee.{Float}
+use lib.ListN.{length, length-append, length-map}
 use lib.Signed.{ltZ}
 use Rattle.outcome.specs.Outcome.{Outcome, given, refused, unfit, need, _>>_}
 use Rattle.formula.specs.Formula.{Formula}
-use Rattle.lines.specs.Lines.{Crossing, crossings, low, high, rowCount, falls, bits, strays, ordered, judged, AnswerLists, roomyLists, walls, classified}
+use Rattle.lines.specs.Lines.{LineLists, Crossing, crossings, low, high, rowCount, falls, bits, strays, ordered, judged, AnswerLists, roomyLists, walls, classified}
 use Rattle.lines.proofs.Keys.{lt→no}
 use Rattle.cross_cuts.specs.Cuts.{LineCrossing, startRow, positionOf, shapeOf, lineCrossings}
 use Rattle.cross_cuts.specs.Every.{Every}
 use Rattle.cross_cuts.specs.Fit.{unended, NeverFalls}
-use Rattle.cross_taken.specs.Drawn.{Drawn, rowsOf, linesFrom, positionsIn, shapesIn, drawnLists, AllFit}
+use Rattle.cross_answer.proofs.FitLaws.{fit}
+use Rattle.cross_shapes.specs.declared.Probe.{Probe}
+use Rattle.cross_line.specs.Crossing.{shapeCuts}
+use Rattle.cross_line.proofs.LentLaws.{length-cuts, cuts-in-range}
+use Rattle.cross_many.specs.Crossing.{drawn, crossingMany}
+use Rattle.cross_many.specs.Lent.{probesOf}
+use Rattle.cross_many.specs.Refusing.{gives}
+use Rattle.cross_many.proofs.DrawnLaws.{positions-many, shapes-many}
+use Rattle.cross_many.proofs.Settled.{many-few, many-drawn}
+use Rattle.cross_many.specs.Drawn.{Drawn, rowsOf, linesFrom, positionsIn, shapesIn, drawnLists}
+use Rattle.cross_taken.specs.Taken.{AllFit}
 
 -- ---- lists that are asked item by item
 
@@ -93,24 +104,6 @@ all-chain names (line ∷ lines) n rows h f y e =
     (line-chain names rows n (omega arith) (crossings (linesFrom (suc n) lines) (positionsIn lines) (shapesIn lines)) (all-chain names lines (suc n) rows (omega arith) (f .1))
     (lineCrossings line) (f .0 .numbers) (f .0 .unended-positions) (f .0 .never-falls) y (λ x ys q. no-fall names rows n (omega arith) x y e) (earlier-on n y e))
 
-length-map : {A B : Type 0} (f : A → B) (xs : List A) → length (map f xs) ≡ length xs
-length-map f [] = refl
-length-map f (x ∷ xs) = ap suc (length-map f xs)
-
-positions-long : (n : ℕ) (lines : Drawn) → length (positionsIn lines) ≡ length (linesFrom n lines)
-unfolding linesFrom positionsIn
-positions-long n [] = refl
-positions-long n (line ∷ lines) =
-    let xs = lineCrossings line in
-    omega (arith, length-append (map positionOf xs) (positionsIn lines), length-append (map (λ x. n) xs) (linesFrom (suc n) lines), length-map positionOf xs, length-map (λ (x : LineCrossing). n) xs, positions-long (suc n) lines)
-
-shapes-long : (n : ℕ) (lines : Drawn) → length (shapesIn lines) ≡ length (linesFrom n lines)
-unfolding linesFrom shapesIn
-shapes-long n [] = refl
-shapes-long n (line ∷ lines) =
-    let xs = lineCrossings line in
-    omega (arith, length-append (map shapeOf xs) (shapesIn lines), length-append (map (λ x. n) xs) (linesFrom (suc n) lines), length-map shapeOf xs, length-map (λ (x : LineCrossing). n) xs, shapes-long (suc n) lines)
-
 rows-long : (names : ℕ) (lines : Drawn) → AllFit names lines → length (rowsOf lines) ≡ length lines * names
 unfolding rowsOf
 rows-long names [] f = omega arith
@@ -135,8 +128,8 @@ drawn-taken names named lines few f =
     let whole : length (rowsOf lines) % names ≡ 0 = rw (rows-long names lines f) (mul-mod-left (length lines) names) in
     let count : length (rowsOf lines) / names ≡ length lines = rw (rows-long names lines f) (mul-div-cancel (length lines) named) in
     rw (
-      eq-eqb (length (positionsIn lines)) (length (linesFrom 0 lines)) (positions-long 0 lines),
-      eq-eqb (length (shapesIn lines)) (length (linesFrom 0 lines)) (shapes-long 0 lines),
+      eq-eqb (length (positionsIn lines)) (length (linesFrom 0 lines)) (positions-many 0 lines),
+      eq-eqb (length (shapesIn lines)) (length (linesFrom 0 lines)) (shapes-many 0 lines),
       eq-eqb (length (rowsOf lines) % names) 0 whole,
       count,
       le-leb (length lines) 4294967296 few,
@@ -182,3 +175,17 @@ unfolding classified
 drawn-classified f names named lines few fit lent k p e =
     nine-then (roomyLists (length (linesFrom 0 lines) / 2 + rowCount names (rowsOf lines)) lent) (walls f names (drawnLists lines)) (nine-room _ lent) k p
     (rw (drawn-taken names named lines few fit) at e)
+
+-- ---- and so for what the job for many lines gives
+
+lines-fit : (kinds : List ℕ) (numbers : List Float) (probes : List Probe) → AllFit (length kinds) (drawn kinds numbers probes)
+lines-fit kinds numbers [] = tt
+lines-fit kinds numbers (probe ∷ probes) = (rw (length-cuts probe kinds numbers) at (fit (shapeCuts probe kinds numbers) (cuts-in-range probe kinds numbers)), lines-fit kinds numbers probes)
+
+-- With as many names as shapes, one at least, it is refused 9 or not at all, once the sheet is accepted.
+pub many-classified : (kinds : List ℕ) (numbers lines : List Float) (lists : LineLists) (v : Drawn) → crossingMany kinds numbers lines lists ≡ gives v → 0 < length kinds
+    → (f : Formula) (lent : AnswerLists) (k p : ℕ) → classified f (length kinds) (drawnLists v) lent ≡ refused k p → k ≡ 9
+many-classified kinds numbers lines lists v given-v named f lent k p e =
+    let is = many-drawn kinds numbers lines lists v given-v in
+    let few : length (drawn kinds numbers (probesOf lines)) ≤ 4294967296 = rw (length-map (probesOf lines) (λ q. shapeCuts q kinds numbers)) (many-few kinds numbers lines lists v given-v) in
+    drawn-classified f (length kinds) named (drawn kinds numbers (probesOf lines)) few (lines-fit kinds numbers (probesOf lines)) lent k p (rw is at e)

@@ -9,7 +9,7 @@ use Rattle.sheet.specs.Sheet.{Sheets}
 use Rattle.sheet_reading.specs.Reading.{Numbers, numbers, answerOf}
 use Rattle.sheet_reading.specs.declared.ReadAnswer.{ReadAnswer}
 use Rattle.sheet_reading.specs.declared.ReadAnswer.the-variants as read
-use Rattle.lines.specs.Lines.{AnswerLists, Wall}
+use Rattle.lines.specs.Lines.{LineLists, AnswerLists, Wall}
 use Rattle.job_name.specs.Naming.{Stand, stand}
 use Rattle.job_name.specs.Named.{placedOf}
 use Rattle.job_name.specs.declared.NameAnswer.{NameAnswer}
@@ -43,8 +43,13 @@ use Rattle.job_judge.specs.declared.JudgeAnswer.the-variants as judge
 use Rattle.cross_cuts.specs.Cuts.{Cut}
 use Rattle.cross_answer.specs.Answer.{crossedOf, MadeLists, Crossed}
 use Rattle.cross_answer.specs.declared.CrossAnswer.{CrossAnswer}
-use Rattle.host.specs.Report.{sheetOf, readReport, nameReport, namesReport, moveReport, buildReport, runReport, classifyReport, judgeReport, crossReport, NamesReported, MoveReported, BuildReported, RunReported, EditReported, BothReported, ClassifyReported, CrossReported}
+use Rattle.cross_many.specs.Drawn.{Drawn}
+use Rattle.cross_many.specs.Refusing.{OfLines}
+use Rattle.cross_many.specs.Answer.{manyOf, CrossedMany}
+use Rattle.cross_many.specs.declared.ManyAnswer.{ManyAnswer}
+use Rattle.host.specs.Report.{sheetOf, readReport, nameReport, namesReport, moveReport, buildReport, runReport, classifyReport, judgeReport, crossReport, crossManyReport, NamesReported, MoveReported, BuildReported, RunReported, EditReported, BothReported, ClassifyReported, CrossReported, CrossManyReported}
 use Rattle.host.specs.declared.CrossReport.{CrossReport}
+use Rattle.host.specs.declared.CrossManyReport.{CrossManyReport}
 use Rattle.host.specs.declared.RunReport.{RunReport}
 
 -- ---- sheetOf, by the number
@@ -194,5 +199,16 @@ module _ {o : Outcome (List Cut)} {lent : MadeLists} {a : CrossAnswer} {after : 
   cross-reported says =
       record {
         report = says ∙ ap crossReport (done .answer);
+        lists = done .lists;
+      }
+
+pub many-case : {a b : ManyAnswer} → a ≡ b → crossManyReport (manyOf b) ≡ crossManyReport (manyOf a)
+many-case is = ap (λ x. crossManyReport (manyOf x)) (sym is)
+
+module _ {o : OfLines Drawn} {lent : LineLists} {a : ManyAnswer} {after : LineLists} (done : CrossedMany o lent a after) where
+  pub many-reported : {r : CrossManyReport} → r ≡ crossManyReport (manyOf a) → CrossManyReported o lent r after
+  many-reported says =
+      record {
+        report = says ∙ ap crossManyReport (done .answer);
         lists = done .lists;
       }

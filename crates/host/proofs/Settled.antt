@@ -44,7 +44,12 @@ use Rattle.cross_line.specs.Crossing.{crossingShapes}
 use Rattle.cross_line.proofs.Settled.{shapes-numbered}
 use Rattle.cross_balls.specs.Balls.{crossingBalls}
 use Rattle.cross_balls.proofs.Settled.{balls-numbered}
-use Rattle.host.specs.Report.{readReport, nameReport, namesReport, moveReport, buildReport, runReport, classifyReport, judgeReport, crossReport, NamesReported, MoveReported, BuildReported, RunReported, EditReported, BothReported, ClassifyReported, CrossReported}
+use Rattle.cross_many.specs.Drawn.{Drawn}
+use Rattle.cross_many.specs.Refusing.{OfLines, gives, refuses, outcomeOf, partOf}
+use Rattle.cross_many.specs.Crossing.{crossingMany}
+use Rattle.cross_many.specs.Answer.{manyCountsOf}
+use Rattle.cross_many.proofs.Settled.{many-lists-unique, many-numbered}
+use Rattle.host.specs.Report.{readReport, nameReport, namesReport, moveReport, buildReport, runReport, classifyReport, judgeReport, crossReport, crossManyReport, NamesReported, MoveReported, BuildReported, RunReported, EditReported, BothReported, ClassifyReported, CrossReported, CrossManyReported}
 use Rattle.host.specs.declared.ReadReport.{ReadReport}
 use Rattle.host.specs.declared.NameReport.{NameReport}
 use Rattle.host.specs.declared.NamesReport.{NamesReport}
@@ -55,6 +60,7 @@ use Rattle.host.specs.declared.BothReport.{BothReport}
 use Rattle.host.specs.declared.ClassifyReport.{ClassifyReport}
 use Rattle.host.specs.declared.JudgeReport.{JudgeReport}
 use Rattle.host.specs.declared.CrossReport.{CrossReport}
+use Rattle.host.specs.declared.CrossManyReport.{CrossManyReport}
 
 -- ---- Two results that meet a promise are equal
 
@@ -116,6 +122,9 @@ judge-report-unique s c t n r q a b = a ∙ sym b
 -- of shapes and of balls
 pub cross-report-unique : (o : Outcome (List Cut)) (lent : MadeLists) (r q : CrossReport) (after other : MadeLists) → CrossReported o lent r after → CrossReported o lent q other → (r ≡ q) × (after ≡ other)
 cross-report-unique o lent r q after other a b = (a .report ∙ sym (b .report), made-lists-unique o lent after other (a .lists) (b .lists))
+
+pub cross-many-report-unique : (o : OfLines Drawn) (lent : LineLists) (r q : CrossManyReport) (after other : LineLists) → CrossManyReported o lent r after → CrossManyReported o lent q other → (r ≡ q) × (after ≡ other)
+cross-many-report-unique o lent r q after other a b = (a .report ∙ sym (b .report), many-lists-unique o lent after other (a .lists) (b .lists))
 
 -- ---- Number 0 says that the job is given: no refusal has it
 
@@ -179,3 +188,11 @@ pub cross-balls-given : (numbers : List ℤ) (a b c : ℕ) → crossReport (part
 cross-balls-given numbers a b c =
     let job = crossingBalls numbers a b c in
     told-given (λ o. crossReport o .number) (λ k p. refl) (λ k p. refl) (part countsOf job) (part-numbered countsOf job (balls-numbered numbers a b c))
+
+pub cross-many-given : (kinds : List ℕ) (numbers lines : List Float) (lent : LineLists) → crossManyReport (partOf manyCountsOf (crossingMany kinds numbers lines lent)) .number ≡ 0
+    → (v : Drawn) × (outcomeOf (crossingMany kinds numbers lines lent) ≡ given v)
+cross-many-given kinds numbers lines lent = by (crossingMany kinds numbers lines lent) (many-numbered kinds numbers lines lent)
+  where
+    by : (o : OfLines Drawn) → Numbered (outcomeOf o) → crossManyReport (partOf manyCountsOf o) .number ≡ 0 → (v : Drawn) × (outcomeOf o ≡ given v)
+    by (gives v) h zero = (v, refl)
+    by (refuses k p l) h zero = absurd (omega (arith, h .above-0 k p refl))

@@ -12,7 +12,7 @@ use Rattle.outcome.specs.Outcome.{Outcome, given, refused, unfit, part}
 use Rattle.outcome.specs.Lent.{afterCall}
 use Rattle.sheet.specs.Sheet.{Sheets}
 use Rattle.sheet_reading.specs.Reading.{Numbers, numbers}
-use Rattle.lines.specs.Lines.{AnswerLists, Wall}
+use Rattle.lines.specs.Lines.{LineLists, AnswerLists, Wall}
 use Rattle.lines.specs.Given.{WallLists}
 use Rattle.job_name.specs.Naming.{Stand, stand}
 use Rattle.job_names.specs.NamedAll.{NameLists}
@@ -29,6 +29,9 @@ use Rattle.job_edit.specs.Edited.{EditedLists}
 use Rattle.cross_cuts.specs.Cuts.{Cut}
 use Rattle.cross_answer.specs.Answer.{Counts, counts, countsOf, MadeLists, CrossedLists}
 use Rattle.cross_shapes.specs.declared.Probe.{Probe}
+use Rattle.cross_many.specs.Drawn.{Drawn}
+use Rattle.cross_many.specs.Refusing.{OfLines, gives, refuses, partOf}
+use Rattle.cross_many.specs.Answer.{ManyCounts, manyCounts, manyCountsOf, ManyLists}
 use Rattle.host.specs.declared.ReadReport.{ReadReport}
 use Rattle.host.specs.declared.NameReport.{NameReport}
 use Rattle.host.specs.declared.NamesReport.{NamesReport}
@@ -39,6 +42,7 @@ use Rattle.host.specs.declared.BothReport.{BothReport}
 use Rattle.host.specs.declared.ClassifyReport.{ClassifyReport}
 use Rattle.host.specs.declared.JudgeReport.{JudgeReport}
 use Rattle.host.specs.declared.CrossReport.{CrossReport}
+use Rattle.host.specs.declared.CrossManyReport.{CrossManyReport}
 
 -- A place in 1 to 7 or 17 says which sheet: 1 the fittings sheet, 2 the customer's, also where it is alone; 0 where it is in none.
 abbrev pub sheetOf : ℕ → ℕ
@@ -105,6 +109,11 @@ crossReport (given (counts shapes crossings)) = record { number = 0; place = 0; 
 crossReport (refused number place) = record { number = number; place = place; shapes = 0; crossings = 0 }
 crossReport (unfit number place) = record { number = number; place = place; shapes = 0; crossings = 0 }
 
+-- For many lines it says which line is refused, and how many lines there are.
+abbrev pub crossManyReport : OfLines ManyCounts → CrossManyReport
+crossManyReport (gives (manyCounts lines crossings)) = record { number = 0; place = 0; line = 0; lines = lines; crossings = crossings }
+crossManyReport (refuses number place line) = record { number = number; place = place; line = line; lines = 0; crossings = 0 }
+
 -- A probe line: its origin, then its direction.
 abbrev pub probeOf : Float → Float → Float → Float → Float → Float → Probe
 probeOf ox oy oz dx dy dz = record { ox = ox; oy = oy; oz = oz; dx = dx; dy = dy; dz = dz }
@@ -145,3 +154,7 @@ pub record ClassifyReported (o : Outcome (List Wall)) (lent : AnswerLists) (r : 
 pub record CrossReported (o : Outcome (List Cut)) (lent : MadeLists) (r : CrossReport) (after : MadeLists) : Type 0 where
   pub report : r ≡ crossReport (part countsOf o)
   pub lists : CrossedLists o lent after
+
+pub record CrossManyReported (o : OfLines Drawn) (lent : LineLists) (r : CrossManyReport) (after : LineLists) : Type 0 where
+  pub report : r ≡ crossManyReport (partOf manyCountsOf o)
+  pub lists : ManyLists o lent after

@@ -19,8 +19,11 @@ ghost use Rattle.job_judge.specs.Judging.{judging};
 ghost use Rattle.cross_answer.specs.Answer.{crossedOf, madeLists};
 ghost use Rattle.cross_line.specs.Crossing.{crossingShapes};
 ghost use Rattle.cross_balls.specs.Balls.{crossingBalls};
-ghost use Rattle.host.specs.Report.{sheetOf, readReport, nameReport, runReport, judgeReport, probeOf, crossReport, NamesReported, MoveReported, BuildReported, RunReported, EditReported, BothReported, ClassifyReported, CrossReported};
+ghost use Rattle.cross_many.specs.Crossing.{crossingMany};
+ghost use Rattle.cross_many.specs.Answer.{manyOf};
+ghost use Rattle.host.specs.Report.{sheetOf, readReport, nameReport, runReport, judgeReport, probeOf, crossReport, crossManyReport, NamesReported, MoveReported, BuildReported, RunReported, EditReported, BothReported, ClassifyReported, CrossReported, CrossManyReported};
 use cross_answer::CrossAnswer;
+use cross_many::ManyAnswer;
 use cross_shapes::Probe;
 use job_build::BuildAnswer;
 use job_classify::ClassifyAnswer;
@@ -89,6 +92,15 @@ pub struct CrossReport {
     pub number: u8,
     pub place: usize,
     pub shapes: usize,
+    pub crossings: usize,
+}
+
+#[repr(C)]
+pub struct CrossManyReport {
+    pub number: u8,
+    pub place: usize,
+    pub line: usize,
+    pub lines: usize,
     pub crossings: usize,
 }
 
@@ -622,4 +634,54 @@ pub extern "C" fn kressedach_cross_balls(
         (madeLists (now (starts .entry)) (now (positions .entry)) (now (shapes .entry))) r (madeLists (now (starts .exit)) (now (positions .exit)) (now (shapes .exit))) ⌝ }
 {
     cross_report(cross_balls::cross(numbers, starts, positions, shapes))
+}
+
+fn cross_many_report(answer: ManyAnswer) -> CrossManyReport
+    ensures { λ r. ⌜ r ≡ crossManyReport (manyOf answer) ⌝ }
+{
+    match answer {
+        ManyAnswer::Crossed { lines, crossings } => CrossManyReport {
+            number: 0,
+            place: 0,
+            line: 0,
+            lines,
+            crossings,
+        },
+        ManyAnswer::Refused {
+            number,
+            place,
+            line,
+        } => CrossManyReport {
+            number,
+            place,
+            line,
+            lines: 0,
+            crossings: 0,
+        },
+    }
+}
+
+// Crosses half-spaces and boxes with many lines, from the drawing's own numbers.
+#[no_mangle]
+pub extern "C" fn kressedach_cross_many(
+    kinds: &[u8],
+    numbers: &[f64],
+    lines: &[f64],
+    rows: &mut [u8],
+    line_numbers: &mut [u32],
+    positions: &mut [i32],
+    shapes: &mut [u16],
+) -> CrossManyReport
+    ensures { λ r. ⌜ CrossManyReported (crossingMany (now (kinds .entry)) (now (numbers .entry)) (now (lines .entry)) (lineLists (now (rows .entry)) (now («line_numbers» .entry)) (now (positions .entry)) (now (shapes .entry))))
+        (lineLists (now (rows .entry)) (now («line_numbers» .entry)) (now (positions .entry)) (now (shapes .entry))) r (lineLists (now (rows .exit)) (now («line_numbers» .exit)) (now (positions .exit)) (now (shapes .exit))) ⌝ }
+{
+    cross_many_report(cross_many::cross(
+        kinds,
+        numbers,
+        lines,
+        rows,
+        line_numbers,
+        positions,
+        shapes,
+    ))
 }

@@ -5,6 +5,7 @@
 
 mod edits;
 mod levels;
+mod many;
 mod plain;
 mod rows;
 
@@ -22,8 +23,12 @@ fn main() {
     for row in &edits {
         (row.check)();
     }
+    let many = many::all(if timed { 100 } else { 10 });
+    for row in &many {
+        (row.check)();
+    }
     if !timed {
-        return println!("benchmark: the answers of {} rows agree", rows.len() + edits.len());
+        return println!("benchmark: the answers of {} rows agree", rows.len() + edits.len() + many.len());
     }
     heading();
     let said: Vec<Said> = rows.into_iter().map(|mut row| line(&mut row)).collect();
@@ -44,6 +49,7 @@ fn main() {
         println!("At {leaves} leaves classify is {least:.1} to {most:.1} times faster than walking.");
     }
     edited(edits);
+    many::print(many);
     levels::print(best);
 }
 

@@ -26,7 +26,7 @@ pub const EXTREME: [f64; 18] = [
 ];
 
 /// A number of a drawing: on a lattice of half micrometres, so that positions lie halfway and faces meet; or anywhere.
-fn length(dice: &mut Dice) -> f64 {
+pub(crate) fn length(dice: &mut Dice) -> f64 {
     match dice.below(12) {
         0..=4 => (dice.below(41) as f64 - 20.0) * 0.0005,
         5..=7 => (dice.below(41) as f64 - 20.0) * 0.5,
@@ -38,7 +38,7 @@ fn length(dice: &mut Dice) -> f64 {
 }
 
 /// A component of a direction, of either sign.
-fn component(dice: &mut Dice) -> f64 {
+pub(crate) fn component(dice: &mut Dice) -> f64 {
     let size = match dice.below(10) {
         0..=3 => 1.0,
         4 => 40.0,
@@ -119,6 +119,11 @@ fn six(dice: &mut Dice, probe: &Probe, kind: u8) -> [f64; 6] {
 /// Shapes for a line: a byte a shape, and six numbers a shape, now and then one list too short or too long.
 pub fn shapes(dice: &mut Dice, probe: &Probe) -> (Vec<u8>, Vec<f64>) {
     let count = if dice.once_in(60) { dice.of_these(&[0, 255, 256, 257, 300]) } else { dice.size(24) };
+    so_many_shapes(dice, probe, count)
+}
+
+/// So many of them.
+pub fn so_many_shapes(dice: &mut Dice, probe: &Probe, count: usize) -> (Vec<u8>, Vec<f64>) {
     let mild = dice.below(4) > 0;
     let (mut kinds, mut numbers) = (Vec::new(), Vec::new());
     for _ in 0..count {

@@ -2,8 +2,8 @@
 //!
 //! Nothing here is proved or tuned, and nothing is shared with the library: the formula is a tree of boxes, the contraction works on
 //! nodes that point to each other, and a line is evaluated position by position. Each module follows one section of the document.
-//! [`make`] makes sheets and lists, good and damaged, from a seed, [`drawings`] probe lines, shapes and balls, [`designs`] edits, and
-//! [`theirs`] the wall lists of others.
+//! [`make`] makes sheets and lists, good and damaged, from a seed, [`drawings`] probe lines, shapes and balls, [`rasters`] many lines for
+//! one drawing, [`designs`] edits, and [`theirs`] the wall lists of others.
 //!
 //! Each job takes the lengths of the answer lists (`rooms`), in the order in which the document names them, and gives what the first
 //! entries of those lists become.
@@ -18,6 +18,8 @@ pub mod formula;
 pub mod judging;
 pub mod lines;
 pub mod make;
+pub mod many;
+pub mod rasters;
 pub mod sheet;
 pub mod theirs;
 pub mod toggles;

@@ -16,12 +16,21 @@ pub fn cross(probe: &Probe, kinds: &[u8], numbers: &[f64], lists: &mut LineLists
     if !finite || probe.direction == [0.0; 3] {
         return Err((16, 65535));
     }
+    gather(16, kinds.len(), lists, |k| cut(probe, kinds, numbers, k))
+}
+
+/// The first shape at fault on a line that is not.
+pub fn first_fault(probe: &Probe, kinds: &[u8], numbers: &[f64]) -> Option<usize> {
+    (0..kinds.len()).find(|k| cut(probe, kinds, numbers, *k).is_none())
+}
+
+fn cut(probe: &Probe, kinds: &[u8], numbers: &[f64], k: usize) -> Cut {
     let number = |at: usize| numbers.get(at).copied().unwrap_or(f64::NAN);
-    gather(16, kinds.len(), lists, |k| match kinds[k] {
+    match kinds[k] {
         axis @ 0..=2 => half_space(probe, usize::from(axis), number(6 * k)),
         BOX => solid_box(probe, [0, 1, 2, 3, 4, 5].map(|j| number(6 * k + j))),
         _ => None,
-    })
+    }
 }
 
 /// Balls beside one line.

@@ -5,6 +5,7 @@
 mod columns;
 mod cross;
 mod dwarf;
+mod many;
 mod moved;
 mod read;
 mod run;
@@ -15,6 +16,7 @@ pub use columns::over;
 pub use cross::{cross, cross_balls};
 pub use dwarf::build;
 use dwarf::{contracted, Dwarf};
+pub use many::cross_many;
 pub use moved::move_sheet;
 pub use read::{read, read_pair};
 pub use run::run;

@@ -4,7 +4,6 @@ use mathlib.Core.List.{List, [], _∷_, _++_, map}
 use lib.IntN.{ℤ}
 use Rattle.lines.specs.Lines.{LineLists, lineLists}
 use Rattle.cross_cuts.specs.Cuts.{Cut, startRow, positionOf, shapeOf, lineCrossings}
-use Rattle.cross_cuts.specs.Fit.{Fit}
 
 -- What the lines have of each shape, as a crossing maker gives it for each.
 abbrev pub Drawn : Type 0
@@ -29,8 +28,3 @@ shapesIn (line ∷ lines) = map shapeOf (lineCrossings line) ++ shapesIn lines
 
 abbrev pub drawnLists : Drawn → LineLists
 drawnLists lines = lineLists (rowsOf lines) (linesFrom 0 lines) (positionsIn lines) (shapesIn lines)
-
--- Each line is fit to be classified: the crossing makers give no other.
-abbrev pub AllFit : ℕ → Drawn → Type 0
-AllFit shapes [] = Unit {0}
-AllFit shapes (line ∷ lines) = Fit shapes (startRow line) (lineCrossings line) × AllFit shapes lines

@@ -1,0 +1,204 @@
+//! The crossing maker for many lines and one drawing.
+
+use crate::{ffi, unless_refused, Probe, Refusal, Shape};
+use std::error::Error;
+use std::fmt;
+
+/// What many lines have of some shapes: the lists that [`classify_into`](crate::classify_into) takes, as they are.
+#[derive(Debug, Clone, PartialEq, Eq, Hash)]
+pub struct ManyCrossed {
+    /// A start row a line, and in each a byte a shape: 1 where the line starts inside it.
+    pub rows: Vec<u8>,
+    /// The line of each crossing, numbered from 0 as the lines are given: never falling.
+    pub lines: Vec<u32>,
+    /// Where the line is crossed, in micrometres: within a line rising.
+    pub positions: Vec<i32>,
+    /// The shape of each crossing: at one position by rising number.
+    pub shapes: Vec<u16>,
+}
+
+/// How many entries are given.
+#[derive(Debug, Clone, Copy, PartialEq, Eq, Hash)]
+pub struct ManyCounts {
+    /// Rows, each with an entry a shape: one a line.
+    pub lines: usize,
+    /// In each of lines, positions and shapes: one a crossing.
+    pub crossings: usize,
+}
+
+/// Four lists that the answer of many lines is written to.
+#[derive(Debug)]
+pub struct ManyLists<'a> {
+    /// The start rows, an entry a line and shape.
+    pub rows: &'a mut [u8],
+    /// Line numbers, an entry a crossing; a shape has two at most on each line.
+    pub lines: &'a mut [u32],
+    /// Positions, an entry a crossing.
+    pub positions: &'a mut [i32],
+    /// Shapes, an entry a crossing.
+    pub shapes: &'a mut [u16],
+}
+
+/// Why many lines have no answer: a refusal, and the line that it is of.
+///
+/// It prints as a sentence that a person can act on:
+///
+/// ```
+/// use kressedach::{cross_many, Axis, LineRefusal, Probe, Refusal, Shape};
+/// let along = Probe { origin: [0.0; 3], direction: [1.0, 0.0, 0.0] };
+/// let still = Probe { direction: [0.0; 3], ..along };
+/// let below = Shape::HalfSpace { axis: Axis::X, face: 5.0 };
+/// let refusal = cross_many(&[along, still], &[below]).unwrap_err();
+/// assert_eq!(refusal.to_string(), "refused 16 for line 1: a number of the line is not finite, or its direction is all zero");
+///
+/// let slow = Probe { direction: [1e-9, 0.0, 0.0], ..along };
+/// let refusal = cross_many(&[along, along, slow], &[below]).unwrap_err();
+/// assert_eq!((refusal.line, refusal.refusal.place), (Some(2), 0));
+/// assert!(refusal.to_string().starts_with("refused 16 at shape 0 on line 2: an axis above 2, a number that is not finite,"));
+///
+/// let of = |number, place| LineRefusal { line: None, refusal: Refusal { number, sheet: None, place } }.to_string();
+/// assert_eq!(of(14, 0), "refused 14: more than 4294967296 lines");
+/// assert_eq!(of(16, 256), "refused 16: more than 256 shapes");
+/// assert_eq!(of(9, 7), "refused 9 for want of 7 entries: an answer list is too short");
+/// ```
+#[derive(Debug, Clone, Copy, PartialEq, Eq, Hash)]
+pub struct LineRefusal {
+    /// The number of the line that is at fault, or that a shape is at fault on; none where the refusal is of no line.
+    pub line: Option<usize>,
+    /// The number, and the place that it fixes.
+    pub refusal: Refusal,
+}
+
+impl fmt::Display for LineRefusal {
+    fn fmt(&self, f: &mut fmt::Formatter<'_>) -> fmt::Result {
+        let Refusal { number, place, .. } = self.refusal;
+        match self.line {
+            Some(line) if place == 65535 => write!(f, "refused {number} for line {line}: {}", self.refusal.meaning()),
+            Some(line) => write!(f, "refused {number} at shape {place} on line {line}: {}", self.refusal.meaning()),
+            None if number == 14 => write!(f, "refused 14: more than 4294967296 lines"),
+            None => self.refusal.fmt(f),
+        }
+    }
+}
+
+impl Error for LineRefusal {}
+
+impl From<LineRefusal> for Refusal {
+    fn from(refused: LineRefusal) -> Refusal {
+        refused.refusal
+    }
+}
+
+impl Probe {
+    /// As the library takes it among many: six numbers, origin and then direction.
+    pub fn numbers(&self) -> [f64; 6] {
+        let ([a, b, c], [d, e, f]) = (self.origin, self.direction);
+        [a, b, c, d, e, f]
+    }
+}
+
+/// Crosses half-spaces and boxes with many lines: what [`cross`](crate::cross) gives for each, one after another.
+///
+/// ```
+/// use kressedach::{classify_into, cross_many, Probe, Shape, WallLists};
+/// let block = Shape::Box { lows: [0.0, 0.0, 0.0], highs: [100.0, 40.0, 40.0] };
+/// let bore = Shape::Box { lows: [40.0, 10.0, -1.0], highs: [60.0, 30.0, 41.0] };
+/// let along = |y| Probe { origin: [-10.0, y, 20.0], direction: [1.0, 0.0, 0.0] };
+/// let crossed = cross_many(&[along(5.0), along(20.0)], &[block, bore])?;
+/// assert_eq!((crossed.rows.as_slice(), crossed.lines.as_slice()), (&[0; 4][..], &[0, 0, 1, 1, 1, 1][..]));
+/// assert_eq!(crossed.positions, [10000, 110000, 10000, 50000, 70000, 110000]);
+/// assert_eq!(crossed.shapes, [0, 0, 0, 1, 1, 0]);
+///
+/// // from the drawing's numbers to walls: Block less Bore
+/// let sheet = b"\x01\0\x02\0\x01\x02\0\x05Block\x02\0\x04Bore\x03\0\x06\0\0\0\x01\xFF\xF2";
+/// let (mut lines, mut starts, mut ends, mut start_shapes, mut end_shapes) = ([9; 5], [9; 5], [9; 5], [9; 5], [9; 5]);
+/// let mut walls = WallLists {
+///     lines: &mut lines,
+///     starts: &mut starts,
+///     ends: &mut ends,
+///     start_shapes: &mut start_shapes,
+///     end_shapes: &mut end_shapes,
+/// };
+/// assert_eq!(classify_into(sheet, &crossed.rows, &crossed.lines, &crossed.positions, &crossed.shapes, &mut walls)?, 3);
+/// assert_eq!((lines, starts, ends), ([0, 1, 1, 9, 9], [10000, 10000, 70000, 9, 9], [110000, 50000, 110000, 9, 9]));
+/// # Ok::<(), kressedach::Refusal>(())
+/// ```
+///
+/// # Errors
+///
+/// 16 for more than 256 shapes, 14 for more than 4294967296 lines, then line by line 16: for the line, then for the first shape at fault.
+pub fn cross_many(probes: &[Probe], shapes: &[Shape]) -> Result<ManyCrossed, LineRefusal> {
+    let (kinds, numbers): (Vec<u8>, Vec<[f64; 6]>) = shapes.iter().map(Shape::parts).unzip();
+    let lines: Vec<[f64; 6]> = probes.iter().map(Probe::numbers).collect();
+    // more shapes are refused whatever the room
+    let rows = if kinds.len() > 256 { 0 } else { lines.len() * kinds.len() };
+    let given = |room: usize| given(lines.as_flattened(), &kinds, numbers.as_flattened(), rows, room);
+    // a line mostly meets few shapes: where they are more, the refusal says how many crossings there are
+    match given((2 * rows).min(8 * lines.len() + 4096)) {
+        Err(short) if short.refusal.number == 9 => given(short.refusal.place),
+        answer => answer,
+    }
+}
+
+/// The answer in lists of its own, of so many entries.
+fn given(lines: &[f64], kinds: &[u8], numbers: &[f64], rows: usize, room: usize) -> Result<ManyCrossed, LineRefusal> {
+    let mut all = ManyCrossed { rows: vec![0; rows], lines: vec![0; room], positions: vec![0; room], shapes: vec![0; room] };
+    let mut lists = ManyLists { rows: &mut all.rows, lines: &mut all.lines, positions: &mut all.positions, shapes: &mut all.shapes };
+    let counts = cross_many_into(lines, kinds, numbers, &mut lists)?;
+    all.lines.truncate(counts.crossings);
+    all.positions.truncate(counts.crossings);
+    all.shapes.truncate(counts.crossings);
+    Ok(all)
+}
+
+/// Crosses half-spaces and boxes with many lines into lent lists.
+///
+/// Each line has six of `lines`: origin, direction. A line begun counts, and a number that it lacks is not finite. Kinds and numbers of the
+/// shapes are those of [`cross_into`](crate::cross_into).
+///
+/// `rows` needs an entry a line and shape, the others one a crossing. All lines are judged, and their crossings counted, before anything is
+/// written. Two crossings a shape and line are always room enough.
+///
+/// ```
+/// use kressedach::{cross_many_into, ManyCounts, ManyLists, BOX};
+/// let lines = [0.0, 1.0, 1.0, 1.0, 0.0, 0.0, 0.0, 5.0, 1.0, 1.0, 0.0, 0.0, 0.0, 1.0, 1.0, -1.0, 0.0, 0.0];
+/// let (mut rows, mut numbers, mut positions, mut shapes) = ([9; 4], [9; 5], [9; 5], [9; 5]);
+/// let mut lists = ManyLists { rows: &mut rows, lines: &mut numbers, positions: &mut positions, shapes: &mut shapes };
+/// let counts = cross_many_into(&lines, &[BOX], &[5.0, 0.0, 0.0, 6.0, 2.0, 2.0], &mut lists)?;
+/// assert_eq!(counts, ManyCounts { lines: 3, crossings: 4 });
+/// assert_eq!((rows, numbers), ([0, 0, 0, 9], [0, 0, 2, 2, 9]));
+/// assert_eq!((positions, shapes), ([5000, 6000, -6000, -5000, 9], [0, 0, 0, 0, 9]));
+/// # Ok::<(), kressedach::LineRefusal>(())
+/// ```
+///
+/// # Errors
+///
+/// 16 and 14 as [`cross_many`], then 9 for the lists in their order.
+#[inline]
+pub fn cross_many_into(lines: &[f64], kinds: &[u8], numbers: &[f64], lists: &mut ManyLists) -> Result<ManyCounts, LineRefusal> {
+    // SAFETY: slices are pointers to that many entries; those that are written are borrowed by nobody else.
+    let r = unsafe {
+        ffi::reported(|report| {
+            ffi::kressedach_cross_many(
+                report,
+                kinds.as_ptr(),
+                kinds.len(),
+                numbers.as_ptr(),
+                numbers.len(),
+                lines.as_ptr(),
+                lines.len(),
+                lists.rows.as_mut_ptr(),
+                lists.rows.len(),
+                lists.lines.as_mut_ptr(),
+                lists.lines.len(),
+                lists.positions.as_mut_ptr(),
+                lists.positions.len(),
+                lists.shapes.as_mut_ptr(),
+                lists.shapes.len(),
+            )
+        })
+    };
+    let line = (r.number == 16 && r.place != 256).then_some(r.line);
+    let counts = ManyCounts { lines: r.lines, crossings: r.crossings };
+    unless_refused(r.number, 0, r.place, counts).map_err(|refusal| LineRefusal { line, refusal })
+}

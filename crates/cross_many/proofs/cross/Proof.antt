@@ -1,0 +1,62 @@
+-- `cross_many::cross` meets its contract: the questions in order, and then the lines.
+use Rattle.cross_many.proofs.ManyLaws.{counted-lines, none-wrong, all-counted, too-many-shapes, too-many-lines, wrong-line}
+use borrow.Author.Needs.{needs}
+use Rattle.cross_many.proofs.cross.Statement.{statement}
+use Rattle.cross_many.proofs.cross.Tie as tie
+
+returns : tie.Need-returns
+returns c = search (too-many-shapes, needs)
+
+line-count-requires : tie.Need-line-count-requires
+line-count-requires c κs = search needs
+
+returns-2 : tie.Need-returns-2
+returns-2 c = search (too-many-lines, counted-lines, needs)
+
+count-lines-requires : tie.Need-count-lines-requires
+count-lines-requires c κs = search (counted-lines, needs)
+
+enum-known-place : tie.Need-enum-known-place
+enum-known-place c = search needs
+
+returns-3 : tie.Need-returns-3
+returns-3 c = search (wrong-line, counted-lines, needs)
+
+enum-known-total : tie.Need-enum-known-total
+enum-known-total c = search needs
+
+give-lines-requires : tie.Need-give-lines-requires
+give-lines-requires c κs = ((search needs, search (counted-lines, needs), search needs), (search (none-wrong, needs), search (all-counted, needs)))
+
+same-length : tie.Need-same-length
+same-length c = search needs
+
+same-length-2 : tie.Need-same-length-2
+same-length-2 c = search needs
+
+same-length-3 : tie.Need-same-length-3
+same-length-3 c = search needs
+
+same-length-4 : tie.Need-same-length-4
+same-length-4 c = search needs
+
+returns-4 : tie.Need-returns-4
+returns-4 c = search needs
+
+pub cross-spec : {M : Type 1} → statement M
+cross-spec =
+    tie.close
+    (tie.spec
+    returns
+    line-count-requires
+    returns-2
+    count-lines-requires
+    enum-known-place
+    returns-3
+    enum-known-total
+    give-lines-requires
+    same-length
+    same-length-2
+    same-length-3
+    same-length-4
+    returns-4)
