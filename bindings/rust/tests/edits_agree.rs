@@ -93,15 +93,19 @@ fn the_two_agree_on_cases_from_a_seed() {
     assert!(cases < 20_000 || CAN.iter().all(|answer| seen[*answer] >= 20), "{seen:?}");
 }
 
-/// Every operation of small formulas in every form becomes every other, after each toggle of a run that has all shapes in and out.
+/// Every operation of small formulas in every form, in both editions, becomes every other, after each toggle of a run that has all shapes
+/// in and out.
 #[test]
 fn every_operation_becomes_every_other() {
     const NAMES: [&str; 3] = ["A", "B", "C"];
     for (leaves, form) in (1..=9).flat_map(|leaves| Form::ALL.map(|form| (leaves, form))) {
         let dice = &mut Dice::of(31, leaves as u64);
         let codes = make::codes(dice, 3, leaves, form);
-        let own = make::sheet(&NAMES, &codes);
-        let sheets = [kressedach::move_sheet(&own).unwrap_or(own.clone()), own].map(Given::alone);
+        let own = Given::alone(make::sheet(&NAMES, &codes));
+        // laid here and not moved: no move to edition 2 takes an exclusive union along
+        let first = peer::read(own.theirs()).unwrap().formula.codes_first();
+        let sheets = [own, Given::alone(make::sheet_first(&NAMES, &first))];
+        assert_eq!(sheets.each_ref().map(|sheet| peer::read(sheet.theirs()).unwrap().edition), [1, 2]);
         let toggles = vec![0, 1, 0, 2, 1, 0, 2];
         let operations = (0..codes.len()).filter(|at| codes[*at] >= 0xFFF0);
         for (position, code) in operations.flat_map(|at| (0xFFF0..=0xFFF3).map(move |code| (at as u16, code))) {

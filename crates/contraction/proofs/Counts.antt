@@ -8,6 +8,7 @@ use lib.ListN.{length, length-append}
 use Rattle.formula.specs.Formula.{Op}
 use Rattle.contraction.specs.Records.{C-rec}
 use Rattle.contraction.specs.Rounds.{Work, tip, one, two, nodes, tipOf, rakes, leftOne, leftTwo, raked, compresses, compressed, roundLeaves}
+use Rattle.contraction.specs.Terms.{Many}
 
 abbrev pub tips : Work → ℕ
 tips (tip d) = 1
@@ -33,12 +34,6 @@ nodes-parts : (w : Work) → nodes w ≡ tips w + ones w + twos w
 nodes-parts (tip d) = refl
 nodes-parts (one d c) = omega (arith, nodes-parts c)
 nodes-parts (two o l r) = omega (arith, nodes-parts l, nodes-parts r)
-
--- the tree is no single leaf
-abbrev pub Many : Work → Type 0
-Many (tip d) = ⊥
-Many (one d c) = Unit {0}
-Many (two o l r) = Unit {0}
 
 -- rake takes every leaf away
 one-nodes : (d : ℕ) (c c′ : Work) (n : ℕ) → (Many c → nodes c′ + tips c ≡ nodes c)

@@ -6,8 +6,9 @@ use mathlib.Core.Option.{Option, none, some}
 use Rattle.formula.specs.Formula.{Op, Formula, leaf, node}
 use Rattle.contraction.specs.Records.{Rec, isLeaf}
 use Rattle.contraction.specs.Rounds.{Work, tip, one, two, tipOf, rakeOne, rakeTwo, rakes, raked, compresses, roundMakes, roundLeaves, leafRecs}
+use Rattle.contraction.specs.Terms.{Each}
 use Rattle.contraction.proofs.Rounds.{allMade}
-use Rattle.contraction.proofs.Worked.{Each, each-append}
+use Rattle.contraction.proofs.Worked.{each-append}
 
 abbrev pub IsLeaf : ℕ → Rec → Type 0
 IsLeaf n r = isLeaf (r .kind) ≡ true

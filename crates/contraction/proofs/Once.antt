@@ -11,18 +11,11 @@ use borrow.Author.Tests.{eqb-true, eqb-false, eq-eqb, ne-eqb}
 use lib.ListN.{length}
 use Rattle.formula.specs.Formula.{Op, Formula, leaf, node, leaves}
 use Rattle.formula.specs.States.{times}
-use Rattle.contraction.specs.Records.{Side, left, right, Rec, children, E-rec, R-rec, S-rec, C-rec}
+use Rattle.contraction.specs.Records.{Side, left, right, Rec, E-rec, R-rec, S-rec, C-rec}
 use Rattle.contraction.specs.Rounds.{Work, tip, one, two, tipOf, rakeOne, rakeTwo, rakes, leftOne, leftTwo, raked}
 use Rattle.contraction.specs.Rounds.{compresses, compressed, roundMakes, roundLeaves, planted, leafRecs, enough, dwarf}
+use Rattle.contraction.specs.Terms.{refs, uses}
 use Rattle.contraction.proofs.Rounds.{allMade, remains, dwarf-all, length-leafRecs, root}
-
--- how often node c is a child in a record, and in a list of records
-abbrev pub refs : ℕ → Rec → ℕ
-refs c r = times c (children r)
-
-abbrev pub uses : ℕ → List Rec → ℕ
-uses c [] = 0
-uses c (r ∷ rs) = refs c r + uses c rs
 
 abbrev count : Bool → ℕ
 count b = cond b 1 0

@@ -11,8 +11,9 @@ use Rattle.contraction.specs.Records.{Side, left, right, Rec, leafRec, E
 use Rattle.contraction.specs.Rounds.{Work, tip, one, two, tipOf, rakeOne, rakeTwo, rakes, leftOne, leftTwo, raked}
 use Rattle.contraction.specs.Rounds.{compresses, compressed, roundMakes, roundLeaves, planted, leafRecs, enough, dwarf}
 use Rattle.contraction.specs.Height.{worked}
+use Rattle.contraction.specs.Terms.{Each, ChildrenBelow}
 use Rattle.contraction.proofs.Rounds.{allMade, dwarf-all, length-leafRecs}
-use Rattle.contraction.proofs.Worked.{Each, each-append, Good, Steady, worked-good}
+use Rattle.contraction.proofs.Worked.{each-append, Good, Steady, worked-good}
 
 -- every dwarf root in the tree is below n
 abbrev pub Below : ℕ → Work → Type 0
@@ -136,14 +137,7 @@ module _ (P : ℕ → Rec → Type 0) (ok : Kinds P) where
 pub dwarf-good : (by : List ℕ → Rec → ℕ) → Kinds (Steady by) → (f : Formula) → Good by (worked by [] (dwarf f)) 0 (dwarf f)
 dwarf-good by ok f = worked-good by (dwarf f) [] 0 refl (dwarf-each (Steady by) ok f)
 
-abbrev pub AllBelow : ℕ → List ℕ → Type 0
-AllBelow n [] = Unit {0}
-AllBelow n (c ∷ cs) = (c < n) × AllBelow n cs
-
 -- Children have smaller numbers.
-abbrev pub ChildrenBelow : ℕ → Rec → Type 0
-ChildrenBelow n r = AllBelow n (children r)
-
 children-below : Kinds ChildrenBelow
 children-below =
     record {

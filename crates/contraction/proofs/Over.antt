@@ -8,8 +8,7 @@ use lib.Dec.{eqb}
 use borrow.Author.Tests.{eqb-true}
 use Rattle.formula.specs.States.{times}
 use Rattle.contraction.specs.Records.{Rec, children, listed, over}
-use Rattle.contraction.proofs.Order.{AllBelow, ChildrenBelow}
-use Rattle.contraction.proofs.Once.{refs}
+use Rattle.contraction.specs.Terms.{AllBelow, ChildrenBelow, refs}
 
 listed-below : (cs : List ℕ) (n c : ℕ) → AllBelow n cs → listed c cs ≡ true → c < n
 listed-below [] n c b e = absurd (false≢true e)

@@ -11,10 +11,11 @@ use Rattle.formula.specs.Formula.{Formula}
 use Rattle.contraction.specs.Records.{Rec, children, listed, over}
 use Rattle.contraction.specs.Rounds.{dwarf}
 use Rattle.contraction.specs.Height.{worked, longest, path, height}
-use Rattle.contraction.proofs.Worked.{Each, Good, Steady, worked-good, last-is, length-worked}
+use Rattle.contraction.specs.Terms.{Each, AllBelow, ChildrenBelow, refs, uses}
+use Rattle.contraction.proofs.Worked.{Good, Steady, worked-good, last-is, length-worked}
 use Rattle.contraction.proofs.Rounds.{root}
-use Rattle.contraction.proofs.Order.{AllBelow, ChildrenBelow, children-smaller}
-use Rattle.contraction.proofs.Once.{refs, uses, child-of-one}
+use Rattle.contraction.proofs.Order.{children-smaller}
+use Rattle.contraction.proofs.Once.{child-of-one}
 use Rattle.contraction.proofs.Over.{over-below, refs-over}
 
 longest-listed : (xs cs : List ℕ) (c : ℕ) → listed c cs ≡ true → suc (getD xs c 0) ≤ longest xs cs

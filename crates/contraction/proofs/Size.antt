@@ -10,7 +10,8 @@ use Rattle.contraction.specs.Records.{C-rec}
 use Rattle.contraction.specs.Rounds.{Work, tip, one, two, nodes, tipOf, rakeOne, rakeTwo, rakes, leftOne, leftTwo, raked}
 use Rattle.contraction.specs.Rounds.{compresses, compressed, roundMakes, roundLeaves, planted, leafRecs, dwarf}
 use Rattle.contraction.specs.Height.{height}
-use Rattle.contraction.proofs.Counts.{Many, ones, twos}
+use Rattle.contraction.specs.Terms.{Many}
+use Rattle.contraction.proofs.Counts.{ones, twos}
 use Rattle.contraction.proofs.Rounds.{allMade, dwarf-all, length-leafRecs}
 
 -- what the rounds may still make at most

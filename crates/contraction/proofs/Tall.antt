@@ -10,7 +10,8 @@ use Rattle.contraction.specs.Records.{Side, left, right, Rec, E-rec, R-r
 use Rattle.contraction.specs.Rounds.{Work, tip, one, two, nodes, tipOf, rakeOne, rakeTwo, rakes, leftOne, leftTwo, raked}
 use Rattle.contraction.specs.Rounds.{compresses, compressed, roundMakes, roundLeaves, rounds, planted, leafRecs, enough, dwarf, roundsOf}
 use Rattle.contraction.specs.Height.{path, height}
-use Rattle.contraction.proofs.Counts.{Many, four-fifths, nodes-pos}
+use Rattle.contraction.specs.Terms.{Many}
+use Rattle.contraction.proofs.Counts.{four-fifths, nodes-pos}
 use Rattle.contraction.proofs.Rounds.{allMade, remains, dwarf-all, length-leafRecs, root}
 use Rattle.contraction.proofs.Worked.{Good, good-left, good-right, last-is, length-worked}
 use Rattle.contraction.proofs.Paths.{paths, paths-good}

@@ -8,14 +8,11 @@ use lib.ListN.{length, getD, length-append, List·getD-append}
 use lib.Seq.{getD-append-seam}
 use Rattle.contraction.specs.Records.{Rec}
 use Rattle.contraction.specs.Height.{worked, last}
+use Rattle.contraction.specs.Terms.{Each}
 
 -- P holds of each record and its number, from n on
 module _ (P : ℕ → Rec → Type 0) where
-  abbrev pub Each : ℕ → List Rec → Type 0
-  Each n [] = Unit {0}
-  Each n (r ∷ rs) = P n r × Each (suc n) rs
-
-  pub each-append : (rs qs : List Rec) (n : ℕ) → Each n rs → Each (n + length rs) qs → Each n (rs ++ qs)
+  pub each-append : (rs qs : List Rec) (n : ℕ) → Each P n rs → Each P (n + length rs) qs → Each P n (rs ++ qs)
   each-append [] qs n p q = rw add-zero at q
   each-append (r ∷ rs) qs n p q = (p .0, each-append rs qs (suc n) (p .1) (rw (add-suc, ← suc-add) at q))
 

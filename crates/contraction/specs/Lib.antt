@@ -1,4 +1,5 @@
 pub mod Records
 pub mod Rounds
 pub mod Height
+pub mod Terms
 pub mod Steps

@@ -1,36 +1,22 @@
 -- Calls with many lines computed from the definitions.
 use mathlib.Core.Path.{_≡_, refl}
-use mathlib.Core.List.{List, [], _∷_, map}
-use Prim.Native.Nat.{ℕ}
-use lib.IntN.{ℤ, pos}
-use lib.Ieee.{Float, binary64, ofInt, sub, div, mul, lt, eq}
+use mathlib.Core.List.{[], _∷_, map}
+use lib.IntN.{pos}
+use lib.Ieee.{ofInt, sub, div, mul, lt, eq}
 use Rattle.outcome.specs.Outcome.{given, part}
-use Rattle.lines.specs.Lines.{LineLists, lineLists}
+use Rattle.lines.specs.Lines.{lineLists}
 use Rattle.cross_order.specs.Order.{enter, inOrder}
 use Rattle.cross_positions.specs.Positions.{nearestWhole}
 use Rattle.cross_cuts.specs.Cuts.{crossingsFrom, faultless}
 use Rattle.cross_shapes.specs.Shapes.{finite, isZero, lesser, greater, halfSpaceCut, axisRange, boxRange, goodPair, boxCut}
 use Rattle.cross_line.specs.Lent.{shapesOf}
 use Rattle.cross_line.specs.Crossing.{goodProbe}
+use Rattle.cross_many.specs.Cases.{number, two, lines, lent}
 use Rattle.cross_many.specs.Asking.{lineJudged, listRoom}
 use Rattle.cross_many.specs.Crossing.{linesJudged, crossingProbes, crossingMany}
 use Rattle.cross_many.specs.Drawn.{rowsOf, linesFrom, positionsIn, shapesIn, drawnLists}
 use Rattle.cross_many.specs.Lent.{probesFrom}
 use Rattle.cross_many.specs.Refusing.{gives, refuses, outcomeOf}
-
-unfoldable number : ℤ → Float
-number z = ofInt binary64 z
-
--- a box from 5 to 6, and a half-space on x below 6
-unfoldable two : List Float
-two = map number (pos 5 ∷ pos 0 ∷ pos 0 ∷ pos 6 ∷ pos 2 ∷ pos 2 ∷ pos 6 ∷ [])
-
--- both along x: the second beside the box
-unfoldable lines : List Float
-lines = map number (pos 0 ∷ pos 1 ∷ pos 1 ∷ pos 1 ∷ pos 0 ∷ pos 0 ∷ pos 0 ∷ pos 5 ∷ pos 5 ∷ pos 1 ∷ pos 0 ∷ pos 0 ∷ [])
-
-unfoldable lent : LineLists
-lent = lineLists (9 ∷ 9 ∷ 9 ∷ 9 ∷ []) (9 ∷ 9 ∷ 9 ∷ 9 ∷ []) (pos 9 ∷ pos 9 ∷ pos 9 ∷ pos 9 ∷ []) (9 ∷ 9 ∷ 9 ∷ 9 ∷ [])
 
 both-given : part drawnLists (outcomeOf (crossingMany (255 ∷ 0 ∷ []) two lines lent))
     ≡ given (lineLists (0 ∷ 1 ∷ 0 ∷ 1 ∷ []) (0 ∷ 0 ∷ 0 ∷ 1 ∷ []) (pos 5000 ∷ pos 6000 ∷ pos 6000 ∷ pos 6000 ∷ []) (0 ∷ 0 ∷ 1 ∷ 1 ∷ []))

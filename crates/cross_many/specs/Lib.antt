@@ -5,3 +5,4 @@ pub mod Asking
 pub mod Crossing
 pub mod Answer
 pub mod Passing
+pub mod Cases

@@ -3,5 +3,8 @@ pub mod Judgements
 pub mod Table
 pub mod Foundries
 pub mod Editions
+pub mod NamesMoved
 pub mod Edited
 pub mod EditCases
+pub mod SheetCases
+pub mod Recoded

@@ -1,152 +1,16 @@
 -- The cases that document 01 marks P, computed of the definitions themselves: one table under a single statement.
-use Prim.Native.Nat.{ℕ, zero, suc, _/_, _%_}
-use mathlib.Core.Path.{_≡_, refl}
-use mathlib.Core.List.{List, [], _∷_, _++_, map}
-use lib.IntN.{ℤ, pos, negsuc}
-use lib.ListN.{length, replicate}
-use Rattle.outcome.specs.Outcome.{given, part}
-use Rattle.formula.specs.Formula.{union, intersection, difference, exclusive, Formula, leaf, node, postfix}
+use mathlib.Core.Path.{refl}
 use Rattle.formula.specs.States.{times}
-use Rattle.contraction.specs.Records.{number}
-use Rattle.sheet.specs.Sheet.{alone, lengthAt, pastAt, bytesAt, allGood, same, taken, codesOf, allCodes, formulaOf, formulaIn, header, nameAt, formulaAt, fieldAt, fields, own, reading}
+use Rattle.sheet.specs.Sheet.{lengthAt, pastAt, bytesAt, allGood, same, taken, codesOf, allCodes, formulaOf, formulaIn, header, nameAt, formulaAt, fieldAt, fields, own, reading}
 use Rattle.accepting.specs.Accepting.{accepted}
-use Rattle.toggles.specs.Toggles.{Answers, answers}
 use Rattle.lines.specs.Lines as lines
-use Rattle.lines.specs.Lines.{crossed, bits, ordered, lowestFrom, shapeAt, wallsOn, crossingsOn, wallsFrom, lineLists, answerLists, classified}
-use Rattle.job_build.specs.Building.{giving, building, Summary, summary, summaryOf}
+use Rattle.lines.specs.Lines.{crossed, bits, ordered, lowestFrom, shapeAt, wallsOn, crossingsOn, wallsFrom, classified}
+use Rattle.job_build.specs.Building.{giving, building}
 use Rattle.job_run.specs.Running.{toggling, running}
 use Rattle.job_classify.specs.Classifying.{classifying}
-use Rattle.line_judging.specs.Judging.{theirLists, Opinion, right, wrongAt, opinionFrom, judgement}
+use Rattle.line_judging.specs.Judging.{opinionFrom, judgement}
 use Rattle.job_judge.specs.Judging.{judging}
-
--- ---- A sheet of n names A, B, C, .. and a formula, as bytes
-
-abbrev pub two : ℕ → List ℕ
-two n = n / 256 ∷ n % 256 ∷ []
-
-abbrev pub field : ℕ → List ℕ → List ℕ
-field tag bytes = tag ∷ (two (length bytes) ++ bytes)
-
-abbrev pub names : ℕ → ℕ → List ℕ
-names letter zero = []
-names letter (suc n) = field 2 (letter ∷ []) ++ names (suc letter) n
-
-abbrev pub codes : List ℕ → List ℕ
-codes [] = []
-codes (c ∷ cs) = two c ++ codes cs
-
-abbrev pub sheet : ℕ → Formula → List ℕ
-sheet n f = field 1 (two 1) ++ (names 65 n ++ field 3 (codes (postfix f)))
-
-abbrev pub A : Formula
-A = leaf 0
-
-abbrev pub B : Formula
-B = leaf 1
-
-abbrev pub C : Formula
-C = leaf 2
-
-abbrev pub D : Formula
-D = leaf 3
-
-abbrev pub E : Formula
-E = leaf 4
-
-abbrev pub worked : List ℕ
-worked = sheet 3 (node difference A (node union B C))
-
--- ---- What a case says; each answer list has room for 12 entries
-
-abbrev pub room : ℕ
-room = 12
-
-abbrev pub lentNumbers : List ℕ
-lentNumbers = replicate room 0
-
-abbrev pub lentPlaces : List ℤ
-lentPlaces = replicate room (pos 0)
-
-pub data Case : Type 0 where
-  -- a sheet is these bytes
-  bytes : List ℕ → List ℕ → Case
-  -- of a sheet: leaves, dwarf nodes, rounds, height
-  builds : List ℕ → Summary → Case
-  -- and its records: kind, first, second
-  lists : List ℕ → List (ℕ × ℕ × ℕ) → Case
-  -- of a sheet and toggles
-  runs : List ℕ → List ℕ → Answers → Case
-  -- of a sheet, the start row of line 0 and its crossings, by position and shape: walls by start and end, with the shape at each
-  walls : List ℕ → List ℕ → List (ℤ × ℕ) → List ((ℤ × ℕ) × (ℤ × ℕ)) → Case
-  -- of the same and another's walls on that line, by start and end: the opinion
-  judges : List ℕ → List ℕ → List (ℤ × ℕ) → List (ℤ × ℤ) → Opinion → Case
-
-abbrev pub Holds : Case → Type 0
-Holds (bytes s b) = s ≡ b
-Holds (builds s n) = part summaryOf (building (alone s) room room room) ≡ given n
-Holds (lists s rs) = part (λ t. map (λ r. (number (r .kind), r .first, r .second)) (t .records)) (building (alone s) room room room) ≡ given rs
-Holds (runs s ts a) = running (alone s) ts room room room ≡ given a
-Holds (walls s row xs ws) =
-    classifying (alone s) (lineLists row (map (λ x. 0) xs) (map (λ x. x .0) xs) (map (λ x. x .1) xs)) (answerLists lentNumbers lentPlaces lentPlaces lentNumbers lentNumbers)
-    ≡ given (map (λ w. record { line = 0; start = w .0 .0; end = w .1 .0; startShape = w .0 .1; endShape = w .1 .1 }) ws)
-Holds (judges s row xs es o) =
-    judging (alone s) (lineLists row (map (λ x. 0) xs) (map (λ x. x .0) xs) (map (λ x. x .1) xs)) (theirLists (map (λ e. 0) es) (map (λ e. e .0) es) (map (λ e. e .1) es)) ≡ given o
-
-abbrev pub All : List Case → Type 0
-All [] = Unit {0}
-All (c ∷ cs) = Holds c × All cs
-
--- A less B on one line.
-abbrev cut : List ℕ
-cut = sheet 2 (node difference A B)
-
-abbrev noMetal : List ℕ
-noMetal = 0 ∷ 0 ∷ []
-
-abbrev cutAt : List (ℤ × ℕ)
-cutAt = (pos 0, 0) ∷ (pos 40, 1) ∷ (pos 60, 1) ∷ (pos 100, 0) ∷ []
-
--- ---- The table
-
-abbrev pub table : List Case
-table =
-    -- The worked sheet, 30 bytes, and its listing.
-    bytes worked (0x01 ∷ 0x00 ∷ 0x02 ∷ 0x00 ∷ 0x01 ∷ 0x02 ∷ 0x00 ∷ 0x01 ∷ 0x41 ∷ 0x02 ∷ 0x00 ∷ 0x01 ∷ 0x42 ∷ 0x02 ∷ 0x00 ∷ 0x01 ∷ 0x43 ∷ 0x03 ∷ 0x00 ∷ 0x0A ∷ 0x00 ∷ 0x00 ∷ 0x00 ∷ 0x01 ∷ 0x00 ∷ 0x02 ∷ 0xFF ∷ 0xF0 ∷ 0xFF ∷ 0xF2 ∷ [])
-    ∷ builds worked (summary 3 6 2 2)
-    ∷ lists worked ((0, 0, 65535) ∷ (0, 1, 65535) ∷ (0, 2, 65535) ∷ (1, 1, 2) ∷ (7, 0, 65535) ∷ (13, 4, 3) ∷ [])
-    -- Toggles A, B, C, A on it.
-    ∷ runs worked (0 ∷ 1 ∷ 2 ∷ 0 ∷ []) (answers (1 ∷ 0 ∷ 0 ∷ 0 ∷ []) (2 ∷ 2 ∷ 1 ∷ 2 ∷ []) (0 ∷ 1 ∷ 1 ∷ 1 ∷ 0 ∷ 0 ∷ []))
-    -- Toggles B, C: the same labels.
-    ∷ runs worked (1 ∷ 2 ∷ []) (answers (0 ∷ 0 ∷ []) (2 ∷ 1 ∷ []) (0 ∷ 1 ∷ 1 ∷ 1 ∷ 0 ∷ 0 ∷ []))
-    -- One leaf: one node, no rounds, height 0; a toggle counts 0.
-    ∷ builds (sheet 1 A) (summary 1 1 0 0)
-    ∷ runs (sheet 1 A) (0 ∷ []) (answers (1 ∷ []) (0 ∷ []) (1 ∷ []))
-    -- A exclusive A, one toggle: root 0, and by document 02 count 1.
-    ∷ runs (sheet 1 (node exclusive A A)) (0 ∷ []) (answers (0 ∷ []) (1 ∷ []) (1 ∷ 1 ∷ 0 ∷ []))
-    -- A B union C difference D intersection E exclusive: 12 nodes, 3 rounds, height 3.
-    ∷ builds (sheet 5 (node exclusive (node intersection (node difference (node union A B) C) D) E)) (summary 5 12 3 3)
-    -- A B union C D union intersection: 7 nodes, 2 rounds, height 2.
-    ∷ builds (sheet 4 (node intersection (node union A B) (node union C D))) (summary 4 7 2 2)
-    -- A less B, A at 0 and 100, B at 40 and 60: walls 0 to 40, 60 to 100.
-    ∷ walls (sheet 2 (node difference A B)) (0 ∷ 0 ∷ []) ((pos 0, 0) ∷ (pos 40, 1) ∷ (pos 60, 1) ∷ (pos 100, 0) ∷ []) (((pos 0, 0), (pos 40, 1)) ∷ ((pos 60, 1), (pos 100, 0)) ∷ [])
-    -- A union B, A at 0 and 50, B at 50 and 90: one wall, 0 to 90. Their intersection: none.
-    ∷ walls (sheet 2 (node union A B)) (0 ∷ 0 ∷ []) ((pos 0, 0) ∷ (pos 50, 0) ∷ (pos 50, 1) ∷ (pos 90, 1) ∷ []) (((pos 0, 0), (pos 90, 1)) ∷ [])
-    ∷ walls (sheet 2 (node intersection A B)) (0 ∷ 0 ∷ []) ((pos 0, 0) ∷ (pos 50, 0) ∷ (pos 50, 1) ∷ (pos 90, 1) ∷ []) []
-    -- A at 10 and 10: none. No crossings: none.
-    ∷ walls (sheet 1 A) (0 ∷ []) ((pos 10, 0) ∷ (pos 10, 0) ∷ []) []
-    ∷ walls (sheet 1 A) (0 ∷ []) [] []
-    -- Document 02: A crossed at 5 only, from outside, is one wall from 5 to 2147483647; from inside, one that ends at 5.
-    ∷ walls (sheet 1 A) (0 ∷ []) ((pos 5, 0) ∷ []) (((pos 5, 0), (pos 2147483647, 65535)) ∷ [])
-    ∷ walls (sheet 1 A) (1 ∷ []) ((pos 5, 0) ∷ []) (((negsuc 2147483647, 65535), (pos 5, 0)) ∷ [])
-    -- Document 02: of A less B as above, walls 0 to 40 and 60 to 100, another's list. The same, and in parts that touch: right.
-    ∷ judges cut noMetal cutAt ((pos 0, pos 40) ∷ (pos 60, pos 100) ∷ []) right
-    ∷ judges cut noMetal cutAt ((pos 0, pos 10) ∷ (pos 10, pos 40) ∷ (pos 60, pos 100) ∷ []) right
-    -- It lacks entries: its length. An entry of no length, one that overlaps the one before it, one too many: that entry.
-    ∷ judges cut noMetal cutAt ((pos 0, pos 40) ∷ []) (wrongAt 1)
-    ∷ judges cut noMetal cutAt ((pos 0, pos 40) ∷ (pos 60, pos 60) ∷ (pos 60, pos 100) ∷ []) (wrongAt 1)
-    ∷ judges cut noMetal cutAt ((pos 0, pos 40) ∷ (pos 30, pos 100) ∷ []) (wrongAt 1)
-    ∷ judges cut noMetal cutAt ((pos 0, pos 40) ∷ (pos 60, pos 100) ∷ (pos 200, pos 210) ∷ []) (wrongAt 2)
-    ∷ []
+use Rattle.demands.specs.Table.{All, table}
 
 pub table-holds : All table
 unfolding building giving running toggling classifying judging judgement opinionFrom accepted reading own fields fieldAt header nameAt formulaAt formulaOf formulaIn allCodes codesOf taken same allGood bytesAt pastAt lengthAt times classified lines.judged bits ordered crossed lowestFrom shapeAt wallsOn crossingsOn wallsFrom

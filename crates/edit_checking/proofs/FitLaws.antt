@@ -10,7 +10,8 @@ use lib.ListN.{length, getD, take, drop, length-take, drop-of-length-le, List·g
 use lib.Seq.{drop-cons, getD-take}
 use borrow.Author.Tests.{le-leb, lt-leb}
 use Rattle.formula.specs.Formula.{firstOperation}
-use Rattle.edit_checking.specs.Fits.{isOperation, operatesAt, inTurn, fits, firstUnfit}
+use Rattle.formula.specs.Codes.{isOperation}
+use Rattle.edit_checking.specs.Fits.{operatesAt, inTurn, fits, firstUnfit}
 use Rattle.edit_checking.specs.Steps.{Equal}
 
 -- a position past the codes, and one among them

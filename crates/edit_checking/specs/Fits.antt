@@ -4,10 +4,7 @@ use mathlib.Core.Bool.{Bool, true, false, _&&_}
 use mathlib.Core.List.{List, [], _∷_}
 use lib.Dec.{leb}
 use lib.ListN.{getD}
-use Rattle.formula.specs.Formula.{exclusive, firstOperation, code}
-
-abbrev pub isOperation : ℕ → Bool
-isOperation c = leb firstOperation c && leb c (code exclusive)
+use Rattle.formula.specs.Codes.{isOperation}
 
 -- An operation stands at position p of these codes.
 abbrev pub operatesAt : List ℕ → ℕ → Bool

@@ -1,7 +1,8 @@
 // The judgement of edits, one by one: the first that does not fit.
 ghost use mathlib.Core.Path.{_≡_};
 ghost use lib.ListN.{take};
-ghost use Rattle.edit_checking.specs.Fits.{isOperation, operatesAt, inTurn, fits as fitsIn, firstUnfit};
+ghost use Rattle.formula.specs.Codes.{isOperation};
+ghost use Rattle.edit_checking.specs.Fits.{operatesAt, inTurn, fits as fitsIn, firstUnfit};
 ghost use Rattle.edit_checking.specs.Steps.{Equal, Coded};
 
 // A position as an index.

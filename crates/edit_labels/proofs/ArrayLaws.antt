@@ -11,15 +11,16 @@ use lib.Dec.{eqb, ltb}
 use borrow.Author.Tests.{ltb-true, ltb-false}
 use lib.ListN.{length, getD, set, take, drop, length-set}
 use lib.Seq.{take-set-lt, getD-take, getD-set-same, getD-set-other, map-set-same}
-use Rattle.formula.specs.Formula.{index, opAt, Formula}
+use Rattle.formula.specs.Formula.{opAt, Formula}
 use Rattle.formula.specs.States.{outside}
+use Rattle.formula.proofs.Codes.{index-opAt}
 use Rattle.contraction.specs.Records.{number, Rec, isLeaf, over, listed}
 use Rattle.contraction.specs.Rounds.{dwarf}
 use Rattle.contraction.specs.Steps.{kindAt, recAt, recs}
 use Rattle.contraction.proofs.Steps.{kindAt-leaf, kindAt-E, kindAt-left, kindAt-right, kindAt-S, kindAt-C, recs-more}
 use Rattle.edits.specs.Edits.{only, edited}
-use Rattle.edits.specs.Changes.{rekind, withOp}
-use Rattle.edits.proofs.Edits.{noRec, edited-dwarf, edited-nodes, node-inside, children-reop}
+use Rattle.edits.specs.Changes.{noRec, rekind, withOp}
+use Rattle.edits.proofs.Edits.{edited-dwarf, edited-nodes, node-inside, children-reop}
 use Rattle.edits.proofs.Codes.{over-remade}
 use Rattle.edits.proofs.Spots.{leaves-remade}
 use Rattle.labels.specs.Labels.{label, isOf}
@@ -36,13 +37,6 @@ use Rattle.edit_labels.specs.Edited.{Rekinded, NodeOf, Editable, EditDon
 use Rattle.edit_labels.proofs.EditedLaws.{edit-on, edit-stop}
 
 -- ---- the kind
-index-opAt : (n : ℕ) → n < 4 → index (opAt n) ≡ n
-index-opAt zero h = refl
-index-opAt (suc zero) h = refl
-index-opAt (suc (suc zero)) h = refl
-index-opAt (suc (suc (suc zero))) h = refl
-index-opAt (suc (suc (suc (suc n)))) h = absurd (omega arith)
-
 module _ {kind o : ℕ} where
   pub kind-leaf : kind ≡ 0 → Rekinded kind o 0
   kind-leaf e = record { so = rw (kindAt-leaf kind e) }

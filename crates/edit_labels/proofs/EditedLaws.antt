@@ -13,13 +13,14 @@ use Rattle.formula.specs.Formula.{Op, Formula}
 use Rattle.formula.specs.States.{State}
 use Rattle.contraction.specs.Records.{Kind, leaf as leafKind, E, R, S, C, Rec, isLeaf, children, listed, over}
 use Rattle.contraction.specs.Rounds.{dwarf}
+use Rattle.contraction.specs.Terms.{Each, ChildrenBelow}
 use Rattle.edits.specs.Edits.{edited, nodeAt}
-use Rattle.edits.specs.Changes.{operations, withOp}
+use Rattle.edits.specs.Changes.{noRec, operations, withOp}
 use Rattle.edits.specs.Spots.{works, operates}
-use Rattle.contraction.proofs.Worked.{Each, Good}
-use Rattle.contraction.proofs.Order.{ChildrenBelow, children-smaller}
+use Rattle.contraction.proofs.Worked.{Good}
+use Rattle.contraction.proofs.Order.{children-smaller}
 use Rattle.edits.proofs.Again.{operates-reop}
-use Rattle.edits.proofs.Edits.{noRec, edited-dwarf, edited-nodes, node-operates}
+use Rattle.edits.proofs.Edits.{edited-dwarf, edited-nodes, node-operates}
 use Rattle.labels.specs.Labels.{label, labels}
 use Rattle.labels.proofs.Rules.{label-local, label-inner, listed-here}
 use Rattle.labels.proofs.Links.{cases}
@@ -240,6 +241,12 @@ rises all e (r ∷ rs) n h = (
 pub edit-above : (rs : List Rec) (e : ℕ) (ls : List ℕ) (n : ℕ) → (getD (edit rs e ls .labels) n 0 ≡ getD ls n 0 → ⊥) → Above rs e n
 edit-above rs e ls n h =
     sweep-above (Above rs e) e own ls rs 0 ls (rises rs e rs 0 (λ k l. ap (λ i. getD rs i noRec) (zero-add k))) (λ i z. absurd (z refl)) n h
+
+-- So the labels of two builds, of a sheet and of the sheet as edited, with the same shapes inside, differ only at the edit's node and above it.
+pub builds-differ-above : (f : Formula) (p : ℕ) (o : Op) (state : State) → operations p 0 f ≡ 1 → (n : ℕ)
+    → (getD (labels state (dwarf (edited p o f))) n 0 ≡ getD (labels state (dwarf f)) n 0 → ⊥) → Above (dwarf (edited p o f)) (nodeAt f p) n
+builds-differ-above f p o state h n differs =
+    edit-above (dwarf (edited p o f)) (nodeAt f p) (labels state (dwarf f)) n (λ same. differs (ap (λ ls. getD ls n 0) (sym (edit-labels f p o state h)) ∙ same))
 
 -- ---- An edit keeps the number of labels
 

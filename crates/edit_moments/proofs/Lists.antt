@@ -1,5 +1,5 @@
 -- The edits that three lists bring, one by one; what an edit leaves of the others; the formula as edited by a moment.
-use Prim.Native.Nat.{ℕ, zero, suc, _-_, _*_, _<_, _≤_}
+use Prim.Native.Nat.{ℕ, zero, suc, _*_, _<_, _≤_}
 use native.Mathlib.Omega.{arith}
 use mathlib.Core.Path.{_≡_, refl, ap, _∙_}
 use mathlib.Core.Bool.{Bool, true, false}
@@ -7,7 +7,8 @@ use mathlib.Core.List.{List, [], _∷_}
 use lib.Dec.{leb}
 use lib.ListN.{length, getD, drop, drop-of-length-le}
 use borrow.Author.Tests.{le-leb, lt-leb, leb-true, leb-false}
-use Rattle.formula.specs.Formula.{opAt, firstOperation, Formula, leaf, node, leaves}
+use Rattle.formula.specs.Formula.{Formula, leaf, node, leaves}
+use Rattle.formula.specs.Codes.{opOf}
 use Rattle.edits.specs.Edits.{size}
 use Rattle.edits.specs.Changes.{operations}
 use Rattle.edits.proofs.Codes.{above-none}
@@ -18,7 +19,7 @@ use Rattle.edit_moments.specs.Steps.{Desk, waiting}
 
 -- ---- edit k of three lists
 abbrev pub editAt : List ℕ → List ℕ → List ℕ → ℕ → Edit
-editAt ms ps cs k = record { moment = getD ms k 0; position = getD ps k 0; operation = opAt (getD cs k 0 - firstOperation) }
+editAt ms ps cs k = record { moment = getD ms k 0; position = getD ps k 0; operation = opOf (getD cs k 0) }
 
 edits-here : (ms ps cs : List ℕ) (k : ℕ) → length ps ≡ length ms → length cs ≡ length ms → k < length ms
     → drop k (editsOf ms ps cs) ≡ editAt ms ps cs k ∷ drop (suc k) (editsOf ms ps cs)

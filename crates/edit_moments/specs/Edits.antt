@@ -1,10 +1,11 @@
 -- Edits in a toggle run, document 02, K13: what three lists bring, the formula as edited by a moment, and a count for each edit.
-use Prim.Native.Nat.{ℕ, _-_}
+use Prim.Native.Nat.{ℕ}
 use mathlib.Core.Bool.{true, false}
 use mathlib.Core.List.{List, [], _∷_}
 use lib.Dec.{leb}
 use lib.ListN.{take}
-use Rattle.formula.specs.Formula.{Op, opAt, firstOperation, Formula}
+use Rattle.formula.specs.Formula.{Op, Formula}
+use Rattle.formula.specs.Codes.{opOf}
 use Rattle.formula.specs.States.{toggledBy}
 use Rattle.contraction.specs.Rounds.{dwarf}
 use Rattle.labels.specs.Labels.{labels}
@@ -22,7 +23,7 @@ abbrev pub editsOf : List ℕ → List ℕ → List ℕ → List Edit
 editsOf [] ps cs = []
 editsOf (m ∷ ms) [] cs = []
 editsOf (m ∷ ms) (p ∷ ps) [] = []
-editsOf (m ∷ ms) (p ∷ ps) (c ∷ cs) = record { moment = m; position = p; operation = opAt (c - firstOperation) } ∷ editsOf ms ps cs
+editsOf (m ∷ ms) (p ∷ ps) (c ∷ cs) = record { moment = m; position = p; operation = opOf c } ∷ editsOf ms ps cs
 
 -- The formula with an edit more.
 abbrev pub after : Edit → Formula → Formula

@@ -14,14 +14,14 @@ use Rattle.formula.specs.Formula.{Formula, firstOperation, postfix, leaves as l
 use Rattle.contraction.specs.Records.{Kind, leaf as leafKind, E, R, S, C, number, Rec, isLeaf, below, listed, over}
 use Rattle.contraction.specs.Rounds.{dwarf, leafRecs, enough, planted}
 use Rattle.edits.specs.Edits.{nodeAt}
-use Rattle.edits.specs.Changes.{operations}
+use Rattle.edits.specs.Changes.{noRec, operations}
 use Rattle.edits.specs.Spots.{works, spot, operates}
 use Rattle.contraction.proofs.Worked.{Good}
 use Rattle.contraction.proofs.Steps.{kindAt-number}
 use Rattle.contraction.proofs.Rounds.{allMade, dwarf-all, length-leafRecs}
 use Rattle.edits.proofs.Spots.{Placed}
 use Rattle.edits.proofs.Single.{dwarf-standing, count}
-use Rattle.edits.proofs.Edits.{noRec, node-placed, node-none, none-stand}
+use Rattle.edits.proofs.Edits.{node-placed, node-none, none-stand}
 use Rattle.edits.proofs.Codes.{operation-code}
 use Rattle.labels.specs.Arrays.{Holds}
 use Rattle.contraction.specs.Steps.{kindAt, recAt}

@@ -1,5 +1,5 @@
 -- A run with edits from its tables on, and what it leaves in the lent lists.
-use Prim.Native.Nat.{ℕ, suc, _-_, _<_, _≤_}
+use Prim.Native.Nat.{ℕ, suc, _<_, _≤_}
 use native.Mathlib.Nat.{zero-add}
 use native.Mathlib.Omega.{arith}
 use mathlib.Core.Path.{_≡_, refl, sym, ap, _∙_}
@@ -7,7 +7,8 @@ use mathlib.Core.List.{List, [], _∷_, _++_}
 use lib.ListN.{length, getD, drop}
 use lib.Seq.{sets, sets-eq}
 use Rattle.outcome.specs.Lent.{filled}
-use Rattle.formula.specs.Formula.{opAt, firstOperation, Formula, Over, postfix}
+use Rattle.formula.specs.Formula.{firstOperation, Formula, Over, postfix}
+use Rattle.formula.specs.Codes.{opOf}
 use Rattle.formula.specs.States.{outside}
 use Rattle.contraction.specs.Rounds.{dwarf}
 use Rattle.labels.specs.Labels.{labels}
@@ -38,7 +39,7 @@ pub length-edits : (toggles : List ℕ) (f : Formula) (ms ps cs : List ℕ) → 
 length-edits toggles f [] ps cs = omega arith
 length-edits toggles f (m ∷ ms) [] cs = omega arith
 length-edits toggles f (m ∷ ms) (p ∷ ps) [] = omega arith
-length-edits toggles f (m ∷ ms) (p ∷ ps) (c ∷ cs) = omega (arith, length-edits toggles (after (record { moment = m; position = p; operation = opAt (c - firstOperation) }) f) ms ps cs)
+length-edits toggles f (m ∷ ms) (p ∷ ps) (c ∷ cs) = omega (arith, length-edits toggles (after (record { moment = m; position = p; operation = opOf c }) f) ms ps cs)
 
 sets-filled : (xs old : List ℕ) → length xs ≤ length old → sets old 0 xs ≡ filled xs old
 sets-filled xs old h = sets-eq xs old 0 (omega arith) ∙ ap (λ n. xs ++ drop n old) (zero-add (length xs))

@@ -10,12 +10,12 @@ use Rattle.formula.specs.Formula.{Op, Formula, leaf, node, leaves}
 use Rattle.contraction.specs.Records.{Kind, leaf as leafKind, E, R, S, C, Rec}
 use Rattle.contraction.specs.Rounds.{dwarf, planted, enough}
 use Rattle.edits.specs.Edits.{size, remade, only, edited, nodeAt}
-use Rattle.edits.specs.Changes.{operations, rekind, reop}
+use Rattle.edits.specs.Changes.{noRec, operations, rekind, reop}
 use Rattle.edits.specs.Spots.{own, Ups, LeafSpots, works, operates, upsOf, spots}
 use Rattle.contraction.proofs.Rounds.{allMade}
 use Rattle.edits.proofs.Spots.{Spots, fixed, length-fixed, all-re, leaves-remade, Placed, start, enough-same, sib, dwarf-remade}
 use Rattle.edits.proofs.Standing.{spots-placed}
-use Rattle.edits.proofs.Edits.{noRec, node-placed, node-none}
+use Rattle.edits.proofs.Edits.{node-placed, node-none}
 use Rattle.edits.proofs.Codes.{size-remade, one-or-none}
 
 -- it is E or R as before

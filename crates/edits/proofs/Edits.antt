@@ -13,7 +13,7 @@ use Rattle.contraction.specs.Records.{left, right, Kind, leaf as leafKind, E, R
 use Rattle.contraction.specs.Rounds.{dwarf, roundsOf}
 use Rattle.contraction.specs.Height.{worked, longest, path, height, last}
 use Rattle.edits.specs.Edits.{size, remade, only, edited, apart, nodeAt}
-use Rattle.edits.specs.Changes.{operations, rekind, reop, withOp}
+use Rattle.edits.specs.Changes.{noRec, operations, rekind, reop, withOp}
 use Rattle.edits.specs.Spots.{upsOf, spots, works, operates}
 use Rattle.edits.proofs.Spots.{fixed, length-fixed, Placed, dwarf-remade, rounds-remade}
 use Rattle.edits.proofs.Single.{count, standing, dwarf-standing}
@@ -56,10 +56,6 @@ pub children-reop : (h : Op → Op) (r : Rec) → children (reop h r) ≡ childr
 children-reop h r = below-rekind h (r .kind) (r .first) (r .second)
 
 -- ---- the node of a position
--- a record where there is none
-abbrev pub noRec : Rec
-noRec = leafRec 0
-
 reop-kind : (h : Op → Op) (r : Rec) → rekind h (r .kind) ≡ r .kind → reop h r ≡ r
 reop-kind h r e = rw e
 

@@ -12,11 +12,11 @@ use Rattle.formula.specs.Formula.{Op, Formula, leaf, node, leaves}
 use Rattle.contraction.specs.Records.{left as left-side, right as right-side, Rec, E-rec, R-rec, C-rec}
 use Rattle.contraction.specs.Rounds.{Work, tip, one, two, tipOf, rakeOne, rakeTwo, rakes, leftOne, leftTwo, raked}
 use Rattle.contraction.specs.Rounds.{compresses, compressed, roundMakes, roundLeaves, planted, leafRecs, enough, dwarf}
+use Rattle.contraction.specs.Terms.{Each}
 use Rattle.edits.specs.Edits.{size}
 use Rattle.edits.specs.Changes.{operations}
 use Rattle.edits.specs.Spots.{Ups, LeafSpots, operates}
 use Rattle.contraction.proofs.Rounds.{allMade, remains, dwarf-all, length-leafRecs, root}
-use Rattle.contraction.proofs.Worked.{Each}
 use Rattle.edits.proofs.Spots.{Spots, left, right, at, Sib, Here, here, rake-at, compress-at, round-sib, planted-at, planted-sib, Placed}
 
 abbrev pub count : Bool → ℕ

@@ -11,11 +11,12 @@ use Rattle.formula.specs.Formula.{Op, Formula, leaf, node, leaves}
 use Rattle.contraction.specs.Records.{Rec, C-rec}
 use Rattle.contraction.specs.Rounds.{Work, tip, one, two, nodes, tipOf, rakeOne, rakeTwo, rakes, leftOne, leftTwo, raked}
 use Rattle.contraction.specs.Rounds.{compresses, compressed, roundMakes, roundLeaves, rounds, planted, leafRecs, enough, dwarf, roundsOf}
+use Rattle.contraction.specs.Terms.{Each}
 use Rattle.edits.specs.Edits.{remade}
 use Rattle.edits.specs.Changes.{reop}
 use Rattle.edits.specs.Spots.{own, Ups, LeafSpots, spot}
 use Rattle.contraction.proofs.Rounds.{allMade, dwarf-all, length-leafRecs}
-use Rattle.contraction.proofs.Worked.{Each, Good, good-left, good-right}
+use Rattle.contraction.proofs.Worked.{Good, good-left, good-right}
 
 module _ (ups es : List ℕ) where
   abbrev pub Spots : ℕ → List Rec → Type 0

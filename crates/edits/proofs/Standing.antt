@@ -9,10 +9,11 @@ use Rattle.formula.specs.Formula.{Formula, leaf, node, leaves}
 use Rattle.contraction.specs.Records.{Rec}
 use Rattle.contraction.specs.Rounds.{planted, leafRecs, enough}
 use Rattle.contraction.specs.Height.{worked}
+use Rattle.contraction.specs.Terms.{Each}
 use Rattle.edits.specs.Edits.{size}
 use Rattle.edits.specs.Spots.{own, Ups, LeafSpots, spot, upsOf, leafSpots, spots}
 use Rattle.contraction.proofs.Rounds.{allMade, made-all, dwarf-all, length-leafRecs}
-use Rattle.contraction.proofs.Worked.{Each, Steady, keeps, worked-good}
+use Rattle.contraction.proofs.Worked.{Steady, keeps, worked-good}
 use Rattle.contraction.proofs.Order.{Kinds, dwarf-each}
 use Rattle.contraction.proofs.Leaves.{NoLeaf, made-none}
 use Rattle.edits.proofs.Spots.{Placed}

@@ -3,13 +3,17 @@ use Prim.Native.Nat.{ℕ, _+_}
 use mathlib.Core.Bool.{cond}
 use lib.Dec.{eqb}
 use Rattle.formula.specs.Formula.{Op, Formula, leaf, node}
-use Rattle.contraction.specs.Records.{Kind, leaf as leafKind, E, R, S, C, Rec}
+use Rattle.contraction.specs.Records.{Kind, leaf as leafKind, E, R, S, C, Rec, leafRec}
 use Rattle.edits.specs.Edits.{size}
 
 -- How many operations stand at position p: 1 or none.
 abbrev pub operations : ℕ → ℕ → Formula → ℕ
 operations p n (leaf s) = 0
 operations p n (node o l r) = cond (eqb p (n + (size l + size r))) 1 0 + (operations p n l + operations p (n + size l) r)
+
+-- A record where there is none.
+abbrev pub noRec : Rec
+noRec = leafRec 0
 
 -- The kind of the same record over another operation.
 abbrev pub rekind : (Op → Op) → Kind → Kind

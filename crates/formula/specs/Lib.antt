@@ -1,3 +1,4 @@
 pub mod Formula
+pub mod Codes
 pub mod States
 pub mod Flips

@@ -18,18 +18,15 @@ use Rattle.job_run.specs.Running.{toggling, running}
 use Rattle.job_run.specs.Ran.{Ran}
 use Rattle.job_run.specs.declared.RunAnswer.{RunAnswer}
 use Rattle.job_run.specs.declared.RunAnswer.the-variants as answer
-use Rattle.job_run.proofs.Settled.{run-unique, run-refusal, run-refuses, run-unfits}
+use Rattle.job_run.proofs.Settled.{run-unique, run-refusal, run-refuses, run-unfit, run-unfits}
 use Rattle.order_mixing.specs.Order.{mixes}
 use Rattle.job_both.specs.Sharing.{sharing, serving}
 use Rattle.job_both.specs.Shared.{Lists, lists, Served, Shared}
+use Rattle.job_both.specs.Alone.{listAlone}
 use Rattle.job_both.specs.declared.BothAnswer.{BothAnswer}
 
 pub lists-same : (a b : Lists) → a .roots ≡ b .roots → a .counts ≡ b .counts → a .labels ≡ b .labels → a ≡ b
 lists-same a b p q r = ap₂ (λ x y. lists x y (a .labels)) p q ∙ ap (lists (b .roots) (b .counts)) r
-
--- What a foundry's list alone gets: the outcome of a toggle run.
-abbrev pub listAlone : Sheets → List ℕ → Lists → Outcome Answers
-listAlone c toggles lent = running c toggles (length (lent .roots)) (length (lent .counts)) (length (lent .labels))
 
 -- a run's answer and lists are settled by its outcome
 ran-same : (o : Outcome Answers) (lent : Lists) (r q : RunAnswer) (after other : Lists)
@@ -130,11 +127,25 @@ module _ (c : Sheets) (order first second : List ℕ) (lent₁ lent₂ : Lists) 
 
 -- ---- A foundry that is refused keeps its lists; no refusal has number 0
 
-pub served-refusal : (o : Outcome Sheet) (toggles : List ℕ) (lent : Lists) (number place : ℕ) (r : RunAnswer) (after : Lists) → Served o toggles lent r after → r ≡ answer.Refused number place
-    → (serving o toggles (length (lent .roots)) (length (lent .counts)) (length (lent .labels)) ≡ refused number place) × (after ≡ lent)
-served-refusal o toggles lent number place r after s is =
-    let u = run-refusal _ (lent .roots) (lent .counts) (lent .labels) number place r (after .roots) (after .counts) (after .labels) (s .ran) is in
-    (u .0, lists-same after lent (u .1) (u .2) (u .3))
+module _ (o : Outcome Sheet) (toggles : List ℕ) (lent : Lists) (number place : ℕ) (r : RunAnswer) (after : Lists) (s : Served o toggles lent r after) where
+  pub served-refusal : r ≡ answer.Refused number place
+      → (serving o toggles (length (lent .roots)) (length (lent .counts)) (length (lent .labels)) ≡ refused number place) × (after ≡ lent)
+  served-refusal is =
+      let u = run-refusal _ (lent .roots) (lent .counts) (lent .labels) number place r (after .roots) (after .counts) (after .labels) (s .ran) is in
+      (u .0, lists-same after lent (u .1) (u .2) (u .3))
+
+  pub served-refuses : serving o toggles (length (lent .roots)) (length (lent .counts)) (length (lent .labels)) ≡ refused number place → r ≡ answer.Refused number place
+  served-refuses = run-refuses _ (lent .roots) (lent .counts) (lent .labels) number place r (after .roots) (after .counts) (after .labels) (s .ran)
+
+  -- and of the fittings sheet
+  pub served-unfit : r ≡ answer.Unfit number place
+      → (serving o toggles (length (lent .roots)) (length (lent .counts)) (length (lent .labels)) ≡ unfit number place) × (after ≡ lent)
+  served-unfit is =
+      let u = run-unfit _ (lent .roots) (lent .counts) (lent .labels) number place r (after .roots) (after .counts) (after .labels) (s .ran) is in
+      (u .0, lists-same after lent (u .1) (u .2) (u .3))
+
+  pub served-unfits : serving o toggles (length (lent .roots)) (length (lent .counts)) (length (lent .labels)) ≡ unfit number place → r ≡ answer.Unfit number place
+  served-unfits = run-unfits _ (lent .roots) (lent .counts) (lent .labels) number place r (after .roots) (after .counts) (after .labels) (s .ran)
 
 sharing-numbered : (c : Sheets) (order first second : List ℕ) → Numbered (sharing c order first second)
 unfolding sharing

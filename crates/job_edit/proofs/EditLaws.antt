@@ -25,7 +25,8 @@ use Rattle.accepting.specs.declared.Prepared.the-variants as prepared
 use Rattle.job_run.specs.declared.RunAnswer.{RunAnswer}
 use Rattle.job_run.specs.declared.RunAnswer.the-variants as run
 use Rattle.edits.proofs.Edits.{edited-nodes}
-use Rattle.edit_checking.specs.Fits.{isOperation, operatesAt, inTurn, fits, firstUnfit}
+use Rattle.formula.specs.Codes.{isOperation}
+use Rattle.edit_checking.specs.Fits.{operatesAt, inTurn, fits, firstUnfit}
 use Rattle.edit_checking.specs.Steps.{Coded}
 use Rattle.edit_checking.proofs.FitLaws.{unfit-most}
 use Rattle.edit_places.specs.Places.{Built}

@@ -11,7 +11,7 @@ use lib.Dec.{ltb, eqb}
 use borrow.Author.Tests.{le-leb, lt-ltb, ltb-true, eq-eqb, ne-eqb, eqb-true, eqb-false}
 use Rattle.outcome.specs.Outcome.{given, refused, _>>_, _>>=_, ofFittings}
 use Rattle.outcome.proofs.Questions.{need-given, then-given, bind-given, given-same, fittings-given}
-use Rattle.formula.specs.Formula.{firstOperation, Formula, postfix}
+use Rattle.formula.specs.Formula.{firstOperation, Formula, postfix, Over}
 use Rattle.sheet.specs.Sheet.{Sheets, alone, beside, ownSheet, Sheet, Setting, Field, nameField, formulaField, endField, twoAt, lengthAt, pastAt, bytesAt, between, codesOf, codesIn, formulaTag, header, nameAt, formulaAt, fieldAt, onward, fields, own, fittingNames, reading}
 use Rattle.sheet.specs.Guaranteed.{Own, GoodNames}
 use Rattle.sheet.proofs.CodesFirst.{codesIn-formula, length-codesIn}
@@ -21,6 +21,7 @@ use Rattle.sheet.proofs.Guaranteed.{own-guaranteed, fitted, guaranteed}
 use Rattle.sheet_laying.specs.Bytes.{codeBytes}
 use Rattle.sheet_laying.proofs.Putting.{length-codeBytes}
 use Rattle.job_move.specs.Moving.{other, moved}
+use Rattle.job_move.specs.Journey.{movedIn, inEdition, Bytes}
 use Rattle.job_move.proofs.Giving.{codes-long}
 
 -- ---- two bytes a code, there and back
@@ -32,9 +33,9 @@ codes-bytes (c ∷ cs) = let e : c / 256 * 256 + c % 256 ≡ c = omega arith in 
 
 -- ---- two sheets of one length that agree from offset 5 up to m
 
-record Agree (s t : List ℕ) (m : ℕ) : Type 0 where
-  long : length t ≡ length s
-  low : (i : ℕ) → 5 ≤ i → i < m → getD t i 0 ≡ getD s i 0
+pub record Agree (s t : List ℕ) (m : ℕ) : Type 0 where
+  pub long : length t ≡ length s
+  pub low : (i : ℕ) → 5 ≤ i → i < m → getD t i 0 ≡ getD s i 0
 
 module _ (s t : List ℕ) (m : ℕ) (same : Agree s t m) (short : m ≤ length s) where
   part-agree : (a n : ℕ) → 5 ≤ a → a + n ≤ m → take n (drop a t) ≡ take n (drop a s)
@@ -56,7 +57,7 @@ module _ (s t : List ℕ) (m : ℕ) (same : Agree s t m) (short : m ≤ length s
         let b : getD t (at + 1 + 1) 0 ≡ getD s (at + 1 + 1) 0 = same .low (at + 1 + 1) (omega arith) (omega arith) in
         rw (a, b)
 
-    past-agree : pastAt t at ≡ pastAt s at
+    pub past-agree : pastAt t at ≡ pastAt s at
     unfolding pastAt
     past-agree = rw len-agree
 
@@ -159,28 +160,29 @@ field-past w (suc k) s at ns r h =
 
 -- ---- a sheet t that reads as s does but for the formula's field, which stands at m in edition `to`
 
-abbrev pub inEdition : ℕ → Sheet → Sheet
-inEdition to r = record { edition = to; names = r .names; formula = r .formula; first = r .first; past = r .past }
+pub record Like (s t : List ℕ) (m to : ℕ) (f : Formula) : Type 0 where
+  pub agree : Agree s t m
+  pub inside : m ≤ length s
+  pub tag : getD t m 0 ≡ formulaTag to
+  pub high : 1 ≤ to
+  pub len : lengthAt t m ≡ lengthAt s m
+  pub codes-are : codesOf (bytesAt t m) ≡ codesIn to f
 
-record Like (s t : List ℕ) (m to : ℕ) (f : Formula) : Type 0 where
-  agree : Agree s t m
-  inside : m ≤ length s
-  tag : getD t m 0 ≡ formulaTag to
-  high : 1 ≤ to
-  len : lengthAt t m ≡ lengthAt s m
-  codes-are : codesOf (bytesAt t m) ≡ codesIn to f
+-- what is read of it: the same names, and a formula f over them in the same place
+abbrev pub readAs : ℕ → Formula → Sheet → Sheet
+readAs to f r = record { edition = to; names = r .names; formula = f; first = r .first; past = r .past }
 
-module _ (w : Setting) (s t : List ℕ) (to m : ℕ) (r : Sheet) (first : r .first ≡ m + 3) (like : Like s t m to (r .formula)) (g : Own (w .fittings) s r) where
+module _ (w : Setting) (s t : List ℕ) (to m : ℕ) (r : Sheet) (first : r .first ≡ m + 3) (f′ : Formula) (over′ : Over (length (r .names)) f′) (like : Like s t m to f′) (g : Own (w .fittings) s r) where
   abbrev w′ : Setting
   w′ = record { fittings = w .fittings; edition = to }
 
   -- the formula's field of t, from that of s
-  formula-moves : (ns : List (List ℕ)) (v : Field) → IsFormula w s m ns v → r .names ≡ w .fittings ++ ns → fieldAt w′ t m ns false ≡ given (formulaField (r .formula) (m + 3) (pastAt s m))
+  formula-moves : (ns : List (List ℕ)) (v : Field) → IsFormula w s m ns v → r .names ≡ w .fittings ++ ns → fieldAt w′ t m ns false ≡ given (formulaField f′ (m + 3) (pastAt s m))
   unfolding fieldAt formulaAt pastAt
   formula-moves ns v i names =
       let all : length (r .names) ≡ length (w .fittings) + length ns = ap length names ∙ length-append (w .fittings) ns in
       let few : length (w .fittings) + length ns ≤ firstOperation = omega (arith, all, g .good-names .few) in
-      let over = rw all at (g .over) in
+      let over = rw all at over′ in
       let unlike : formulaTag to ≡ 2 → ⊥ = λ e. omega (arith, like .high, e) in
       let past : m + 3 + lengthAt s m ≤ length s = i .inside in
       rw (
@@ -197,7 +199,7 @@ module _ (w : Setting) (s t : List ℕ) (to m : ℕ) (r : Sheet) (first : r .fir
         eq-eqb (lengthAt s m % 2) 0 (i .even),
         le-leb (m + 3 + lengthAt s m) (length s) past,
         like .codes-are,
-        codesIn-formula to (length (w .fittings) + length ns) few m (m + 3) (r .formula) over,
+        codesIn-formula to (length (w .fittings) + length ns) few m (m + 3) f′ over,
       )
 
   end-moves : (ns : List (List ℕ)) (e : ℕ) → length s ≤ e → fieldAt w′ t e ns true ≡ given endField
@@ -214,9 +216,9 @@ module _ (w : Setting) (s t : List ℕ) (to m : ℕ) (r : Sheet) (first : r .fir
       rw (like .agree .long, lt-ltb at (length s) (n .more), eq-eqb (getD t at 0) 2 is-two) (name-agree s t m (like .agree) (like .inside) at five past w to ns ∙ n .is)
 
   move-by : (k : ℕ) (at : ℕ) (ns : List (List ℕ)) → 5 ≤ at
-      → ((e : ℕ) (ms : List (List ℕ)) → 5 ≤ e → fields w k s e ms ≡ given r → fields w′ k t e ms ≡ given (inEdition to r))
+      → ((e : ℕ) (ms : List (List ℕ)) → 5 ≤ e → fields w k s e ms ≡ given r → fields w′ k t e ms ≡ given (readAs to f′ r))
       → (v : Field) → fieldAt w s at ns false ≡ given v → onward w (fields w k s) s ns v ≡ given r
-      → (fieldAt w′ t at ns false >>= onward w′ (fields w′ k t) t ns) ≡ given (inEdition to r)
+      → (fieldAt w′ t at ns false >>= onward w′ (fields w′ k t) t ns) ≡ given (readAs to f′ r)
   move-by k at ns five ih (nameField x e) q h =
       let n = named w s at ns x e q in
       let p = named-past w s at ns x e n in
@@ -239,7 +241,7 @@ module _ (w : Setting) (s t : List ℕ) (to m : ℕ) (r : Sheet) (first : r .fir
       rw (here, moved-field, three, past, end-moves ns (r .past) (omega (arith, ze, c .0)), zn)
   move-by k at ns five ih endField q h = let z : _≡_ {A = ℕ} 0 1 = cc in absurd (omega arith)
 
-  fields-move : (k : ℕ) (at : ℕ) (ns : List (List ℕ)) → 5 ≤ at → fields w k s at ns ≡ given r → fields w′ k t at ns ≡ given (inEdition to r)
+  fields-move : (k : ℕ) (at : ℕ) (ns : List (List ℕ)) → 5 ≤ at → fields w k s at ns ≡ given r → fields w′ k t at ns ≡ given (readAs to f′ r)
   unfolding fields
   fields-move zero at ns five h = let z : _≡_ {A = ℕ} 0 1 = cc in absurd (omega arith)
   fields-move (suc k) at ns five h =
@@ -311,6 +313,10 @@ module _ (fs : List (List ℕ)) (s : List ℕ) (r : Sheet) (g : Own fs s r) wher
   moved-after : drop (r .first) (moved s r) ≡ bytes
   moved-after = ap (drop (r .first)) moved-is ∙ drop-at heads bytes (r .first) heads-long
 
+  -- the codes that stand in the moved sheet's bytes
+  pub codes-written : codesOf (drop (r .first) (moved s r)) ≡ codesIn to (r .formula)
+  codes-written = ap codesOf moved-after ∙ codes-bytes (codesIn to (r .formula))
+
   first-three : r .first ≡ m + 3
   first-three = omega (arith, eight)
 
@@ -330,10 +336,13 @@ module _ (fs : List (List ℕ)) (s : List ℕ) (r : Sheet) (g : Own fs s r) wher
   unfolding bytesAt
   moved-bytes e = rw (moved-len, ← first-three, moved-after, e, ← bytes-long) (take-all (length bytes) bytes (omega arith))
 
+  pub moved-agree : Agree s (moved s r) m
+  moved-agree = record { long = moved-long; low = λ i l h. moved-same i (omega (arith, h, eight)) (λ q. omega (arith, q, l)) (λ q. omega (arith, q, h)) }
+
   moved-like : lengthAt s m ≡ r .past - r .first → Like s (moved s r) m to (r .formula)
   moved-like e =
       record {
-        agree = record { long = moved-long; low = λ i l h. moved-same i (omega (arith, h, eight)) (λ q. omega (arith, q, l)) (λ q. omega (arith, q, h)) };
+        agree = moved-agree;
         inside = omega (arith, within);
         tag = moved-tag;
         high = omega (arith, g .most-edition);
@@ -369,27 +378,36 @@ module _ (fs : List (List ℕ)) (s : List ℕ) (r : Sheet) (g : Own fs s r) wher
 
 -- ---- there
 
-own-moves : (fs : List (List ℕ)) (s : List ℕ) (r : Sheet) → GoodNames fs → own fs s ≡ given r → own fs (moved s r) ≡ given (inEdition (other (r .edition)) r)
-unfolding own
-own-moves fs s r good h =
-    let g = own-guaranteed fs s r good h in
-    let b = bind-given (header 2 s) (λ said. fields (record { fittings = fs; edition = said }) 257 s 5 []) r h in
-    let w : Setting = record { fittings = fs; edition = b .0 } in
-    let i = header-given 2 s (b .0) (b .1) in
-    let j = i .is in
-    let two : twoAt s 3 ≡ b .0 = cc j in
-    let low : twoAt s 3 ≤ 2 = i .most in
-    let said : b .0 ≡ r .edition = omega (arith, two, low, g .said) in
-    let past = field-past w 257 s 5 [] r (b .2) in
-    let len = said-long fs s r g (r .first - 3) refl past in
-    let like = moved-like fs s r g len in
-    rw (header-moves fs s r g (b .1 ∙ ap given said))
-    (fields-move w s (moved s r) (other (r .edition)) (r .first - 3) r (first-three fs s r g) like g 257 5 [] (omega arith) (b .2))
+module _ (fs : List (List ℕ)) (s : List ℕ) (r : Sheet) (good : GoodNames fs) (h : own fs s ≡ given r) where
+  owned : Own fs s r
+  owned = own-guaranteed fs s r good h
 
--- The sheets of a call with the customer's moved.
-abbrev pub movedIn : Sheets → Sheet → Sheets
-movedIn (alone s) r = alone (moved s r)
-movedIn (beside f s) r = beside f (moved s r)
+  -- its header says the edition, and its formula's field is as long as the formula
+  reads : (said : ℕ) × (header 2 s ≡ given said) × (fields (record { fittings = fs; edition = said }) 257 s 5 [] ≡ given r)
+  unfolding own
+  reads = bind-given (header 2 s) (λ said. fields (record { fittings = fs; edition = said }) 257 s 5 []) r h
+
+  pub said-edition : header 2 s ≡ given (r .edition)
+  said-edition =
+      let i = header-given 2 s (reads .0) (reads .1) in
+      let j = i .is in
+      let two : twoAt s 3 ≡ reads .0 = cc j in
+      let low : twoAt s 3 ≤ 2 = i .most in
+      let said : reads .0 ≡ r .edition = omega (arith, two, low, owned .said) in
+      reads .1 ∙ ap given said
+
+  pub field-long : lengthAt s (r .first - 3) ≡ r .past - r .first
+  field-long = said-long fs s r owned (r .first - 3) refl (field-past (record { fittings = fs; edition = reads .0 }) 257 s 5 [] r (reads .2))
+
+  -- a sheet like it, with a header of its own
+  pub own-like : (t : List ℕ) (to : ℕ) (f : Formula) → header 2 t ≡ given to → Over (length (r .names)) f → Like s t (r .first - 3) to f → own fs t ≡ given (readAs to f r)
+  unfolding own
+  own-like t to f head over like =
+      rw head (fields-move (record { fittings = fs; edition = reads .0 }) s t to (r .first - 3) r (first-three fs s r owned) f over like owned 257 5 [] (omega arith) (reads .2))
+
+  own-moves : own fs (moved s r) ≡ given (inEdition (other (r .edition)) r)
+  own-moves =
+      own-like (moved s r) (other (r .edition)) (r .formula) (header-moves fs s r owned said-edition) (owned .over) (moved-like fs s r owned field-long)
 
 -- A moved sheet is read: the same names, the same formula at the same place, the other edition.
 pub reading-moves : (c : Sheets) (r : Sheet) → reading c ≡ given r → reading (movedIn c r) ≡ given (inEdition (other (r .edition)) r)
@@ -401,10 +419,6 @@ reading-moves (beside f s) r h =
     rw (b .1) (own-moves (b .0) s r (g .good-names) (b .2))
 
 -- ---- and back
-
--- A list of bytes.
-pub record Bytes (s : List ℕ) : Type 0 where
-  pub small : (i : ℕ) → getD s i 0 < 256
 
 bytes-codes : (p : List ℕ) → ((i : ℕ) → getD p i 0 < 256) → length p % 2 ≡ 0 → codeBytes (codesOf p) ≡ p
 unfolding codesOf codeBytes

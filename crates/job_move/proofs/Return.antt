@@ -4,16 +4,18 @@ use native.Mathlib.Omega.{arith}
 use mathlib.Core.Path.{_≡_, refl, sym, ap, _∙_}
 use mathlib.Core.Bool.{Bool, true, false, _&&_}
 use mathlib.Core.List.{List}
-use lib.ListN.{length}
-use lib.Dec.{eqb}
+use lib.ListN.{length, drop}
+use lib.Dec.{eqb, leb}
 use borrow.Author.Tests.{le-leb, eq-eqb, ne-eqb}
-use Rattle.outcome.specs.Outcome.{given, refused}
+use Rattle.outcome.specs.Outcome.{given, refused, need, _>>_}
+use Rattle.outcome.proofs.Questions.{given-same}
 use Rattle.formula.specs.Formula.{postfix}
-use Rattle.sheet.specs.Sheet.{Sheets, alone, beside, ownSheet, Sheet, codesIn, reading}
+use Rattle.sheet.specs.Sheet.{Sheets, alone, beside, ownSheet, Sheet, codesOf, codesIn, reading}
 use Rattle.sheet.proofs.Guaranteed.{guaranteed}
 use Rattle.job_move.specs.Moving.{other, moved, hasExclusive, beforeExclusive, codesOfSheet, outOfUse, moving}
+use Rattle.job_move.specs.Journey.{movedIn, inEdition, Bytes}
 use Rattle.job_move.proofs.Exclusive.{has-either}
-use Rattle.job_move.proofs.Journey.{inEdition, movedIn, Bytes, moved-long, reading-moves, bytes-back}
+use Rattle.job_move.proofs.Journey.{moved-long, codes-written, reading-moves, bytes-back}
 
 and-false : (a b : Bool) → b ≡ false → (a && b) ≡ false
 and-false true b e = e
@@ -32,6 +34,14 @@ module _ (c : Sheets) (r : Sheet) (read : reading c ≡ given r) where
   unfolding moving
   refuses long used = rw (read, used)
 
+  gave : (long : ℕ) (bytes : List ℕ) → outOfUse r ≡ false → moving c long ≡ given bytes → moved (ownSheet c) r ≡ bytes
+  unfolding moving
+  gave long bytes free is = by (leb (length (ownSheet c)) long) (rw (read, free) at is)
+    where
+      by : (b : Bool) → (need b 9 (length (ownSheet c)) >> given (moved (ownSheet c) r)) ≡ given bytes → moved (ownSheet c) r ≡ bytes
+      by true h = given-same _ _ h
+      by false h = let z : _≡_ {A = ℕ} 0 1 = cc h in absurd (omega arith)
+
   -- the sheet moved, and what it has of 0xFFF3
   abbrev r′ : Sheet
   r′ = inEdition (other (r .edition)) r
@@ -42,20 +52,26 @@ module _ (c : Sheets) (r : Sheet) (read : reading c ≡ given r) where
   long-back : length (ownSheet (movedIn c r)) ≡ length (ownSheet c)
   long-back = let g = guaranteed c r read in ap length (own-moved c r) ∙ moved-long (g .fittings) (ownSheet c) r (g .own)
 
--- No move to edition 2 writes 0xFFF3: where the move gives a sheet, its codes have none.
+-- No move to edition 2 writes 0xFFF3: where it gives bytes, the codes that stand in them from the formula's first offset to their end have none.
 pub none-written : (c : Sheets) (r : Sheet) (long : ℕ) (bytes : List ℕ) → reading c ≡ given r → r .edition ≡ 1 → moving c long ≡ given bytes
-    → hasExclusive (codesOfSheet (inEdition 2 r)) ≡ false
-none-written c r long bytes read one is = has-either 2 (r .formula) ∙ sym (has-either (r .edition) (r .formula)) ∙ by (hasExclusive (codesOfSheet r)) refl
+    → hasExclusive (codesOf (drop (r .first) bytes)) ≡ false
+none-written c r long bytes read one is = by (outOfUse r) refl
   where
     two : 3 - r .edition ≡ 2
     two = omega (arith, one)
 
-    by : (b : Bool) → hasExclusive (codesOfSheet r) ≡ b → hasExclusive (codesOfSheet r) ≡ false
-    by false e = e
+    by : (b : Bool) → outOfUse r ≡ b → hasExclusive (codesOf (drop (r .first) bytes)) ≡ false
     by true e =
-        let h : refused 19 (r .first + 2 * beforeExclusive (codesOfSheet r)) ≡ given bytes = sym (refuses c r read long (rw (eq-eqb (3 - r .edition) 2 two) e)) ∙ is in
+        let h : refused 19 (r .first + 2 * beforeExclusive (codesOfSheet r)) ≡ given bytes = sym (refuses c r read long e) ∙ is in
         let z : _≡_ {A = ℕ} 0 1 = cc h in
         absurd (omega arith)
+    by false e =
+        let g = guaranteed c r read in
+        let none : hasExclusive (codesOfSheet r) ≡ false = rw (eq-eqb (3 - r .edition) 2 two) at e in
+        let written = codes-written (g .fittings) (ownSheet c) r (g .own) in
+        let wrote : moved (ownSheet c) r ≡ bytes = gave c r read long bytes e is in
+        ap (λ s. hasExclusive (codesOf (drop (r .first) s))) (sym wrote)
+        ∙ ap hasExclusive written ∙ has-either (other (r .edition)) (r .formula) ∙ sym (has-either (r .edition) (r .formula)) ∙ none
 
 -- A sheet without 0xFFF3, of either edition, moves there and back, and is the same bytes.
 pub journey : (c : Sheets) (r : Sheet) (there back : ℕ) → reading c ≡ given r → Bytes (ownSheet c) → hasExclusive (codesOfSheet r) ≡ false

@@ -12,8 +12,9 @@ use Rattle.formula.specs.Formula.{Formula}
 use Rattle.formula.specs.States.{State}
 use Rattle.contraction.specs.Records.{Rec}
 use Rattle.contraction.specs.Rounds.{dwarf}
-use Rattle.contraction.proofs.Worked.{Each, Good, Steady, worked-good, length-worked}
-use Rattle.contraction.proofs.Order.{ChildrenBelow, children-smaller}
+use Rattle.contraction.specs.Terms.{Each, ChildrenBelow}
+use Rattle.contraction.proofs.Worked.{Good, Steady, worked-good, length-worked}
+use Rattle.contraction.proofs.Order.{children-smaller}
 use Rattle.contraction.proofs.Over.{over-below}
 use Rattle.labels.specs.Labels.{label, labels}
 use Rattle.labels.proofs.Rules.{label-local}

@@ -1,21 +1,9 @@
 -- The five columns of document 01's table of R's pairs, computed from the operations.
-use Prim.Native.Nat.{ℕ}
 use mathlib.Core.Path.{_≡_, refl}
-use mathlib.Core.Bool.{Bool, true, false}
-use mathlib.Core.List.{List, [], _∷_}
-use Rattle.formula.specs.Formula.{union, intersection, difference, exclusive}
-use Rattle.contraction.specs.Records.{left, right}
-use Rattle.labels.specs.Labels.{pair, raked}
-
--- A row of the table, from the raked value v; where one column stands for both sides, both are worked out.
-abbrev row : Bool → List ℕ
-row v =
-    raked left union v ∷ raked right union v
-    ∷ raked left intersection v ∷ raked right intersection v
-    ∷ raked left difference v
-    ∷ raked right difference v
-    ∷ raked left exclusive v ∷ raked right exclusive v
-    ∷ []
+use mathlib.Core.Bool.{true, false}
+use mathlib.Core.List.{[], _∷_}
+use Rattle.labels.specs.Labels.{pair}
+use Rattle.labels.specs.Columns.{row}
 
 pub columns : (row false ≡
     pair true false ∷ pair true false

@@ -10,15 +10,16 @@ use lib.Seq.{take-all, getD-take, getD-append-add}
 use Rattle.formula.specs.Formula.{Formula, leaf, node, Over, leaves as leavesOf}
 use Rattle.contraction.specs.Records.{leaf as leafKind, number, Rec, kindsOf, firstsOf, secondsOf, isLeaf, over}
 use Rattle.contraction.specs.Rounds.{dwarf, leafRecs, enough, planted}
-use Rattle.contraction.proofs.Worked.{Each, each-append}
+use Rattle.contraction.proofs.Worked.{each-append}
 use Rattle.contraction.proofs.Rounds.{allMade, dwarf-all, length-leafRecs, root}
-use Rattle.contraction.proofs.Order.{ChildrenBelow, children-smaller}
-use Rattle.contraction.proofs.Once.{uses, at-most-one}
+use Rattle.contraction.proofs.Order.{children-smaller}
+use Rattle.contraction.proofs.Once.{at-most-one}
 use Rattle.contraction.proofs.Over.{over-below, over-refs}
 use Rattle.contraction.proofs.Leaves.{IsLeaf, NoLeaf, leafRecs-leaf, made-none}
 use Rattle.contraction.proofs.Size.{dwarf-few}
 use Rattle.labels.specs.Arrays.{Holds}
 use Rattle.contraction.specs.Steps.{entries, kindAt, recAt, recs}
+use Rattle.contraction.specs.Terms.{Each, ChildrenBelow, uses}
 use Rattle.contraction.proofs.Steps.{record-entry}
 use Rattle.labels.specs.Steps.{Shaped}
 

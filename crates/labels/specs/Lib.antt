@@ -1,3 +1,4 @@
 pub mod Labels
+pub mod Columns
 pub mod Arrays
 pub mod Steps

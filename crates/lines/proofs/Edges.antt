@@ -12,6 +12,7 @@ use Rattle.formula.specs.Formula.{Formula, inside}
 use Rattle.formula.specs.States.{State, times, changedBy}
 use Rattle.lines.specs.Lines.{Crossing, crossed, low, high, strays, shortOf, asFarAs, stateBefore, stateAt, lowestFrom, shapeAt, Wall}
 use Rattle.lines.specs.Right.{covers, apart, Next, Rising, LowestChanged, Bounds}
+use Rattle.lines.specs.Edges.{Bound}
 use Rattle.lines.proofs.Keys.{leK, eq-leK, lt-leK, le, le-total, le-trans, le-antisym, ltZ-not, total, trans, lt→le, lt→no, leZ-self, lt-le, le-lt, no→lt}
 use Rattle.lines.proofs.Stretches.{inStretch, beyond}
 use Rattle.lines.proofs.RisingOnly.{stretch, stretches, in-wall, covers-is, rises-is}
@@ -167,10 +168,6 @@ module _ (start : ℕ → State) (xs : List Crossing) where
 
   -- ---- so a shape bounds each wall at both ends, and the search finds it
 
-  abbrev pub Bound : List Wall → Type 0
-  Bound [] = Unit {0}
-  Bound (w ∷ ws) = (Bounds start xs (w .line) (w .start) (shapeAt start xs (w .line) (w .start)) × Bounds start xs (w .line) (w .end) (shapeAt start xs (w .line) (w .end))) × Bound ws
-
   module _ (f : Formula) (names rows : ℕ) (few : names ≤ 256) (all : Accepted names rows xs) where
     abbrev metal : ℕ → ℤ → Bool
     metal l p = ltb l rows && (leZ low p && (ltZ p high && inside f (stateAt start xs l p)))
@@ -194,10 +191,10 @@ module _ (start : ℕ → State) (xs : List Crossing) where
         there e =
             lowest-found (stateBefore start xs l p) (stateAt start xs l p) (far-same names l p (all .named) few) (λ same. h (alike l p (e .0) (e .1) (sym (before-at start xs l p) ∙ same)))
 
-    pub ends-bounded : (ws : List Wall) → Rising ws → ((l : ℕ) (p : ℤ) → covers l p ws ≡ metal l p) → Bound ws
+    pub ends-bounded : (ws : List Wall) → Rising ws → ((l : ℕ) (p : ℤ) → covers l p ws ≡ metal l p) → Bound start xs ws
     ends-bounded ws r cells = each ws (edged metal ws r (λ l p h. sym (cells l p)))
       where
-        each : (ws : List Wall) → Edged metal ws → Bound ws
+        each : (ws : List Wall) → Edged metal ws → Bound start xs ws
         each [] e = tt
         each (w ∷ ws) e = (
           (

@@ -13,10 +13,11 @@ use Rattle.formula.specs.Formula.{Formula, inside}
 use Rattle.formula.specs.States.{State}
 use Rattle.lines.specs.Lines.{LineLists, rowCount, startState, low, high, Crossing, entries, judged, AnswerLists, roomyLists, stateAt, shapeAt, Wall, walls, classified}
 use Rattle.lines.specs.Right.{covers, Rising, Bounded, Right}
+use Rattle.lines.specs.Edges.{Bound}
 use Rattle.lines.proofs.LinesBy.{linesBy, from-by}
 use Rattle.lines.proofs.LinesRight.{lines-rise, lines-cells}
 use Rattle.lines.proofs.RisingOnly.{rising-only}
-use Rattle.lines.proofs.Edges.{Bound, mark-shape, ends-bounded}
+use Rattle.lines.proofs.Edges.{mark-shape, ends-bounded}
 use Rattle.lines.proofs.WallShapes.{Shaped, lines-shaped}
 use Rattle.lines.proofs.Judgement.{Accepted, both, judged-accepted}
 

@@ -10,42 +10,10 @@ use lib.Dec.{ltb, eqb}
 use borrow.Author.Tests.{ltb-true, eqb-true, eqb-false, lt-ltb, le-ltb}
 use Rattle.outcome.specs.Outcome.{given}
 use Rattle.formula.specs.Formula.{Op, union, intersection, difference, exclusive, firstOperation, code, Formula, leaf, node, postfix, Over}
-use Rattle.sheet.specs.Sheet.{codesOf, operation, joined, oneCode, allCodes, onlyOne, formulaOf}
+use Rattle.formula.specs.Codes.{operation}
+use Rattle.formula.proofs.Codes.{operation-which, operation-code, code-operation}
+use Rattle.sheet.specs.Sheet.{codesOf, joined, oneCode, allCodes, onlyOne, formulaOf}
 use Rattle.outcome.proofs.Questions.{bind-given, given-same}
-
--- ---- operation: a code is that of the one operation that it gives, or of none
-
-pub data Which (c : ℕ) : Option Op → Type 0 where
-  one : (o : Op) → c ≡ code o → Which c (some o)
-  other : ((o : Op) → c ≡ code o → ⊥) → Which c none
-
-module _ (c : ℕ) where
-  none-of : (c ≡ code union → ⊥) → (c ≡ code intersection → ⊥) → (c ≡ code difference → ⊥) → (c ≡ code exclusive → ⊥) → (o : Op) → c ≡ code o → ⊥
-  none-of p q r t union e = p e
-  none-of p q r t intersection e = q e
-  none-of p q r t difference e = r e
-  none-of p q r t exclusive e = t e
-
-  which-by : (w x y z : Bool) → eqb c (code union) ≡ w → eqb c (code intersection) ≡ x → eqb c (code difference) ≡ y → eqb c (code exclusive) ≡ z
-      → Which c (cond w (some union) (cond x (some intersection) (cond y (some difference) (cond z (some exclusive) none))))
-  which-by true x y z p q r t = one union (eqb-true _ _ p)
-  which-by false true y z p q r t = one intersection (eqb-true _ _ q)
-  which-by false false true z p q r t = one difference (eqb-true _ _ r)
-  which-by false false false true p q r t = one exclusive (eqb-true _ _ t)
-  which-by false false false false p q r t = other (none-of (eqb-false _ _ p) (eqb-false _ _ q) (eqb-false _ _ r) (eqb-false _ _ t))
-
-  pub operation-which : Which c (operation c)
-  operation-which = which-by (eqb c (code union)) (eqb c (code intersection)) (eqb c (code difference)) (eqb c (code exclusive)) refl refl refl refl
-
-  pub operation-code : (o : Op) {p : Option Op} → Which c p → p ≡ some o → c ≡ code o
-  operation-code o (one q e) h = let f : q ≡ o = cc in e ∙ ap code f
-  operation-code o (other n) h = let z : _≡_ {A = ℕ} 0 1 = cc in absurd (omega arith)
-
-pub code-operation : (o : Op) → operation (code o) ≡ some o
-code-operation union = refl
-code-operation intersection = refl
-code-operation difference = refl
-code-operation exclusive = refl
 
 -- ---- allCodes: the operands that wait, in postfix order, are the codes judged so far
 

@@ -11,9 +11,11 @@ use borrow.Author.Tests.{ltb-true, ltb-false, lt-ltb, le-ltb}
 use Rattle.outcome.specs.Outcome.{Outcome, given, refused, unfit, _>>=_, part}
 use Rattle.formula.specs.Formula.{Op, firstOperation, code, Formula, leaf, node, postfix, prefix, Over}
 use Rattle.formula.proofs.Laws.{length-prefix}
-use Rattle.sheet.specs.Sheet.{operation, joinedFirst, oneFirst, allFirst, onlyOne, formulaOf, formulaFirst, formulaIn, codesIn}
+use Rattle.formula.specs.Codes.{operation}
+use Rattle.formula.proofs.Codes.{operation-which, operation-code, code-operation}
+use Rattle.sheet.specs.Sheet.{joinedFirst, oneFirst, allFirst, onlyOne, formulaOf, formulaFirst, formulaIn, codesIn}
 use Rattle.outcome.proofs.Questions.{bind-given, given-same, part-given}
-use Rattle.sheet.proofs.Codes.{code-operation, operation-which, operation-code, only-given, formulaOf-postfix, postfix-formulaOf}
+use Rattle.sheet.proofs.Codes.{only-given, formulaOf-postfix, postfix-formulaOf}
 
 -- ---- allFirst: one code more
 

@@ -8,7 +8,8 @@ use Rattle.outcome.specs.Outcome.{Outcome, given, part, ofFittings}
 use Rattle.outcome.specs.Numbered.{Numbered}
 use Rattle.outcome.proofs.NumberedLaws.{given-numbered, refused-numbered, asks, then-numbered, bind-numbered, part-numbered, cond-numbered, fittings-numbered}
 use Rattle.formula.specs.Formula.{Op, Formula, leaf}
-use Rattle.sheet.specs.Sheet.{Sheets, alone, beside, Sheet, Setting, Field, nameField, formulaField, endField, joined, operation, oneCode, allCodes, onlyOne, formulaOf, joinedFirst, operated, allFirst, formulaFirst, formulaIn, header, nameAt, formulaAt, fieldAt, onward, fields, own, fittingAt, onwardFitting, fittingFields, fittingNames, reading}
+use Rattle.formula.specs.Codes.{operation}
+use Rattle.sheet.specs.Sheet.{Sheets, alone, beside, Sheet, Setting, Field, nameField, formulaField, endField, joined, oneCode, allCodes, onlyOne, formulaOf, joinedFirst, operated, allFirst, formulaFirst, formulaIn, header, nameAt, formulaAt, fieldAt, onward, fields, own, fittingAt, onwardFitting, fittingFields, fittingNames, reading}
 
 -- ---- codes
 

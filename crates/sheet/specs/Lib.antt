@@ -1,3 +1,4 @@
 pub mod Sheet
+pub mod Otherwise
 pub mod Walk
 pub mod Guaranteed

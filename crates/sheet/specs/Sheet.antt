@@ -7,7 +7,8 @@ use mathlib.Core.Bool.{Bool, true, false, cond, not, _&&_, _||_}
 use lib.ListN.{length, getD, take, drop}
 use lib.Dec.{ltb, leb, eqb}
 use Rattle.outcome.specs.Outcome.{Outcome, given, refused, need, _>>=_, _>>_, part, ofFittings}
-use Rattle.formula.specs.Formula.{Op, union, intersection, difference, exclusive, code, Formula, leaf, node, postfix, prefix}
+use Rattle.formula.specs.Formula.{Op, Formula, leaf, node, postfix, prefix}
+use Rattle.formula.specs.Codes.{operation}
 
 -- The sheets of a call: the customer's sheet alone, or a fittings sheet and the customer's.
 pub data Sheets : Type 0 where
@@ -107,14 +108,6 @@ unfoldable pub codesOf : List ℕ → List ℕ
 codesOf [] = []
 codesOf (h ∷ []) = []
 codesOf (h ∷ l ∷ bytes) = (h * 256 + l) ∷ codesOf bytes
-
--- 0xFFF0 is union, 0xFFF1 intersection, 0xFFF2 difference, 0xFFF3 exclusive union.
-abbrev pub operation : ℕ → Option Op
-operation c =
-    cond (eqb c (code union)) (some union)
-    (cond (eqb c (code intersection)) (some intersection)
-    (cond (eqb c (code difference)) (some difference)
-    (cond (eqb c (code exclusive)) (some exclusive) none)))
 
 -- Edition 1, in postfix order. The operands that wait stand last one first. An operation joins the last two: the earlier one is the left one.
 -- An unknown code, or an operation with fewer than two operands waiting, is 7, at the offset of the code.

@@ -6,16 +6,17 @@ use native.Mathlib.Nat.{add-assoc, add-zero}
 use mathlib.Core.Path.{_≡_, refl, sym, ap, _∙_}
 use mathlib.Core.Bool.{Bool, true, false, cond, _&&_, and-false}
 use mathlib.Core.List.{List, [], _∷_}
-use mathlib.Core.Option.{Option, none, some}
+use mathlib.Core.Option.{none, some}
 use lib.ListN.{length, drop, drop-of-length-le}
 use lib.Seq.{drop-cons}
 use lib.Dec.{ltb, leb}
 use borrow.Author.Tests.{lt-ltb, le-ltb, le-leb, lt-leb, ne-eqb}
 use Rattle.outcome.specs.Outcome.{Outcome, given, refused, _>>=_, part}
-use Rattle.formula.specs.Formula.{Op, union, intersection, difference, exclusive, code, Formula, leaf, node, leaves}
-use Rattle.sheet.specs.Sheet.{twoAt, codesOf, operation, joined, allCodes, onlyOne, formulaOf}
-use Rattle.sheet_codes.specs.Steps.{isSome, isOperation, countedLeaves}
-use Rattle.sheet.proofs.Codes.{Which, one, other, operation-which}
+use Rattle.formula.specs.Formula.{Op, Formula, leaf, node, leaves}
+use Rattle.formula.specs.Codes.{isOperation, opOf, operation}
+use Rattle.formula.proofs.Codes.{operation-low, operation-high, operation-yes}
+use Rattle.sheet.specs.Sheet.{twoAt, codesOf, joined, allCodes, onlyOne, formulaOf}
+use Rattle.sheet_codes.specs.Steps.{countedLeaves}
 
 -- ---- countedLeaves: operands by their number, leaves by their sum
 
@@ -34,22 +35,21 @@ module _ (n tag at c : ℕ) (cs : List ℕ)
   like : (gs : List Formula) (w l : ℕ) → length gs ≡ w → allLeaves gs ≡ l → part leaves (allCodes n (at + 2) cs gs >>= onlyOne tag) ≡ countedLeaves n tag (at + 2) cs w l
   like gs w l p q = ih gs ∙ rw (p, q)
 
-  joined-counted : (p : Option Op) (fs : List Formula)
-      → part leaves ((joined at p fs >>= allCodes n (at + 2) cs) >>= onlyOne tag)
-      ≡ cond (isSome p && leb 2 (length fs)) (countedLeaves n tag (at + 2) cs (length fs - 1) (allLeaves fs)) (refused 7 at)
-  joined-counted none fs = refl
-  joined-counted (some o) [] = refl
-  joined-counted (some o) (r ∷ []) = refl
-  joined-counted (some o) (r ∷ l ∷ fs) =
+  joined-counted : (b : Bool) (o : Op) (fs : List Formula)
+      → part leaves ((joined at (cond b (some o) none) fs >>= allCodes n (at + 2) cs) >>= onlyOne tag)
+      ≡ cond (b && leb 2 (length fs)) (countedLeaves n tag (at + 2) cs (length fs - 1) (allLeaves fs)) (refused 7 at)
+  joined-counted false o fs = refl
+  joined-counted true o [] = refl
+  joined-counted true o (r ∷ []) = refl
+  joined-counted true o (r ∷ l ∷ fs) =
       rw (le-leb 2 (suc (suc (length fs))) (omega arith)) (like (node o l r ∷ fs) (suc (suc (length fs)) - 1) (leaves r + (leaves l + allLeaves fs)) (omega arith) (omega arith))
 
   code-counted : (b : Bool) (fs : List Formula)
       → part leaves ((cond b (given (leaf c ∷ fs)) (joined at (operation c) fs) >>= allCodes n (at + 2) cs) >>= onlyOne tag)
       ≡ cond b (countedLeaves n tag (at + 2) cs (length fs + 1) (allLeaves fs + 1))
       (cond (isOperation c && leb 2 (length fs)) (countedLeaves n tag (at + 2) cs (length fs - 1) (allLeaves fs)) (refused 7 at))
-  unfolding isOperation
   code-counted true fs = like (leaf c ∷ fs) (length fs + 1) (allLeaves fs + 1) (omega arith) (omega arith)
-  code-counted false fs = joined-counted (operation c) fs
+  code-counted false fs = joined-counted (isOperation c) (opOf c) fs
 
 codes-counted : (cs : List ℕ) (n tag at : ℕ) (fs : List Formula) → part leaves (allCodes n at cs fs >>= onlyOne tag) ≡ countedLeaves n tag at cs (length fs) (allLeaves fs)
 unfolding allCodes countedLeaves
@@ -59,40 +59,6 @@ codes-counted (c ∷ cs) n tag at fs = code-counted n tag at c cs (codes-counted
 pub formulaOf-counted : (n tag first : ℕ) (cs : List ℕ) → part leaves (formulaOf n tag first cs) ≡ countedLeaves n tag first cs 0 0
 unfolding formulaOf
 formulaOf-counted n tag first cs = codes-counted cs n tag first []
-
--- ---- isOperation: the codes 0xFFF0 to 0xFFF3
-
-code-between : (o : Op) → (0xFFF0 ≤ code o) × (code o ≤ 0xFFF3)
-code-between union = omega arith
-code-between intersection = omega arith
-code-between difference = omega arith
-code-between exclusive = omega arith
-
-module _ (c : ℕ) where
-  out-of-range : {p : Option Op} → Which c p → ((o : Op) → c ≡ code o → ⊥) → isSome p ≡ false
-  out-of-range (one o e) never = absurd (never o e)
-  out-of-range (other n) never = refl
-
-  pub operation-low : c < 0xFFF0 → isOperation c ≡ false
-  unfolding isOperation
-  operation-low h = out-of-range (operation-which c) (λ o e. omega (arith, code-between o, e, h))
-
-  pub operation-high : 0xFFF3 < c → isOperation c ≡ false
-  unfolding isOperation
-  operation-high h = out-of-range (operation-which c) (λ o e. omega (arith, code-between o, e, h))
-
-  in-range : {p : Option Op} → Which c p → 0xFFF0 ≤ c → c ≤ 0xFFF3 → isSome p ≡ true
-  in-range (one o e) l h = refl
-  in-range (other n) l h =
-      let w = n union in
-      let x = n intersection in
-      let y = n difference in
-      let z = n exclusive in
-      absurd (omega arith)
-
-  pub operation-yes : 0xFFF0 ≤ c → c ≤ 0xFFF3 → isOperation c ≡ true
-  unfolding isOperation
-  operation-yes l h = in-range (operation-which c) l h
 
 -- ---- codesOf
 

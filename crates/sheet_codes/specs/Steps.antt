@@ -1,19 +1,10 @@
 -- What the loop over a formula's codes keeps: w operands wait and l leaves were passed. `proofs/CodeSteps.antt` ties it to `formulaOf`.
 use Prim.Native.Nat.{ℕ, _+_, _-_}
-use mathlib.Core.Bool.{Bool, true, false, cond, _&&_}
+use mathlib.Core.Bool.{cond, _&&_}
 use mathlib.Core.List.{List, [], _∷_}
-use mathlib.Core.Option.{Option, none, some}
 use lib.Dec.{ltb, leb, eqb}
 use Rattle.outcome.specs.Outcome.{Outcome, given, refused, need, _>>_}
-use Rattle.formula.specs.Formula.{Op}
-use Rattle.sheet.specs.Sheet.{operation}
-
-abbrev pub isSome : Option Op → Bool
-isSome none = false
-isSome (some o) = true
-
-unfoldable pub isOperation : ℕ → Bool
-isOperation c = isSome (operation c)
+use Rattle.formula.specs.Codes.{isOperation}
 
 -- How many leaves the formula of the codes has.
 unfoldable pub countedLeaves : ℕ → ℕ → ℕ → List ℕ → ℕ → ℕ → Outcome ℕ

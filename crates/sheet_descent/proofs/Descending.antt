@@ -12,36 +12,25 @@ use lib.Seq.{take-suc-set}
 use Rattle.outcome.specs.Outcome.{_>>=_, part}
 use Rattle.formula.specs.Formula.{Op, code, leaf, node, postfix, prefix}
 use Rattle.formula.proofs.Laws.{length-prefix}
-use Rattle.sheet.specs.Sheet.{twoAt, codesOf, operation, joinedFirst, allFirst}
-use Rattle.sheet.proofs.Codes.{operation-which, operation-code}
+use Rattle.formula.specs.Codes.{opOf, operation}
+use Rattle.formula.proofs.Codes.{operation-low, operation-high, operation-yes, operation-which, operation-code}
+use Rattle.sheet.specs.Sheet.{twoAt, codesOf, joinedFirst, allFirst}
 use Rattle.sheet.proofs.CodesFirst.{first-operation, first-unknown, first-prefix}
-use Rattle.sheet_codes.specs.Steps.{isSome, isOperation}
-use Rattle.sheet_codes.proofs.CodeSteps.{operation-low, operation-high, operation-yes, codes-more}
+use Rattle.sheet_codes.proofs.CodeSteps.{codes-more}
 use Rattle.sheet_descent.specs.Descent.{Room, IsWhole, IsWrong, IsShort, Descended}
 use Rattle.sheet_descent.specs.declared.Descent.{Descent}
 use Rattle.sheet_descent.specs.declared.Descent.the-variants.{Whole, Wrong, Short}
 
 -- ---- a code's operation
 
-is-none : (p : Option Op) → isSome p ≡ false → p ≡ none
-is-none none h = refl
-is-none (some o) h = let z : _≡_ {A = ℕ} 0 1 = cc in absurd (omega arith)
-
-is-some : (p : Option Op) → isSome p ≡ true → (o : Op) × (p ≡ some o)
-is-some none h = let z : _≡_ {A = ℕ} 0 1 = cc in absurd (omega arith)
-is-some (some o) h = (o, refl)
-
 none-low : (c : ℕ) → c < 0xFFF0 → operation c ≡ none
-unfolding isOperation
-none-low c h = is-none (operation c) (operation-low c h)
+none-low c h = rw (operation-low c h)
 
 none-high : (c : ℕ) → 0xFFF3 < c → operation c ≡ none
-unfolding isOperation
-none-high c h = is-none (operation c) (operation-high c h)
+none-high c h = rw (operation-high c h)
 
 some-between : (c : ℕ) → 0xFFF0 ≤ c → c ≤ 0xFFF3 → (o : Op) × (operation c ≡ some o)
-unfolding isOperation
-some-between c l h = is-some (operation c) (operation-yes c l h)
+some-between c l h = (opOf c, rw (operation-yes c l h))
 
 -- ---- one code
 

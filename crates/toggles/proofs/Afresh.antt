@@ -12,8 +12,9 @@ use Rattle.formula.specs.Formula.{Formula}
 use Rattle.formula.specs.States.{State, outside, flipped}
 use Rattle.contraction.specs.Records.{Rec, isLeaf, children, listed}
 use Rattle.contraction.specs.Rounds.{dwarf}
-use Rattle.contraction.proofs.Worked.{Each, Good}
-use Rattle.contraction.proofs.Order.{ChildrenBelow, children-smaller}
+use Rattle.contraction.specs.Terms.{Each, ChildrenBelow}
+use Rattle.contraction.proofs.Worked.{Good}
+use Rattle.contraction.proofs.Order.{children-smaller}
 use Rattle.contraction.proofs.Over.{over-below}
 use Rattle.labels.specs.Labels.{bit, label, labels, isOf}
 use Rattle.labels.proofs.Rules.{on-bit, label-leaf, label-inner, label-local}

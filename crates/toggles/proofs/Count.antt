@@ -13,9 +13,10 @@ use Rattle.formula.specs.States.{outside, times}
 use Rattle.contraction.specs.Records.{Rec, children, listed}
 use Rattle.contraction.specs.Rounds.{dwarf, leafRecs, enough, planted}
 use Rattle.contraction.specs.Height.{path, height}
-use Rattle.contraction.proofs.Worked.{Each, Good}
+use Rattle.contraction.specs.Terms.{Each, refs, uses}
+use Rattle.contraction.proofs.Worked.{Good}
 use Rattle.contraction.proofs.Rounds.{allMade, dwarf-all}
-use Rattle.contraction.proofs.Once.{refs, uses, at-most-one}
+use Rattle.contraction.proofs.Once.{at-most-one}
 use Rattle.contraction.proofs.Leaves.{NoLeaf, made-none}
 use Rattle.contraction.proofs.Paths.{path-over, paths, paths-good, path-height}
 use Rattle.labels.specs.Labels.{bit, labels, isOf}
