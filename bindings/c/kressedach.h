@@ -403,7 +403,8 @@ struct kressedach_cross_many_report {
  * The caller keeps: kinds_length bytes at kinds, numbers_length entries at numbers, lines_length entries at lines; rows_length,
  * line_numbers_length, positions_length and shapes_length entries at rows, line_numbers, positions and shapes. The last four are written:
  * none of them overlaps another list. Rows needs an entry a line and shape, the others one a crossing, of which a shape has two at most on
- * each line.
+ * each line. With room for two a shape and line the call goes through the lines once to judge them and once to write; with less room it
+ * counts their crossings before, once more through all lines.
  */
 void kressedach_cross_many(struct kressedach_cross_many_report *report,
                            const uint8_t *kinds, size_t kinds_length,

@@ -156,8 +156,8 @@ fn given(lines: &[f64], kinds: &[u8], numbers: &[f64], rows: usize, room: usize)
 /// Each line has six of `lines`: origin, direction. A line begun counts, and a number that it lacks is not finite. Kinds and numbers of the
 /// shapes are those of [`cross_into`](crate::cross_into).
 ///
-/// `rows` needs an entry a line and shape, the others one a crossing. All lines are judged, and their crossings counted, before anything is
-/// written. Two crossings a shape and line are always room enough.
+/// `rows` needs an entry a line and shape, the others one a crossing. Two crossings a shape and line are always room enough: with that room
+/// the lines are gone through once to judge them and once to write, with less once more between, to count their crossings.
 ///
 /// ```
 /// use kressedach::{cross_many_into, ManyCounts, ManyLists, BOX};

@@ -156,7 +156,7 @@ fn lines_from_a_seed() {
 }
 
 /// What may be wrong in a call, at a line and at a shape.
-const WRONG: [fn(&mut Case, usize, usize); 14] = [
+const WRONG: [fn(&mut Case, usize, usize); 16] = [
     |case, _, _| case.raster.kinds.resize(257, 0),
     |case, line, _| case.raster.lines[6 * line + 1] = f64::NAN,
     |case, line, _| case.raster.lines[6 * line + 3] = f64::INFINITY,
@@ -167,6 +167,9 @@ const WRONG: [fn(&mut Case, usize, usize); 14] = [
     |case, _, shape| case.raster.kinds[shape] = 3,
     |case, _, shape| case.raster.numbers[6 * shape] = f64::NEG_INFINITY,
     |case, _, shape| case.raster.numbers[6 * shape] = 3e6,
+    // a low at its high, which only boxes have
+    |case, _, shape| case.raster.numbers[6 * shape + 1] = case.raster.numbers[6 * shape + 4],
+    |case, _, shape| (case.raster.numbers[6 * shape + 2], case.raster.numbers[6 * shape + 5]) = (-0.0, 0.0),
     |case, _, shape| case.raster.numbers.truncate(6 * shape),
     |case, _, _| case.rooms[0] = 11,
     |case, _, _| case.rooms[1] -= 1,
@@ -224,31 +227,91 @@ fn an_axis_kept_or_changed() {
     let origins = [0.0, -0.0, 0.5, 0.5f64.next_down(), 2.0];
     let components = [0.0, -0.0, 1.0, -1.0, 3.0];
     let states: Vec<(f64, f64)> = origins.iter().flat_map(|origin| components.map(|component| (*origin, component))).collect();
-    // faces at the origins themselves, so that a box is missed by an origin on a face, and one that is met on every side
-    let kinds = vec![BOX, 0, BOX, 1, BOX, 2];
-    let faces = |face: f64| [face, 0.0, 0.0, 0.0, 0.0, 0.0];
-    let boxes = [[-1.0, -1.0, -1.0, 1.0, 1.0, 1.0], [0.0, 0.0, -3.0, 4.0, 4.0, 4.0], [-0.5, -0.5, -0.5, 0.5, 0.5, 0.5]];
-    let numbers = [boxes[0], faces(0.0), boxes[1], faces(0.5), boxes[2], faces(2.0)].concat();
     let mut seen = [0u64; SHOWN.len()];
-    for axis in 0..3 {
+    for (axis, zero) in (0..3).flat_map(|axis| [0.0, -0.0].map(|zero| (axis, zero))) {
         for (first, second) in states.iter().flat_map(|first| states.iter().map(move |second| (*first, *second))) {
             for third in &states {
-                let raster = Raster { lines: on_axis(axis, &[first, second, *third]), kinds: kinds.clone(), numbers: numbers.clone() };
-                seen[assert_same_exact(raster)] += 1;
+                let lines = on_axis(axis, &[first, second, *third]);
+                seen[assert_same_exact(Raster { lines, ..around_the_origins(zero) })] += 1;
             }
         }
     }
     assert_eq!(seen.iter().sum::<u64>(), seen[0], "all are crossed");
 }
 
+/// Shapes with faces at the origins of the lines, so that a box is missed by an origin on a face, and one that is met on every side.
+fn around_the_origins(zero: f64) -> Raster {
+    let faces = |face: f64| [face, zero, 0.0, 0.0, 0.0, 0.0];
+    let boxes = [[-1.0, -1.0, -1.0, 1.0, 1.0, 1.0], [zero, zero, -3.0, 4.0, 4.0, 4.0], [-0.5, -0.5, -0.5, 0.5, 0.5, zero]];
+    let numbers = [boxes[0], faces(zero), boxes[1], faces(0.5), boxes[2], faces(2.0)].concat();
+    Raster { lines: Vec::new(), kinds: vec![BOX, 0, BOX, 1, BOX, 2], numbers }
+}
+
+/// All ways in which four lines follow each other where each axis has one of two states: none changes, one alone, two or all, and any of
+/// them goes back to what it was.
+#[test]
+fn axes_kept_together() {
+    for states in [[(0.25, 1.0), (0.5, 1.0)], [(0.25, 1.0), (0.25, -2.0)], [(0.0, 0.0), (-0.0, 1.0)], [(0.25, -0.0), (-0.75, 0.0)]] {
+        // the third axis is never level, so that each line has a direction
+        let third = [(0.125, 1.0), (-0.5, 3.0)];
+        let line = |k: usize| {
+            let [(x, dx), (y, dy), (z, dz)] = [states[k & 1], states[k >> 1 & 1], third[k >> 2 & 1]];
+            [x, y, z, dx, dy, dz]
+        };
+        for (sequence, turn) in (0..8usize.pow(4)).flat_map(|sequence| (0..3).map(move |turn| (sequence, turn))) {
+            let lines: Vec<f64> = (0..4).flat_map(|at| line(sequence >> (3 * at) & 7)).collect();
+            let raster = turned(Raster { lines, ..around_the_origins(0.0) }, [turn, (turn + 1) % 3, (turn + 2) % 3]);
+            assert_eq!(assert_same_exact(raster), 0);
+        }
+    }
+}
+
+/// The same lines and shapes, with these axes in the place of the first, the second and the third.
+fn turned(mut raster: Raster, axes: [usize; 3]) -> Raster {
+    for six in raster
+        .lines
+        .chunks_mut(6)
+        .chain(raster.numbers.chunks_mut(6).zip(&raster.kinds).filter(|(_, kind)| **kind == BOX).map(|(six, _)| six))
+    {
+        let [a, b, c] = axes;
+        let turned = [six[a], six[b], six[c], six[a + 3], six[b + 3], six[c + 3]];
+        six.copy_from_slice(&turned);
+    }
+    for kind in raster.kinds.iter_mut().filter(|kind| **kind < 3) {
+        *kind = axes.iter().position(|axis| axis == &usize::from(*kind)).unwrap_or_default() as u8;
+    }
+    raster
+}
+
+/// Grids as a raster gives them, along each axis there and back, and aslant, whichever axis changes first and whichever next.
+#[test]
+fn grids_along_every_axis() {
+    let every = [[0, 1, 2], [0, 2, 1], [1, 0, 2], [1, 2, 0], [2, 0, 1], [2, 1, 0]];
+    for (shapes, half_every) in
+        [1, 2, 4, 15, 16, 17, 33, 64, 100, 255, 256].into_iter().flat_map(|shapes| [0, 1, 3].map(|half| (shapes, half)))
+    {
+        for (axes, aslant) in every.into_iter().flat_map(|axes| [false, true].map(|aslant| (axes, aslant))) {
+            let there = rasters::plate(shapes, half_every, 6, aslant);
+            let mut back = there.clone();
+            back.lines.chunks_mut(6).flat_map(|line| &mut line[3..]).for_each(|component| *component = -*component);
+            for raster in [there, back] {
+                assert!(assert_same_exact(turned(raster, axes)) <= 1);
+            }
+        }
+    }
+}
+
 /// A face whose distance lies within four numbers of an end of the range, of a half-space or of a box that may be missed, as the first of
-/// many shapes, in their midst or as the last; on a line that keeps the axis of the one before it, or that comes nearer to the end.
+/// many shapes, in their midst or as the last; on a line that keeps the axis of the one before it, or that comes nearer to the end. Origins
+/// lie among the shapes or far from them, so that distances from zero say nothing of those from the line.
 #[test]
 fn at_the_ends_of_the_range() {
     let mut seen = [0u64; SHOWN.len()];
     let ends = [2147483646.0, 2147483646.5, 2147483647.0, -2147483647.0, -2147483647.5, -2147483648.0];
     for (axis, end) in (0..3).flat_map(|axis| ends.map(|end| (axis, end))) {
-        for (component, origin) in [1.0, -1.0, 0.5, 3.0, -0.001, 1000.0].iter().flat_map(|c| [0.0, 0.25, -77.7].map(|o| (*c, o))) {
+        for (component, origin) in
+            [1.0, -1.0, 0.5, 3.0, -0.001, 1000.0].iter().flat_map(|c| [0.0, 0.25, -77.7, 1e6, -2.1e6].map(|o| (*c, o)))
+        {
             let exact = end / 1000.0 * component + origin;
             for step in -4i64..=4 {
                 let face = (0..step.abs()).fold(exact, |face: f64, _| if step > 0 { face.next_up() } else { face.next_down() });
@@ -297,7 +360,9 @@ fn room_for_each_list() {
     for raster in [good(), rasters::plate(16, 4, 5, true), rasters::plate(40, 0, 4, false), rasters::scattered(40, 3, 4)] {
         let (needed, most) = (needed(&raster), 2 * raster.kinds.len() * raster.lines.len() / 6);
         for list in 0..4 {
-            for (room, is_short) in [(needed[list], false), (needed[list] - 1, true), (0, true), (needed[list] + 1, false), (most, false)] {
+            for (room, is_short) in
+                [(needed[list], false), (needed[list] - 1, true), (0, true), (needed[list] + 1, false), (most - 1, false), (most, false)]
+            {
                 for others in [needed, [needed[0], most, most, most]] {
                     let mut rooms = others;
                     rooms[list] = room;

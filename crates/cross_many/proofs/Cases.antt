@@ -11,12 +11,13 @@ use Rattle.cross_cuts.specs.Cuts.{crossingsFrom, faultless}
 use Rattle.cross_shapes.specs.Shapes.{finite, isZero, lesser, greater, halfSpaceCut, axisRange, boxRange, goodPair, boxCut}
 use Rattle.cross_line.specs.Lent.{shapesOf}
 use Rattle.cross_line.specs.Crossing.{goodProbe}
+use Rattle.cross_drawn.specs.Asking.{lineJudged, listRoom}
+use Rattle.cross_drawn.specs.Drawn.{rowsOf, linesFrom, positionsIn, shapesIn, drawnLists}
+use Rattle.cross_drawn.specs.Judging.{linesJudged}
+use Rattle.cross_drawn.specs.Lent.{probesFrom}
+use Rattle.cross_drawn.specs.Refusing.{gives, refuses, outcomeOf}
 use Rattle.cross_many.specs.Cases.{number, two, lines, lent}
-use Rattle.cross_many.specs.Asking.{lineJudged, listRoom}
-use Rattle.cross_many.specs.Crossing.{linesJudged, crossingProbes, crossingMany}
-use Rattle.cross_many.specs.Drawn.{rowsOf, linesFrom, positionsIn, shapesIn, drawnLists}
-use Rattle.cross_many.specs.Lent.{probesFrom}
-use Rattle.cross_many.specs.Refusing.{gives, refuses, outcomeOf}
+use Rattle.cross_many.specs.Crossing.{crossingProbes, crossingMany}
 
 both-given : part drawnLists (outcomeOf (crossingMany (255 ∷ 0 ∷ []) two lines lent))
     ≡ given (lineLists (0 ∷ 1 ∷ 0 ∷ 1 ∷ []) (0 ∷ 0 ∷ 0 ∷ 1 ∷ []) (pos 5000 ∷ pos 6000 ∷ pos 6000 ∷ pos 6000 ∷ []) (0 ∷ 0 ∷ 1 ∷ 1 ∷ []))

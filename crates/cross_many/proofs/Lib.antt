@@ -1,7 +1,4 @@
-pub mod ProbeLaws
-pub mod DrawnLaws
-pub mod CountLaws
-pub mod PutLaws
+pub mod JudgeLaws
 pub mod ManyLaws
 pub mod Cases
 pub mod Settled

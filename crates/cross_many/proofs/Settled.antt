@@ -18,12 +18,13 @@ use Rattle.lines.specs.Lines.{LineLists}
 use Rattle.cross_cuts.specs.Cuts.{Cut, sound, faultless}
 use Rattle.cross_shapes.specs.declared.Probe.{Probe}
 use Rattle.cross_line.specs.Crossing.{goodProbe, shapeCuts}
+use Rattle.cross_drawn.specs.Asking.{lineJudged, listRoom}
+use Rattle.cross_drawn.specs.Drawn.{Drawn, drawnLists, drawn}
+use Rattle.cross_drawn.specs.Judging.{linesJudged}
+use Rattle.cross_drawn.specs.Lent.{probesOf}
+use Rattle.cross_drawn.specs.Refusing.{OfLines, gives, refuses, partOf, ofLine, ofNone, outcomeOf, _>>_}
 use Rattle.cross_many.specs.Answer.{ManyCounts, manyCounts, manyCountsOf, manyOf, ManyLists, CrossedMany}
-use Rattle.cross_many.specs.Asking.{lineJudged, listRoom}
-use Rattle.cross_many.specs.Crossing.{drawn, linesJudged, crossingProbes, crossingMany}
-use Rattle.cross_many.specs.Drawn.{Drawn, drawnLists}
-use Rattle.cross_many.specs.Lent.{probesOf}
-use Rattle.cross_many.specs.Refusing.{OfLines, gives, refuses, partOf, ofLine, ofNone, outcomeOf, _>>_}
+use Rattle.cross_many.specs.Crossing.{crossingProbes, crossingMany}
 use Rattle.cross_many.specs.declared.ManyAnswer.{ManyAnswer}
 use Rattle.cross_many.specs.declared.ManyAnswer.the-variants as answer
 

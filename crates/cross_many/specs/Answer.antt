@@ -5,8 +5,8 @@ use lib.ListN.{length}
 use Rattle.outcome.specs.Outcome.{part}
 use Rattle.outcome.specs.Lent.{afterCall}
 use Rattle.lines.specs.Lines.{LineLists}
-use Rattle.cross_many.specs.Drawn.{Drawn, rowsOf, linesFrom, positionsIn, shapesIn}
-use Rattle.cross_many.specs.Refusing.{OfLines, gives, refuses, partOf, outcomeOf}
+use Rattle.cross_drawn.specs.Drawn.{Drawn, rowsOf, linesFrom, positionsIn, shapesIn}
+use Rattle.cross_drawn.specs.Refusing.{OfLines, gives, refuses, partOf, outcomeOf}
 use Rattle.cross_many.specs.declared.ManyAnswer.{ManyAnswer}
 use Rattle.cross_many.specs.declared.ManyAnswer.the-variants as answer
 

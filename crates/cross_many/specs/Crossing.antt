@@ -1,28 +1,17 @@
 -- Many lines and one drawing: what the job for one line gives for each, one after another.
-use Prim.Native.Nat.{ℕ, suc}
-use mathlib.Core.List.{List, [], _∷_, map}
+use Prim.Native.Nat.{ℕ}
+use mathlib.Core.List.{List}
 use lib.Dec.{leb}
 use lib.ListN.{length}
 use lib.Ieee.{Float}
 use Rattle.outcome.specs.Outcome.{need}
 use Rattle.lines.specs.Lines.{LineLists}
 use Rattle.cross_shapes.specs.declared.Probe.{Probe}
-use Rattle.cross_line.specs.Crossing.{shapeCuts}
-use Rattle.cross_many.specs.Asking.{lineJudged, listRoom}
-use Rattle.cross_many.specs.Drawn.{Drawn, drawnLists}
-use Rattle.cross_many.specs.Lent.{probesOf}
-use Rattle.cross_many.specs.Refusing.{OfLines, gives, ofLine, ofNone, _>>_}
-
--- What each line has of each shape.
-abbrev pub drawn : List ℕ → List Float → List Probe → Drawn
-drawn kinds numbers probes = map (λ probe. shapeCuts probe kinds numbers) probes
-
--- Line by line, from number i on.
-unfoldable pub linesJudged : ℕ → List ℕ → List Float → List Probe → OfLines (Unit {0})
-linesJudged i kinds numbers [] = gives tt
-linesJudged i kinds numbers (probe ∷ probes) = do
-  ofLine i (lineJudged kinds numbers probe)
-  linesJudged (suc i) kinds numbers probes
+use Rattle.cross_drawn.specs.Asking.{listRoom}
+use Rattle.cross_drawn.specs.Drawn.{Drawn, drawnLists, drawn}
+use Rattle.cross_drawn.specs.Judging.{linesJudged}
+use Rattle.cross_drawn.specs.Lent.{probesOf}
+use Rattle.cross_drawn.specs.Refusing.{OfLines, gives, ofNone, _>>_}
 
 -- "16, place 256, for more than 256 shapes, also with no line; 14, place 0, for more than 4294967296 lines; then line by line 16; then 9."
 unfoldable pub crossingProbes : List ℕ → List Float → List Probe → LineLists → OfLines Drawn

@@ -76,7 +76,7 @@ fn rounded(x: f64) -> Found
     Found::At((2147483648 - size) as u32)
 }
 
-fn distance_to(face: f64, origin: f64, component: f64) -> f64
+pub fn distance_to(face: f64, origin: f64, component: f64) -> f64
     ensures { λ r. ⌜ r ≡ distance face origin component ⌝ }
 {
     (face - origin) / component * 1000.0

@@ -23,12 +23,12 @@ use Rattle.cross_answer.proofs.FitLaws.{fit}
 use Rattle.cross_shapes.specs.declared.Probe.{Probe}
 use Rattle.cross_line.specs.Crossing.{shapeCuts}
 use Rattle.cross_line.proofs.LentLaws.{length-cuts, cuts-in-range}
-use Rattle.cross_many.specs.Crossing.{drawn, crossingMany}
-use Rattle.cross_many.specs.Lent.{probesOf}
-use Rattle.cross_many.specs.Refusing.{gives}
-use Rattle.cross_many.proofs.DrawnLaws.{positions-many, shapes-many}
+use Rattle.cross_drawn.specs.Drawn.{Drawn, rowsOf, linesFrom, positionsIn, shapesIn, drawnLists, drawn}
+use Rattle.cross_drawn.specs.Lent.{probesOf}
+use Rattle.cross_drawn.specs.Refusing.{gives}
+use Rattle.cross_drawn.proofs.DrawnLaws.{positions-many, shapes-many}
+use Rattle.cross_many.specs.Crossing.{crossingMany}
 use Rattle.cross_many.proofs.Settled.{many-few, many-drawn}
-use Rattle.cross_many.specs.Drawn.{Drawn, rowsOf, linesFrom, positionsIn, shapesIn, drawnLists}
 use Rattle.cross_taken.specs.Taken.{AllFit}
 
 -- ---- lists that are asked item by item

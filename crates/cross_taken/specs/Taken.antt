@@ -3,7 +3,7 @@ use mathlib.Core.List.{[], _∷_}
 use Prim.Native.Nat.{ℕ}
 use Rattle.cross_cuts.specs.Cuts.{startRow, lineCrossings}
 use Rattle.cross_cuts.specs.Fit.{Fit}
-use Rattle.cross_many.specs.Drawn.{Drawn}
+use Rattle.cross_drawn.specs.Drawn.{Drawn}
 
 -- Each line is fit to be classified: the crossing makers give no other.
 abbrev pub AllFit : ℕ → Drawn → Type 0

@@ -43,8 +43,8 @@ use Rattle.job_judge.specs.declared.JudgeAnswer.the-variants as judge
 use Rattle.cross_cuts.specs.Cuts.{Cut}
 use Rattle.cross_answer.specs.Answer.{crossedOf, MadeLists, Crossed}
 use Rattle.cross_answer.specs.declared.CrossAnswer.{CrossAnswer}
-use Rattle.cross_many.specs.Drawn.{Drawn}
-use Rattle.cross_many.specs.Refusing.{OfLines}
+use Rattle.cross_drawn.specs.Drawn.{Drawn}
+use Rattle.cross_drawn.specs.Refusing.{OfLines}
 use Rattle.cross_many.specs.Answer.{manyOf, CrossedMany}
 use Rattle.cross_many.specs.declared.ManyAnswer.{ManyAnswer}
 use Rattle.host.specs.Report.{sheetOf, readReport, nameReport, namesReport, moveReport, buildReport, runReport, classifyReport, judgeReport, crossReport, crossManyReport, NamesReported, MoveReported, BuildReported, RunReported, EditReported, BothReported, ClassifyReported, CrossReported, CrossManyReported}

@@ -44,8 +44,8 @@ use Rattle.cross_line.specs.Crossing.{crossingShapes}
 use Rattle.cross_line.proofs.Settled.{shapes-numbered}
 use Rattle.cross_balls.specs.Balls.{crossingBalls}
 use Rattle.cross_balls.proofs.Settled.{balls-numbered}
-use Rattle.cross_many.specs.Drawn.{Drawn}
-use Rattle.cross_many.specs.Refusing.{OfLines, gives, refuses, outcomeOf, partOf}
+use Rattle.cross_drawn.specs.Drawn.{Drawn}
+use Rattle.cross_drawn.specs.Refusing.{OfLines, gives, refuses, outcomeOf, partOf}
 use Rattle.cross_many.specs.Crossing.{crossingMany}
 use Rattle.cross_many.specs.Answer.{manyCountsOf}
 use Rattle.cross_many.proofs.Settled.{many-lists-unique, many-numbered}

@@ -29,8 +29,8 @@ use Rattle.job_edit.specs.Edited.{EditedLists}
 use Rattle.cross_cuts.specs.Cuts.{Cut}
 use Rattle.cross_answer.specs.Answer.{Counts, counts, countsOf, MadeLists, CrossedLists}
 use Rattle.cross_shapes.specs.declared.Probe.{Probe}
-use Rattle.cross_many.specs.Drawn.{Drawn}
-use Rattle.cross_many.specs.Refusing.{OfLines, gives, refuses, partOf}
+use Rattle.cross_drawn.specs.Drawn.{Drawn}
+use Rattle.cross_drawn.specs.Refusing.{OfLines, gives, refuses, partOf}
 use Rattle.cross_many.specs.Answer.{ManyCounts, manyCounts, manyCountsOf, ManyLists}
 use Rattle.host.specs.declared.ReadReport.{ReadReport}
 use Rattle.host.specs.declared.NameReport.{NameReport}

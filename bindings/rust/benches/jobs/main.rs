@@ -1,7 +1,7 @@
 //! The proved library's time beside plain Rust of the same method and beside a plain copy of the lists, in one run.
 //!
-//! `cargo bench --offline -q` prints the page `docs/BENCHMARKS.md`. Without `--bench`, as `cargo test` runs this, nothing is timed, and the
-//! answers of each row are compared with those of `peer`.
+//! `cargo bench --offline -q` prints the page `docs/BENCHMARKS.md`, and with `-- many` the tables of many lines alone. Without `--bench`, as
+//! `cargo test` runs this, nothing is timed, and the answers of each row are compared with those of `peer`.
 
 mod edits;
 mod levels;
@@ -14,17 +14,21 @@ use std::process::Command;
 use std::time::Instant;
 
 fn main() {
-    let timed = std::env::args().any(|arg| arg == "--bench");
+    let asked = |word: &str| std::env::args().any(|arg| arg == word);
+    let timed = asked("--bench");
+    let many = many::all(if timed { 100 } else { 10 });
+    for row in &many {
+        (row.check)();
+    }
+    if timed && asked("many") {
+        return many::print(many);
+    }
     let rows = rows::all(if timed { 20_000 } else { 2_000 });
     for row in &rows {
         (row.check)();
     }
     let edits = edits::all(if timed { 20_000 } else { 100 });
     for row in &edits {
-        (row.check)();
-    }
-    let many = many::all(if timed { 100 } else { 10 });
-    for row in &many {
         (row.check)();
     }
     if !timed {

@@ -26,8 +26,8 @@ pub struct Row {
     /// How many lines a call has.
     items: usize,
     crossings: usize,
-    /// The library; the job for one line, line by line; plain Rust; classifying what was given.
-    calls: [Box<dyn FnMut()>; 4],
+    /// The library; the job for one line, line by line; plain Rust of both ways; classifying what was given.
+    calls: [Box<dyn FnMut()>; 5],
     /// Compares the answers.
     pub check: Box<dyn Fn()>,
 }
@@ -90,18 +90,22 @@ type Way = fn(&Raster, &mut ManyLists) -> usize;
 
 const LIBRARY: Way = |r, lists| kressedach::cross_many_into(&r.lines, &r.kinds, &r.numbers, lists).unwrap().crossings;
 const PLAIN: Way = |r, lists| plain::cross_many(&r.lines, &r.kinds, &r.numbers, lists).unwrap()[1];
-const LINE_BY_LINE: Way = |r, lists| {
+const ONE_BY_ONE: Way =
+    |r, lists| line_by_line(r, lists, |probe, lists| kressedach::cross_into(probe, &r.kinds, &r.numbers, lists).unwrap().crossings);
+const PLAIN_ONE_BY_ONE: Way =
+    |r, lists| line_by_line(r, lists, |probe, lists| plain::cross(&probe, &r.kinds, &r.numbers, lists).unwrap()[1]);
+
+fn line_by_line(r: &Raster, lists: &mut ManyLists, one: impl Fn(Probe, &mut LineLists) -> usize) -> usize {
     let (mut at, shapes) = (0, r.kinds.len());
     for (line, six) in r.lines.chunks(6).enumerate() {
         let probe = Probe { origin: [six[0], six[1], six[2]], direction: [six[3], six[4], six[5]] };
         let starts = &mut lists.rows[line * shapes..(line + 1) * shapes];
-        let mut one = LineLists { starts, positions: &mut lists.positions[at..], shapes: &mut lists.shapes[at..] };
-        let crossings = kressedach::cross_into(probe, &r.kinds, &r.numbers, &mut one).unwrap().crossings;
+        let crossings = one(probe, &mut LineLists { starts, positions: &mut lists.positions[at..], shapes: &mut lists.shapes[at..] });
         lists.lines[at..at + crossings].fill(line as u32);
         at += crossings;
     }
     at
-};
+}
 
 fn work(raster: Raster, room: Room) -> Work {
     let shapes = Shapes { kinds: &raster.kinds, numbers: &raster.numbers };
@@ -124,7 +128,7 @@ fn row(lines: &'static str, shapes: &'static str, raster: Raster, room: Room) ->
         let (work, mut lists) = (work.clone(), Lists::of(&work));
         Box::new(move || _ = black_box(way(black_box(&work.raster), &mut lists.lent())))
     };
-    let calls = [timed(LIBRARY), timed(LINE_BY_LINE), timed(PLAIN), classifying(work.clone())];
+    let calls = [timed(LIBRARY), timed(ONE_BY_ONE), timed(PLAIN), timed(PLAIN_ONE_BY_ONE), classifying(work.clone())];
     let (count, items, crossings) = (work.raster.kinds.len(), work.due.lines, work.due.crossings.len());
     Row { lines, shapes, count, items, crossings, calls, check: Box::new(move || check(&work)) }
 }
@@ -151,7 +155,7 @@ fn classifying(work: Rc<Work>) -> Box<dyn FnMut()> {
 }
 
 fn check(work: &Work) {
-    for way in [LIBRARY, LINE_BY_LINE, PLAIN] {
+    for way in [LIBRARY, ONE_BY_ONE, PLAIN, PLAIN_ONE_BY_ONE] {
         let mut lists = Lists::of(work);
         assert_eq!(way(&work.raster, &mut lists.lent()), work.due.crossings.len());
         assert!(lists.rows == work.due.rows);
@@ -165,6 +169,7 @@ struct Times {
     library: f64,
     one_by_one: f64,
     plain: f64,
+    plain_one_by_one: f64,
     classify: f64,
 }
 
@@ -180,20 +185,27 @@ pub fn print(rows: Vec<Row>) {
     println!("all are counted before the first is written.\n");
     println!("- `many`: `kressedach_cross_many`.");
     println!("- `one by one`: `kressedach_cross` for each line.");
-    println!("- `plain`: safe Rust of the same method, which judges all lines before it writes too.\n");
-    println!("| lines | shapes | number | crossings a line | many | one by one | plain | one by one / many | many / plain |");
-    println!("|---|---|--:|--:|--:|--:|--:|--:|--:|");
+    println!(
+        "- `plain`: safe Rust of the method for many lines, which judges all of them before it writes too: faces in columns by axis, what"
+    );
+    println!("  an axis says kept while a line's numbers on it stay the same, and what two axes say together while both do.");
+    println!("- `plain, one by one`: safe Rust of the method for one line, for each.\n");
+    println!(
+        "| lines | shapes | number | crossings a line | many | one by one | plain | plain, one by one | one by one / many | many / plain |"
+    );
+    println!("|---|---|--:|--:|--:|--:|--:|--:|--:|--:|");
     let timed: Vec<(Row, Times)> = rows.into_iter().map(timed).collect();
     asked(&timed);
     walls(&timed);
 }
 
 fn timed(mut row: Row) -> (Row, Times) {
-    let [many, one_by_one, plain, classify] = &mut row.calls;
-    let times: Vec<f64> = best(&mut [many, one_by_one, plain, classify]).into_iter().map(|time| time / row.items as f64).collect();
-    let times = Times { library: times[0], one_by_one: times[1], plain: times[2], classify: times[3] };
+    let [many, one_by_one, plain, plain_one_by_one, classify] = &mut row.calls;
+    let times = best(&mut [many, one_by_one, plain, plain_one_by_one, classify]);
+    let times: Vec<f64> = times.into_iter().map(|time| time / row.items as f64).collect();
+    let times = Times { library: times[0], one_by_one: times[1], plain: times[2], plain_one_by_one: times[3], classify: times[4] };
     println!(
-        "| {} | {} | {} | {:.2} | {:.1} | {:.1} | {:.1} | {:.2} | {:.2} |",
+        "| {} | {} | {} | {:.2} | {:.1} | {:.1} | {:.1} | {:.1} | {:.2} | {:.2} |",
         row.lines,
         row.shapes,
         row.count,
@@ -201,6 +213,7 @@ fn timed(mut row: Row) -> (Row, Times) {
         times.library,
         times.one_by_one,
         times.plain,
+        times.plain_one_by_one,
         times.one_by_one / times.library,
         times.library / times.plain
     );
@@ -209,15 +222,17 @@ fn timed(mut row: Row) -> (Row, Times) {
 
 fn asked(timed: &[(Row, Times)]) {
     let faster = |times: &Times| times.one_by_one / times.library;
+    let beside = |times: &Times| times.library / times.plain;
     for (lines, least) in [("along", 12), ("aslant", 9)] {
         let at = timed.iter().find(|(row, _)| row.lines == lines && row.count == 256);
-        let times = at.map_or(0.0, |(_, times)| faster(times));
-        println!("\n256 boxes, lines {lines}: {times:.1} times as fast as one by one, where {least} is asked.");
+        let (times, plain) = at.map_or((0.0, 0.0), |(_, times)| (faster(times), beside(times)));
+        println!("\n256 boxes, lines {lines}: {times:.1} times as fast as one by one, where {least} is asked,");
+        println!("and {plain:.2} times the plain one, where 1.3 is asked.");
     }
     let few = timed.iter().filter(|(row, _)| row.count == 4).map(|(_, times)| faster(times)).fold(f64::INFINITY, f64::min);
     println!("\n4 shapes of any kind: at least {few:.2} times as fast as one by one, where 1 is asked.");
-    let most = timed.iter().map(|(_, times)| times.library / times.plain).fold(0.0, f64::max);
-    println!("\nAt most {most:.2} times the plain one, where 1.3 is asked.");
+    let most = timed.iter().map(|(_, times)| beside(times)).fold(0.0, f64::max);
+    println!("\nIn all rows at most {most:.2} times the plain one.");
 }
 
 /// From the drawing to walls, of boxes on a grid.

@@ -4,7 +4,7 @@ use crate::shown;
 use crate::stop::{out, say, Stop};
 use std::ffi::OsStr;
 use std::fs::{self, File, OpenOptions};
-use std::io::{self, BufWriter, IsTerminal, Seek, Write};
+use std::io::{self, IsTerminal, Seek, Write};
 use std::os::unix::ffi::OsStrExt;
 use std::path::{Path, PathBuf};
 
@@ -101,32 +101,60 @@ impl Body {
     }
 }
 
-/// An answer that waits in a file without a name until it is whole: whatever happens, nothing of it is left.
-pub struct Waiting(BufWriter<File>);
+/// An answer that waits until it is whole: in memory, and where it is long in a file without a name, so that nothing of it is left.
+pub struct Waiting {
+    folder: PathBuf,
+    held: Vec<u8>,
+    file: Option<File>,
+}
+
+/// So many bytes of an answer that waits are held in memory.
+const MOST_HELD: usize = 1 << 20;
 
 impl Waiting {
-    /// Beside the file of `-o`, or where temporary files are.
-    pub fn begin(output: Option<&[u8]>) -> Result<Waiting, Stop> {
+    /// Long ones beside the file of `-o`, or where temporary files are.
+    pub fn begin(output: Option<&[u8]>) -> Waiting {
         let folder = output.map_or_else(std::env::temp_dir, |file| folder_of(Path::new(OsStr::from_bytes(file))).into());
-        let began = temporary(&folder).and_then(|(file, path)| fs::remove_file(path).map(|()| file));
-        let wrong = |e: io::Error| Stop::File(format!("a temporary file in {}", shown::path(folder.as_os_str().as_bytes())), e.to_string());
-        began.map(|file| Waiting(BufWriter::with_capacity(1 << 16, file))).map_err(wrong)
+        Waiting { folder, held: Vec::new(), file: None }
+    }
+
+    /// That there is no room for it.
+    pub fn wrong(&self, e: io::Error) -> Stop {
+        Stop::File(format!("a temporary file in {}", shown::path(self.folder.as_os_str().as_bytes())), e.to_string())
+    }
+
+    /// Moves what is held to the file.
+    fn spill(&mut self) -> io::Result<()> {
+        if self.file.is_none() {
+            let (file, path) = temporary(&self.folder)?;
+            fs::remove_file(path)?;
+            self.file = Some(file);
+        }
+        self.file.iter_mut().try_for_each(|file| file.write_all(&self.held))?;
+        self.held.clear();
+        Ok(())
     }
 
     fn copied(self, to: &mut impl Write) -> io::Result<()> {
-        let mut file = self.0.into_inner().map_err(io::IntoInnerError::into_error)?;
-        file.rewind()?;
-        io::copy(&mut file, to).map(|_| ())
+        if let Some(mut file) = self.file {
+            file.rewind()?;
+            io::copy(&mut file, to)?;
+        }
+        to.write_all(&self.held)
     }
 }
 
 impl Write for Waiting {
     fn write(&mut self, bytes: &[u8]) -> io::Result<usize> {
-        self.0.write(bytes)
+        if self.held.len() + bytes.len() > MOST_HELD {
+            self.spill()?;
+        }
+        self.held.extend_from_slice(bytes);
+        Ok(bytes.len())
     }
 
     fn flush(&mut self) -> io::Result<()> {
-        self.0.flush()
+        Ok(())
     }
 }
 

@@ -1,14 +1,11 @@
-//! Lines: the walls of crossings, and the crossings of a drawing.
+//! Lines: the walls of crossings.
 
 use crate::answer::Answer;
 use crate::asked::Asked;
-use crate::check::directions;
-use crate::drawing::{self, Crossed, Drawing};
 use crate::edited;
 use crate::files::{Files, Source};
 use crate::lists::{self, List, Shapes};
 use crate::page::unused;
-use crate::shown;
 use crate::stop::{say, Stop};
 use crate::wall_table::{WallTable, Wanted};
 use crate::words;
@@ -101,29 +98,4 @@ pub fn walls(asked: &Asked) -> Result<Answer, Stop> {
     walls.iter().for_each(|wall| table.put(&mut text, wall, None));
     let said = if wanted.summary { table.summary(lines.count(), "") } else { String::new() };
     Ok(Answer::text(text).but(table.status(), said))
-}
-
-pub fn cross(asked: &Asked) -> Result<Answer, Stop> {
-    let (shapes, lines) = (asked.file(0), asked.file(1));
-    let (shapes_text, lines_text) = (shapes.text()?, lines.text()?);
-    let drawing = Drawing::of(&shapes_text).map_err(|wrong| shapes.wrong(wrong))?;
-    let on = drawing::lines(&lines_text).map_err(|wrong| lines.wrong(wrong))?;
-    let crossed = drawing.crossed(&on, asked.has("--starts")).map_err(|fault| fault.stop(shapes, lines))?;
-    directions::say_lengths(&on, lines);
-    if !asked.has("--starts") {
-        say_starts(&crossed, lines);
-    }
-    Ok(Answer::text(crossed.text))
-}
-
-/// Says that lines start in shapes: without their starts what lies there would be air.
-fn say_starts(crossed: &Crossed, lines: Source) {
-    let Some((line, label)) = &crossed.inside else { return };
-    let label = shown::quoted(label);
-    let others = match crossed.inside_lines {
-        1 => String::new(),
-        many => format!(", and {many} lines in all start in shapes"),
-    };
-    let why = "'walls' needs what 'cross --starts' gives, by its --starts; 'check' uses it by itself";
-    say(&format!("wallcheck: {}: line {line} starts in {label}{others}: {why}\n", lines.shown()));
 }

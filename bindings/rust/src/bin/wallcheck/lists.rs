@@ -4,37 +4,71 @@ use crate::csv::{self, Heading};
 use crate::faults::Faults;
 use crate::shown;
 use kressedach::{Crossing, Start};
-use std::collections::HashMap;
-use std::hash::{BuildHasherDefault, Hasher};
 use std::str::FromStr;
 
 /// The number that stands for a name the sheet does not have: no sheet has so many names, so the library refuses it in its turn.
 const NO_SHAPE: u16 = u16::MAX;
 
-/// Names of at most 32 letters, 256 of them at most: what is mixed quickly is looked up quickly, and no choice of names makes it slow.
-#[derive(Default)]
-struct Mixed(u64);
-
-impl Hasher for Mixed {
-    fn write(&mut self, letters: &[u8]) {
-        for eight in letters.chunks(8) {
-            let number = eight.iter().fold(0, |number, letter| number << 8 | u64::from(*letter));
-            self.0 = (self.0 ^ number).wrapping_mul(0x9E37_79B9_7F4A_7C15).rotate_left(29);
-        }
-    }
-
-    fn finish(&self) -> u64 {
-        self.0.wrapping_mul(0x9E37_79B9_7F4A_7C15)
-    }
+/// The numbers of a sheet's names. A table has each at a place that its letters are mixed into, or at the next one that is free.
+pub struct Shapes<'a> {
+    names: Vec<&'a str>,
+    table: Vec<Slot>,
 }
 
-/// The numbers of a sheet's names.
-pub struct Shapes<'a>(HashMap<&'a str, u16, BuildHasherDefault<Mixed>>);
+/// A name in the table: its letters mixed, how many they are, and its number.
+#[derive(Clone, Copy)]
+struct Slot {
+    mixed: u64,
+    letters: usize,
+    number: u16,
+}
 
 impl<'a> Shapes<'a> {
     pub fn of(names: &[&'a str]) -> Shapes<'a> {
-        Shapes(names.iter().copied().zip(0..).collect())
+        let free = Slot { mixed: 0, letters: 0, number: NO_SHAPE };
+        // at most a quarter is taken, and there are 256 names at most, so that no choice of them makes it slow
+        let mut shapes = Shapes { names: names.to_vec(), table: vec![free; (4 * names.len()).next_power_of_two()] };
+        for (number, name) in (0..).zip(names) {
+            let (at, mixed) = shapes.place(name);
+            shapes.table[at] = Slot { mixed, letters: name.len(), number };
+        }
+        shapes
     }
+
+    /// The number of a name; 65535 where no shape has it.
+    fn number(&self, name: &str) -> u16 {
+        self.table[self.place(name).0].number
+    }
+
+    /// Where a name stands, or would, and its letters mixed.
+    #[inline]
+    fn place(&self, name: &str) -> (usize, u64) {
+        let (mixed, last) = (mixed(name.as_bytes()), self.table.len() - 1);
+        // fewer than eight letters are one number, and mixing it loses nothing
+        let is_it = |slot: &Slot| {
+            slot.mixed == mixed && slot.letters == name.len() && (name.len() < 8 || self.names[usize::from(slot.number)] == name)
+        };
+        let mut at = mixed as usize & last;
+        while self.table[at].number != NO_SHAPE && !is_it(&self.table[at]) {
+            at = (at + 1) & last;
+        }
+        (at, mixed)
+    }
+}
+
+/// All letters in one number, eight at a time.
+fn mixed(letters: &[u8]) -> u64 {
+    let mix = |mixed: u64, number: u64| (mixed ^ number).wrapping_mul(0x9E37_79B9_7F4A_7C15).rotate_left(29);
+    let (mut all, mut rest) = (0, letters);
+    while let Some((eight, after)) = rest.split_first_chunk() {
+        (all, rest) = (mix(all, u64::from_le_bytes(*eight)), after);
+    }
+    // of what is left the first and the last four, some of them twice; or all, where they are fewer
+    let left = match (rest.first_chunk(), rest.last_chunk()) {
+        (Some(first), Some(last)) => u64::from(u32::from_le_bytes(*first)) << 32 | u64::from(u32::from_le_bytes(*last)),
+        _ => rest.iter().fold(0, |number, letter| number << 8 | u64::from(*letter)),
+    };
+    mix(all, left)
 }
 
 /// More words are said of no list.
@@ -113,7 +147,7 @@ fn list<'a, T, const N: usize>(
     rows.each(&heading, |_, fields| {
         let text = fields[shape].as_ref();
         let shape = match by_name {
-            true => shapes.0.get(text).copied().unwrap_or(NO_SHAPE),
+            true => shapes.number(text),
             false => number(text, "shape").map_err(|wrong| format!("{wrong}; names stand below the heading 'name'"))?,
         };
         let entry = entry(places.map(|at| fields[at].as_ref()), shape)?;
@@ -152,14 +186,39 @@ fn due(columns: &[&str]) -> String {
     format!("{} or {}", with("name"), with("shape"))
 }
 
+#[inline]
 pub fn number<T: FromStr>(text: &str, column: &str) -> Result<T, String> {
-    text.parse().map_err(|_| {
-        let range = match column {
-            "foundry" => "0 to 255",
-            "line" => "0 to 4294967295",
-            "position" | "start" | "end" => "-2147483648 to 2147483647",
-            _ => "0 to 65535",
-        };
-        format!("{column} {} is no whole number from {range}", shown::quoted(text))
-    })
+    text.parse().map_err(|_| no_number(text, column))
+}
+
+#[cold]
+fn no_number(text: &str, column: &str) -> String {
+    let range = match column {
+        "foundry" => "0 to 255",
+        "line" => "0 to 4294967295",
+        "position" | "start" | "end" => "-2147483648 to 2147483647",
+        _ => "0 to 65535",
+    };
+    format!("{column} {} is no whole number from {range}", shown::quoted(text))
+}
+
+#[cfg(test)]
+mod tests {
+    use super::*;
+
+    /// Names of every length, many that differ in one letter alone, and words that are no name.
+    #[test]
+    fn numbers_of_names() {
+        let longest = "abcdefghijklmnopqrstuvwxyzABCDEF";
+        let cut = (1..=32).map(|letters| longest[..letters].to_string());
+        let changed = (0..32).map(|at| format!("{}{}{}", &longest[..at], "_", &longest[at + 1..]));
+        let repeated = (1..=32).map(|letters| "a".repeat(letters)).skip(1);
+        let all: Vec<String> = cut.chain(changed).chain(repeated).chain((0..150).map(|k| format!("rib{k:03}"))).collect();
+        let (names, others): (Vec<&str>, Vec<&str>) =
+            (all.iter().step_by(2).map(|name| &name[..]).collect(), all.iter().skip(1).step_by(2).map(|name| &name[..]).collect());
+        let shapes = Shapes::of(&names);
+        names.iter().zip(0..).for_each(|(name, number)| assert_eq!(shapes.number(name), number, "{name}"));
+        others.iter().chain(&[""]).for_each(|name| assert_eq!(shapes.number(name), NO_SHAPE, "{name}"));
+        assert_eq!(Shapes::of(&[]).number("a"), NO_SHAPE);
+    }
 }

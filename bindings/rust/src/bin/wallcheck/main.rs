@@ -8,6 +8,7 @@ mod beside;
 mod check;
 mod closed;
 mod completions;
+mod crossing;
 mod csv;
 mod drawing;
 mod edited;

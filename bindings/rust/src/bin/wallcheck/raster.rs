@@ -37,8 +37,8 @@ const MOST_LINES: i64 = 1 << 32;
 pub fn raster(asked: &Asked) -> Result<Answer, Stop> {
     let [axis, corners, pitch] = [0, 1, 2].map(|place| String::from_utf8_lossy(asked.words()[place]));
     let raster = Raster::of(&axis, &corners, &pitch).map_err(Stop::Usage)?;
-    let mut waiting = Waiting::begin(asked.output())?;
-    raster.write(&mut waiting).map_err(|e| Stop::File("a temporary file".into(), e.to_string()))?;
+    let mut waiting = Waiting::begin(asked.output());
+    raster.write(&mut waiting).map_err(|e| waiting.wrong(e))?;
     Ok(Answer::waited(waiting))
 }
 

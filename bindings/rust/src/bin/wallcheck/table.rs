@@ -3,7 +3,7 @@
 use crate::answer::Answer;
 use crate::asked::Asked;
 use crate::stop::Stop;
-use crate::{check, completions, edits, help, judging, line_jobs, page_jobs, raster, sheet_jobs, toggle_jobs};
+use crate::{check, completions, crossing, edits, help, judging, line_jobs, page_jobs, raster, sheet_jobs, toggle_jobs};
 
 /// A command.
 pub struct Command {
@@ -66,7 +66,7 @@ pub static COMMANDS: &[Command] = &[
         "whether another ray caster's wall list is right; if not, where, and what was expected",
         judging::judge,
     ),
-    command("cross", &["SHAPES", "LINES"], "the crossings of a drawing's shapes with lines, as CROSSINGS for walls", line_jobs::cross),
+    command("cross", &["SHAPES", "LINES"], "the crossings of a drawing's shapes with lines, as CROSSINGS for walls", crossing::cross),
     command("read", &["SHEET"], "how many names and leaves, and where the formula stands", sheet_jobs::read),
     command("list", &["SHEET"], "the nodes of the contracted tree", sheet_jobs::list),
     command("run", &["SHEET", "TOGGLES"], "a point goes into and out of shapes, one after the other: is it in the solid?", edits::run),

@@ -1,8 +1,6 @@
 //! The length of a line's direction: positions are micrometres where it is 1.
 
 use crate::drawing::Line;
-use crate::files::Source;
-use crate::stop::say;
 
 /// By how much a length may differ from 1.
 const TOLERANCE: f64 = 1e-6;
@@ -59,18 +57,32 @@ impl Lengths {
     }
 }
 
-/// Says where directions of these lines have another length.
-pub fn say_lengths(lines: &[Line], source: Source) {
-    let other = |line: &&Line| length(line.probe.direction).is_some_and(|length| !is_one(length));
-    let mut others = lines.iter().filter(other);
-    if let Some(first) = others.next() {
-        let more = match others.count() {
-            0 => String::new(),
-            more => format!(" (and {more} rows more)"),
-        };
-        let length = length(first.probe.direction).unwrap_or_default();
-        let words = format!("row {}: the direction has length {length}, and not 1{more}: positions are not micrometres", first.row);
-        say(&format!("wallcheck: {}: {words}\n", source.shown()));
+/// The directions of another length, where none is asked for.
+#[derive(Default)]
+pub struct Others {
+    /// The direction of the line before, as most lines have it too, and its length where that is another.
+    last: ([f64; 3], Option<f64>),
+    first: Option<(usize, f64)>,
+    more: u64,
+}
+
+impl Others {
+    pub fn look_at(&mut self, line: &Line) {
+        let direction = line.probe.direction;
+        if direction != self.last.0 {
+            self.last = (direction, length(direction).filter(|length| !is_one(*length)));
+        }
+        match self.last.1 {
+            Some(length) if self.first.is_none() => self.first = Some((line.row, length)),
+            other => self.more += u64::from(other.is_some()),
+        }
+    }
+
+    /// Where there are some, if any.
+    pub fn said(&self) -> Option<String> {
+        let (row, length) = self.first?;
+        let more = if self.more == 0 { String::new() } else { format!(" (and {} rows more)", self.more) };
+        Some(format!("row {row}: the direction has length {length}, and not 1{more}: positions are not micrometres"))
     }
 }
 

@@ -1,5 +1,6 @@
 //! From a drawing to its walls in one command, in which no fittings sheet, shape, start or length is forgotten without a word.
 
+pub mod blocks;
 pub mod directions;
 mod drawn;
 mod faces;
@@ -7,7 +8,7 @@ mod given;
 mod pieces;
 mod progress;
 mod run;
-mod solids;
+pub mod solids;
 
 use crate::answer::{Answer, Waiting};
 use crate::asked::Asked;
@@ -15,6 +16,7 @@ use crate::drawing::Drawing;
 use crate::page::unused;
 use crate::stop::{say, Stop};
 use crate::wall_table::Wanted;
+use blocks::Blocks;
 use directions::Lengths;
 use given::Given;
 use run::{Judged, Run};
@@ -32,12 +34,13 @@ pub fn check(asked: &Asked) -> Result<Answer, Stop> {
     for remark in drawn::remarks(&drawing, &numbers, &names, &formula) {
         say(&format!("wallcheck: {}: {remark}\n", shapes.shown()));
     }
-    let (solids, never) = (Solids::of(&drawing, &numbers, names.len()), unused(&formula, names.len()));
+    let solids = Solids::of(&drawing, numbers.iter().map(|number| usize::from(*number)), names.len());
+    let never = unused(&formula, names.len());
     let used = solids.plain().into_iter().filter(|(name, _)| !never.contains(&usize::from(*name))).collect();
     let judged = Judged { files: &files, names: &names, solids, used };
     let lengths = Lengths::of(asked.has("--normalise"));
-    let mut run = Run::of(&judged, wanted, lengths, (shapes, lines), Waiting::begin(asked.output())?);
-    run.all()?;
+    let mut run = Run::of(&judged, wanted, lengths, (shapes, lines), Waiting::begin(asked.output()));
+    Blocks::of(lines)?.give(names.len(), &mut run)?;
     let (waiting, status, said) = run.end()?;
     Ok(Answer::waited(waiting).but(status, said))
 }

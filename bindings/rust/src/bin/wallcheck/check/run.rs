@@ -1,21 +1,16 @@
 //! Lines in blocks: each is crossed, classified and written, and nothing is kept of it but what a summary counts.
 
+use super::blocks::Takes;
 use super::directions::Lengths;
 use super::faces::face;
-use super::pieces::Pieces;
-use super::progress::Progress;
 use super::solids::{Block, Solids};
 use crate::answer::Waiting;
-use crate::drawing::{Line, LineReader};
-use crate::faults::Faults;
+use crate::drawing::Line;
 use crate::files::{Files, Source};
 use crate::stop::Stop;
 use crate::wall_table::{WallTable, Wanted};
 use kressedach::{classify_into, Shape, Wall, WallLists};
 use std::io::Write;
-
-/// So many start bytes of a block: few enough for a processor's cache, and more than a line has.
-const MOST_BYTES: usize = 1 << 17;
 
 /// By what lines are judged.
 pub struct Judged<'a> {
@@ -40,6 +35,29 @@ pub struct Run<'a> {
     text: Vec<u8>,
 }
 
+impl Takes for Run<'_> {
+    fn judge(&mut self, line: &mut Line) -> Result<(), String> {
+        self.lengths.judge(line)
+    }
+
+    /// The walls of a block of lines, written.
+    fn take(&mut self, lines: &[Line]) -> Result<(), Stop> {
+        self.by.solids.cross(lines, &mut self.block).map_err(|fault| fault.stop(self.shapes, self.lines))?;
+        let walls = self.walls(lines)?;
+        for wall in walls {
+            let line = &lines[wall.line as usize];
+            self.table.put(&mut self.text, &Wall { line: line.number, ..wall }, Some(&line.probe));
+        }
+        self.seen.lines += lines.len() as u64;
+        if self.wanted.summary {
+            self.look_at(lines);
+        }
+        self.waiting.write_all(&self.text).map_err(|e| self.waiting.wrong(e))?;
+        self.text.clear();
+        Ok(())
+    }
+}
+
 /// What was seen of lines.
 #[derive(Default)]
 struct Seen {
@@ -61,50 +79,9 @@ impl<'a> Run<'a> {
         Run { by, wanted, lengths, shapes, lines, waiting, table, seen: Seen::default(), block: Block::default(), text }
     }
 
-    /// All lines of the file, piece by piece. Where a row is wrong no more lines are judged, and the others are looked at for more of it.
-    pub fn all(&mut self) -> Result<(), Stop> {
-        let (mut pieces, mut progress, mut faults) = (Pieces::of(self.lines)?, Progress::begin(), Faults::default());
-        let mut reader = LineReader::default();
-        let in_a_block = (MOST_BYTES / self.by.names.len().max(1)).max(1);
-        while let Some(piece) = pieces.next()? {
-            let lines = match reader.read(piece.before, &piece.text, |line| self.lengths.judge(line)) {
-                Ok(lines) => lines,
-                Err(wrong) => {
-                    let good_heading = LineReader::default().read(0, pieces.heading(), |_| Ok(())).is_ok();
-                    match faults.add_all(wrong) && good_heading {
-                        true => continue,
-                        false => break,
-                    }
-                }
-            };
-            for block in lines.chunks(in_a_block).take_while(|_| faults.is_empty()) {
-                self.judged(block)?;
-                progress.at(self.seen.lines);
-            }
-        }
-        faults.or(()).map_err(|faults| self.lines.wrong(faults))
-    }
-
-    /// The walls of a block of lines, written.
-    fn judged(&mut self, lines: &[Line]) -> Result<(), Stop> {
-        self.by.solids.cross(lines, &mut self.block).map_err(|fault| fault.stop(self.shapes, self.lines))?;
-        let walls = self.walls(lines)?;
-        for wall in walls {
-            let line = &lines[wall.line as usize];
-            self.table.put(&mut self.text, &Wall { line: line.number, ..wall }, Some(&line.probe));
-        }
-        self.seen.lines += lines.len() as u64;
-        if self.wanted.summary {
-            self.look_at(lines);
-        }
-        self.waiting.write_all(&self.text).map_err(|e| Stop::File("a temporary file".into(), e.to_string()))?;
-        self.text.clear();
-        Ok(())
-    }
-
     /// The walls of the block that was crossed, by the lines' places in it.
     fn walls(&self, lines: &[Line]) -> Result<Vec<Wall>, Stop> {
-        let (block, room) = (&self.block, self.block.lines.len() / 2 + lines.len());
+        let (block, room) = (&self.block, self.block.lines().len() / 2 + lines.len());
         let mut lists = WallLists {
             lines: &mut vec![0; room],
             starts: &mut vec![0; room],
@@ -112,7 +89,7 @@ impl<'a> Run<'a> {
             start_shapes: &mut vec![0; room],
             end_shapes: &mut vec![0; room],
         };
-        let classified = classify_into(self.by.files.sheets(), &block.rows, &block.lines, &block.positions, &block.shapes, &mut lists);
+        let classified = classify_into(self.by.files.sheets(), block.rows(), block.lines(), block.positions(), block.shapes(), &mut lists);
         let count = classified.map_err(|refusal| self.by.files.refused_or(self.lines, refusal, None))?;
         let wall = |k: usize| Wall {
             line: lists.lines[k],
@@ -138,7 +115,7 @@ impl<'a> Run<'a> {
 
     /// What is written, the exit status, and what is said on standard error.
     pub fn end(mut self) -> Result<(Waiting, u8, String), Stop> {
-        self.waiting.write_all(&self.text).map_err(|e| Stop::File("a temporary file".into(), e.to_string()))?;
+        self.waiting.write_all(&self.text).map_err(|e| self.waiting.wrong(e))?;
         let (seen, mut said) = (&self.seen, String::new());
         if let Some(divided) = self.lengths.said() {
             said += &format!("wallcheck: {}: {divided}\n", self.lines.shown());

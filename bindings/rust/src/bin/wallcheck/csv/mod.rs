@@ -68,21 +68,41 @@ pub fn quoted(field: &str) -> Cow<'_, str> {
     field.into()
 }
 
-/// Puts a number behind a text, two digits at a time.
+/// Puts a number behind a text. Within its caller, so that the text's length does not go through memory from one number to the next.
+#[inline]
 pub fn put(text: &mut Vec<u8>, number: i64) {
-    let (mut digits, mut at, mut rest) = ([b'0'; 20], 20, number.unsigned_abs());
-    while rest > 9 {
-        let two = (rest % 100) as u8;
-        (at, rest) = (at - 2, rest / 100);
-        digits[at] += two / 10;
-        digits[at + 1] += two % 10;
-    }
-    if rest > 0 || at == 20 {
-        at -= 1;
-        digits[at] += rest as u8;
-    }
     if number < 0 {
         text.push(b'-');
     }
-    text.extend_from_slice(&digits[at..]);
+    let size = number.unsigned_abs();
+    if size >= EIGHT {
+        return put_long(text, size);
+    }
+    let digits = eight_digits(size);
+    let leading = (digits.trailing_zeros() / 8).min(7);
+    // of a size that is known, so that no copy has to ask for it; what is too much is cut off
+    text.extend_from_slice(&((digits | ZEROS) >> (8 * leading)).to_le_bytes());
+    text.truncate(text.len() - leading as usize);
+}
+
+/// The least number of more than eight digits.
+const EIGHT: u64 = 100_000_000;
+
+#[cold]
+fn put_long(text: &mut Vec<u8>, size: u64) {
+    put(text, (size / EIGHT) as i64);
+    text.extend_from_slice(&(eight_digits(size % EIGHT) | ZEROS).to_le_bytes());
+}
+
+/// Eight zeros as they are written.
+const ZEROS: u64 = u64::from_le_bytes(*b"00000000");
+
+/// The digits of a number below 100,000,000, a byte each, the first one lowest: all are worked out at once, by halves.
+#[inline]
+fn eight_digits(number: u64) -> u64 {
+    let fours = number / 10_000 | number % 10_000 << 32;
+    let hundreds = fours * 10_486 >> 20 & 0x0000_007F_0000_007F;
+    let twos = hundreds | (fours - 100 * hundreds) << 16;
+    let tens = twos * 103 >> 10 & 0x000F_000F_000F_000F;
+    tens | (twos - 10 * tens) << 8
 }

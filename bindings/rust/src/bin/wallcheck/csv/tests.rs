@@ -69,7 +69,11 @@ fn there_and_back() {
 
 #[test]
 fn numbers() {
-    for number in [0, 7, -1, 10, 4294967295, i64::from(i32::MIN), -100, i64::MAX, i64::MIN] {
+    // every number of four digits, and around every power of ten; these are what eight digits at once are made of
+    let tens = (0..19).map(|power| 10i64.pow(power)).flat_map(|ten| [ten - 1, ten, ten + 1, -ten, 9 * ten]);
+    let fours = (0..10_000).flat_map(|four| [four, 10_000 * four, 12_340_000 + four]);
+    let ends = [0, 7, -1, 4294967295, i64::from(i32::MIN), -100, i64::MAX, i64::MIN];
+    for number in ends.into_iter().chain(tens).chain(fours) {
         let mut text = b"a".to_vec();
         put(&mut text, number);
         assert_eq!(text, format!("a{number}").into_bytes());

@@ -16,16 +16,12 @@ pub struct Line {
     pub origin: [Option<i64>; 3],
 }
 
-/// Reads the lines of a file, all at once or part by part.
+/// Reads the lines of a file, part by part.
 #[derive(Default)]
 pub struct LineReader {
     /// The number of the line before.
     last: Option<u32>,
     decimals: Decimals,
-}
-
-pub fn lines(text: &str) -> Result<Vec<Line>, Faults> {
-    LineReader::default().read(0, text, |_| Ok(()))
 }
 
 impl LineReader {
@@ -50,16 +46,10 @@ impl LineReader {
                 return Err(format!("line {number} comes after line {before}"));
             }
             let mut numbers = Numbers { row, separator: heading.separator, decimals: &mut self.decimals };
-            let mut six = [0.0; 6];
-            for (at, real) in (1..).zip(&mut six) {
-                *real = numbers.real(LINE[at], field(at))?;
-            }
-            let mut origin = [None; 3];
-            for (at, whole) in (1..).zip(&mut origin) {
-                *whole = numbers.micrometres(LINE[at], field(at))?;
-            }
-            let [x, y, z, dx, dy, dz] = six;
-            let mut line = Line { number, row, probe: Probe { origin: [x, y, z], direction: [dx, dy, dz] }, origin };
+            let mut both = |at: usize| numbers.real_and_micrometres(LINE[at], field(at));
+            let [(x, a), (y, b), (z, c)] = [both(1)?, both(2)?, both(3)?];
+            let [(dx, _), (dy, _), (dz, _)] = [both(4)?, both(5)?, both(6)?];
+            let mut line = Line { number, row, probe: Probe { origin: [x, y, z], direction: [dx, dy, dz] }, origin: [a, b, c] };
             judged(&mut line)?;
             lines.push(line);
             Ok(())

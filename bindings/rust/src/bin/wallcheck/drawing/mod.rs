@@ -1,10 +1,10 @@
-//! Shapes and lines of a drawing from CSV, and what the lines have of the shapes.
+//! Shapes and lines of a drawing from CSV.
 
 mod lines;
 mod numbers;
 mod refused;
 
-pub use lines::{lines, Line, LineReader, LINE};
+pub use lines::{Line, LineReader, LINE};
 pub use numbers::micrometres;
 pub use refused::Fault;
 
@@ -31,20 +31,6 @@ pub struct Drawing {
     pub labels: Vec<String>,
     pub rows: Vec<usize>,
     pub solids: Vec<Solid>,
-}
-
-/// What a line has of the shapes, by their index: those in which it starts, and its crossings by rising position, then by rising index.
-#[derive(Default)]
-struct OnLine {
-    inside: Vec<usize>,
-    crossings: Vec<(i32, usize)>,
-}
-
-/// What lines have of a drawing's shapes, as CSV; the first line that starts in a shape and that shape, and how many lines do.
-pub struct Crossed {
-    pub text: Vec<u8>,
-    pub inside: Option<(u32, String)>,
-    pub inside_lines: usize,
 }
 
 /// A row of a drawing: its fields by their column; a column that is not there is empty.
@@ -90,62 +76,6 @@ impl Drawing {
             Ok(())
         })?;
         Ok(drawing)
-    }
-
-    /// What the lines have of the shapes, as CSV: the crossings, or the shapes in which a line starts.
-    pub fn crossed(&self, lines: &[Line], starts: bool) -> Result<Crossed, Fault> {
-        let heading = if starts { format!("line,{}\n", self.by) } else { format!("line,position,{}\n", self.by) };
-        let mut text = heading.into_bytes();
-        let (mut first, mut inside_lines) = (None, 0);
-        for line in lines {
-            let OnLine { inside, crossings } = self.on(line)?;
-            first = first.or(inside.first().map(|shape| (line.number, self.labels[*shape].clone())));
-            inside_lines += usize::from(!inside.is_empty());
-            let inside = inside.into_iter().filter(|_| starts).map(|shape| (None, shape));
-            let crossings = crossings.into_iter().filter(|_| !starts).map(|(position, shape)| (Some(position), shape));
-            for (position, shape) in inside.chain(crossings) {
-                csv::put(&mut text, line.number.into());
-                text.push(b',');
-                if let Some(position) = position {
-                    csv::put(&mut text, position.into());
-                    text.push(b',');
-                }
-                text.extend_from_slice(self.label(shape).as_bytes());
-                text.push(b'\n');
-            }
-        }
-        Ok(Crossed { text, inside: first, inside_lines })
-    }
-
-    fn label(&self, shape: usize) -> Cow<'_, str> {
-        csv::quoted(&self.labels[shape])
-    }
-
-    fn on(&self, line: &Line) -> Result<OnLine, Fault> {
-        let (mut plain, mut balls) = ((vec![], vec![]), (vec![], vec![]));
-        for (shape, solid) in self.solids.iter().enumerate() {
-            match solid {
-                Solid::Plain(solid) => {
-                    plain.0.push(*solid);
-                    plain.1.push(shape);
-                }
-                Solid::Ball { centre, radius } => {
-                    balls.0.push(line.ball(*centre, *radius).map_err(Fault::Lines)?);
-                    balls.1.push(shape);
-                }
-            }
-        }
-        let answers = [(kressedach::cross(line.probe, &plain.0), plain.1), (kressedach::cross_balls(&balls.0), balls.1)];
-        let mut on = OnLine::default();
-        for (answer, shapes) in answers {
-            let crossed = answer.map_err(|refusal| self.fault(line, refusal, &shapes))?;
-            on.inside.extend(shapes.iter().zip(&crossed.starts).filter(|(_, start)| **start == 1).map(|(shape, _)| *shape));
-            let crossings = crossed.positions.iter().zip(&crossed.shapes);
-            on.crossings.extend(crossings.map(|(position, shape)| (*position, shapes[usize::from(*shape)])));
-        }
-        on.inside.sort();
-        on.crossings.sort();
-        Ok(on)
     }
 }
 

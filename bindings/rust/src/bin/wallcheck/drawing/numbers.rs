@@ -17,7 +17,7 @@ pub struct Numbers<'a> {
 
 impl Numbers<'_> {
     pub fn real(&mut self, column: &str, text: &str) -> Result<f64, String> {
-        self.plain(column, text)?.parse().map_err(|_| format!("{column} {} is no number", shown::quoted(text)))
+        self.real_and_micrometres(column, text).map(|(real, _)| real)
     }
 
     /// Whole micrometres, or none.
@@ -25,11 +25,22 @@ impl Numbers<'_> {
         Ok(micrometres(&self.plain(column, text)?))
     }
 
+    /// Both of them.
+    pub fn real_and_micrometres(&mut self, column: &str, text: &str) -> Result<(f64, Option<i64>), String> {
+        let plain = self.plain(column, text)?;
+        if let Some(decimal) = Decimal::of(&plain) {
+            return Ok((decimal.real(), decimal.micrometres()));
+        }
+        let real = plain.parse().map_err(|_| format!("{column} {} is no number", shown::quoted(text)))?;
+        Ok((real, micrometres(&plain)))
+    }
+
     /// A number with a decimal point.
     fn plain<'t>(&mut self, column: &str, text: &'t str) -> Result<Cow<'t, str>, String> {
-        let Some(mark) = text.chars().find(|letter| ",.".contains(*letter)).filter(|_| self.separator == b';') else {
+        if self.separator != b';' {
             return Ok(text.into());
-        };
+        }
+        let Some(mark) = text.chars().find(|letter| ",.".contains(*letter)) else { return Ok(text.into()) };
         let (first, row) = *self.decimals.0.get_or_insert((mark, self.row));
         match first == mark {
             true => Ok(text.replace(',', ".").into()),
@@ -50,6 +61,72 @@ fn called(mark: char) -> &'static str {
         "point"
     }
 }
+
+/// A number of few digits, as nearly all are: its sign, its digits as one whole number, and how many of them stand behind the point.
+struct Decimal {
+    negative: bool,
+    digits: u64,
+    behind: usize,
+}
+
+impl Decimal {
+    /// The most digits that are surely below 2^53, so that a float holds them as they are.
+    const MOST: usize = 15;
+
+    fn of(text: &str) -> Option<Decimal> {
+        let (negative, rest) = match text.as_bytes() {
+            [b'-', rest @ ..] => (true, rest),
+            [b'+', rest @ ..] => (false, rest),
+            rest => (false, rest),
+        };
+        let (mut digits, mut point) = (0, None);
+        for (at, letter) in rest.iter().enumerate() {
+            match letter {
+                b'0'..=b'9' => digits = 10 * digits + u64::from(letter - b'0'),
+                b'.' if point.is_none() => point = Some(at),
+                _ => return None,
+            }
+            if at > Decimal::MOST {
+                return None;
+            }
+        }
+        let count = rest.len() - usize::from(point.is_some());
+        let behind = point.map_or(0, |at| rest.len() - at - 1);
+        (1..=Decimal::MOST).contains(&count).then_some(Decimal { negative, digits, behind })
+    }
+
+    /// The nearest float: both numbers are exact, and the quotient is rounded once.
+    fn real(&self) -> f64 {
+        let size = self.digits as f64 / TENS[self.behind] as f64;
+        if self.negative {
+            -size
+        } else {
+            size
+        }
+    }
+
+    fn micrometres(&self) -> Option<i64> {
+        let size = match self.behind {
+            few @ 0..=3 => self.digits * TENS[3 - few],
+            more => {
+                let past = TENS[more - 3];
+                (self.digits % past == 0).then_some(self.digits / past)?
+            }
+        };
+        Some(if self.negative { -(size as i64) } else { size as i64 })
+    }
+}
+
+/// The powers of ten.
+const TENS: [u64; Decimal::MOST + 1] = {
+    let mut tens = [1; Decimal::MOST + 1];
+    let mut k = 1;
+    while k < tens.len() {
+        tens[k] = 10 * tens[k - 1];
+        k += 1;
+    }
+    tens
+};
 
 /// Millimetres that are whole micrometres: past the third decimal stand zeros alone.
 pub fn micrometres(text: &str) -> Option<i64> {
@@ -82,6 +159,28 @@ mod tests {
             ["", ".", "-", "1.0005", "1.00000001", "1e3", "nan", "1.2.3", "1.000.", "--1", "9999999999999999999", "1,5", "0x1", "1.é"]
         {
             assert_eq!(micrometres(text), None, "{text}");
+        }
+    }
+
+    /// Numbers of few digits are those that Rust and the text itself give; others are for these.
+    #[test]
+    fn few_digits() {
+        let both = |text: &str| Numbers { row: 2, separator: b',', decimals: &mut Decimals::default() }.real_and_micrometres("x", text);
+        let parts = ["", "0", "00", "1", "20", "999", "000000000000001", "123456789012345", "1234567890123456", "9007199254740993"];
+        for (sign, whole) in ["", "-", "+", "--"].iter().flat_map(|sign| parts.map(|whole| (*sign, whole))) {
+            let pointed = parts.map(|part| format!("{sign}{whole}.{part}"));
+            let scaled = parts.map(|part| format!("{sign}{whole}{part}e5"));
+            for text in pointed.into_iter().chain(scaled).chain([format!("{sign}{whole}")]) {
+                let due = text.parse::<f64>().map(|real| (real.to_bits(), micrometres(&text)));
+                assert_eq!(both(&text).ok().map(|(real, whole)| (real.to_bits(), whole)), due.ok(), "{text}");
+            }
+        }
+        for k in -100_000..100_000 {
+            let text = format!("{:.3}", f64::from(k) / 1000.0);
+            assert_eq!(both(&text), Ok((text.parse().unwrap(), micrometres(&text))), "{text}");
+        }
+        for text in ["inf", "nan", "1e3", ".", "1.2.3", "0x1", "1 "] {
+            assert_eq!(both(text).is_ok(), text.parse::<f64>().is_ok(), "{text}");
         }
     }
 

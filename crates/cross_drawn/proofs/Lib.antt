@@ -1,0 +1,4 @@
+pub mod ProbeLaws
+pub mod DrawnLaws
+pub mod FewLaws
+pub mod LineLaws

@@ -1,0 +1,383 @@
+// The passes over many lines, none of which is at fault: their crossings counted, and all lines written one after another.
+use cross_cuts::Row;
+use cross_kept::Axes;
+use cross_kept::Lined;
+use cross_shapes::Probe;
+ghost use mathlib.Core.Path.{_≡_};
+ghost use Prim.Native.Nat.{ℕ, _*_, _≤_};
+ghost use mathlib.Core.List.{List};
+ghost use lib.ListN.{length, replicate};
+ghost use lib.Ieee.{Float};
+ghost use Rattle.outcome.specs.Lent.{filled};
+ghost use Rattle.lines.specs.Lines.{lineLists};
+ghost use Rattle.cross_cuts.specs.Keys.{Held};
+ghost use Rattle.cross_shapes.specs.declared.Probe.{Probe};
+ghost use Rattle.cross_line.specs.Crossing.{shapeCuts};
+ghost use Rattle.cross_drawn.specs.Lent.{probesOf};
+ghost use Rattle.cross_drawn.specs.Refusing.{gives};
+ghost use Rattle.cross_drawn.specs.Drawn.{linesFrom, drawn};
+ghost use Rattle.cross_drawn.specs.Judging.{linesJudged};
+ghost use Rattle.cross_drawn.specs.Gathered.{Sound};
+ghost use Rattle.cross_columns.specs.Columns.{Columns};
+ghost use Rattle.cross_kept.specs.Keeping.{Drawing};
+ghost use Rattle.cross_pass.specs.Passing.{KeptEnds, RoomFor, Fits, LinePut, AllWritten};
+
+fn box_at(kind: u8) -> usize
+    ensures { λ r. ⌜ r ≤ 1 ⌝ }
+{
+    if kind == 255 {
+        return 1;
+    }
+    0
+}
+
+// Whether there are so many boxes that columns are sooner gone through than one box after another.
+fn enough(kinds: &[u8]) -> bool {
+    let mut boxes = 0usize;
+    let mut i = 0usize;
+    while i < kinds.len() {
+        boxes += box_at(kinds[i]);
+        i += 1;
+    }
+    3 <= boxes
+}
+
+// One line judged, and what it has of its shapes gathered over what is kept.
+fn kept_line(
+    probe: Probe,
+    kinds: &[u8],
+    numbers: &[f64],
+    axes: Axes,
+    lows: &[f64; 768],
+    highs: &[f64; 768],
+    halves: &[u32; 256],
+    lessers: &mut [u32; 1024],
+    greaters: &mut [u32; 1024],
+    bytes: &mut [u8],
+    keys: &mut [u64],
+) -> Lined
+    requires { ⌜ Drawing (now kinds) (now numbers) axes (now lows) (now highs) (now halves) (now lessers) (now greaters) ⌝ }
+    requires { ⌜ (length (now bytes) ≡ 256) × (length (now keys) ≡ 512) ⌝ }
+    ensures { λ r. ⌜ KeptEnds probe (now (kinds .entry)) (now (numbers .entry)) (now (lows .entry)) (now (highs .entry)) (now (halves .entry)) (now (lessers .exit)) (now (greaters .exit)) (now (bytes .exit)) (now (keys .exit)) r ⌝ }
+{
+    if cross_line::good_probe(probe) {
+        return cross_kept::next_line(
+            probe,
+            kinds,
+            numbers,
+            axes,
+            lows,
+            highs,
+            halves,
+            lessers,
+            greaters,
+            bytes,
+            keys,
+        );
+    }
+    Lined {
+        axes: axes,
+        row: Row::Fault(65535),
+    }
+}
+
+// Counts over the drawing's columns.
+fn count_over(
+    kinds: &[u8],
+    numbers: &[f64],
+    lines: &[f64],
+    count: usize,
+    sound: bool,
+    lows: &[f64; 768],
+    highs: &[f64; 768],
+    halves: &[u32; 256],
+) -> usize
+    requires { ⌜ (length (now kinds) ≤ 256) × (count ≡ length (probesOf (now lines))) × (count ≤ 4294967296) ⌝ }
+    requires { ⌜ linesJudged 0 (now kinds) (now numbers) (probesOf (now lines)) ≡ gives tt ⌝ }
+    requires { ⌜ Columns (now kinds) (now numbers) (length (now kinds)) (now lows) (now highs) (now halves) sound ⌝ }
+    ensures { λ r. ⌜ r ≡ length (linesFrom 0 (drawn (now (kinds .entry)) (now (numbers .entry)) (probesOf (now (lines .entry))))) ⌝ }
+{
+    let mut lessers = [0u32; 1024];
+    let mut greaters = [0u32; 1024];
+    let mut bytes = [0u8; 256];
+    let mut keys = [0u64; 512];
+    let mut axes = cross_kept::nothing_kept(sound);
+    let mut total = 0usize;
+    let mut k = 0usize;
+    while k < count {
+        let probe = cross_drawn::probe_at(lines, k);
+        let lined = kept_line(
+            probe,
+            kinds,
+            numbers,
+            axes,
+            lows,
+            highs,
+            halves,
+            &mut lessers,
+            &mut greaters,
+            &mut bytes,
+            &mut keys,
+        );
+        axes = lined.axes;
+        let row = lined.row;
+        match row {
+            Row::Fault(_) => {
+                return total;
+            }
+            Row::Count(m) => {
+                total += m;
+                k += 1;
+            }
+        }
+    }
+    total
+}
+
+// Counts one shape after another.
+fn count_few(kinds: &[u8], numbers: &[f64], lines: &[f64], count: usize) -> usize
+    requires { ⌜ (length (now kinds) ≤ 256) × (count ≡ length (probesOf (now lines))) × (count ≤ 4294967296) ⌝ }
+    requires { ⌜ linesJudged 0 (now kinds) (now numbers) (probesOf (now lines)) ≡ gives tt ⌝ }
+    ensures { λ r. ⌜ r ≡ length (linesFrom 0 (drawn (now (kinds .entry)) (now (numbers .entry)) (probesOf (now (lines .entry))))) ⌝ }
+{
+    let mut bytes = [0u8; 256];
+    let mut keys = [0u64; 512];
+    let mut total = 0usize;
+    let mut k = 0usize;
+    while k < count {
+        let probe = cross_drawn::probe_at(lines, k);
+        match cross_drawn::one_line(probe, kinds, numbers, &mut bytes, &mut keys) {
+            Row::Fault(_) => {
+                return total;
+            }
+            Row::Count(m) => {
+                total += m;
+                k += 1;
+            }
+        }
+    }
+    total
+}
+
+// How many crossings all lines have, none of which is at fault.
+pub fn count_lines(kinds: &[u8], numbers: &[f64], lines: &[f64], count: usize) -> usize
+    requires { ⌜ (length (now kinds) ≤ 256) × (count ≡ length (probesOf (now lines))) × (count ≤ 4294967296) ⌝ }
+    requires { ⌜ linesJudged 0 (now kinds) (now numbers) (probesOf (now lines)) ≡ gives tt ⌝ }
+    ensures { λ r. ⌜ r ≡ length (linesFrom 0 (drawn (now (kinds .entry)) (now (numbers .entry)) (probesOf (now (lines .entry))))) ⌝ }
+{
+    if enough(kinds) {
+        let mut lows = [0.0f64; 768];
+        let mut highs = [0.0f64; 768];
+        let mut halves = [0u32; 256];
+        let sound = cross_columns::fill_columns(kinds, numbers, &mut lows, &mut highs, &mut halves);
+        return count_over(kinds, numbers, lines, count, sound, &lows, &highs, &halves);
+    }
+    count_few(kinds, numbers, lines, count)
+}
+
+fn write_numbers(line: u32, m: usize, line_numbers: &mut [u32])
+    requires { ⌜ m ≤ length (now «line_numbers») ⌝ }
+    ensures { λ _. ⌜ now («line_numbers» .exit) ≡ filled (replicate m line) (now («line_numbers» .entry)) ⌝ }
+{
+    let mut i = 0;
+    while i < m {
+        line_numbers[i] = line;
+        i += 1;
+    }
+}
+
+// Writes line k, where its row and the crossings before it end.
+fn write_line(
+    k: usize,
+    at: usize,
+    n: usize,
+    m: usize,
+    bytes: &[u8],
+    keys: &mut [u64],
+    rows: &mut [u8],
+    line_numbers: &mut [u32],
+    positions: &mut [i32],
+    shapes: &mut [u16],
+)
+    requires { ⌜ Held (now bytes) (now keys) n m × RoomFor k at n m (lineLists (now rows) (now «line_numbers») (now positions) (now shapes)) ⌝ }
+    ensures { λ _. ⌜ ((probe : Probe) (kinds : List ℕ) (numbers : List Float) → Sound kinds numbers probe (now (bytes .entry)) (now (keys .entry)) m → n ≡ length kinds
+        → LinePut (shapeCuts probe kinds numbers) k at (n * k) (lineLists (now (rows .entry)) (now («line_numbers» .entry)) (now (positions .entry)) (now (shapes .entry))) (lineLists (now (rows .exit)) (now («line_numbers» .exit)) (now (positions .exit)) (now (shapes .exit)))) ⌝ }
+{
+    let row = n * k;
+    cross_answer::write(
+        n,
+        m,
+        bytes,
+        keys,
+        &mut rows[row..],
+        &mut positions[at..],
+        &mut shapes[at..],
+    );
+    write_numbers(k as u32, m, &mut line_numbers[at..]);
+}
+
+// Writes over the drawing's columns.
+fn write_over(
+    kinds: &[u8],
+    numbers: &[f64],
+    lines: &[f64],
+    count: usize,
+    sound: bool,
+    lows: &[f64; 768],
+    highs: &[f64; 768],
+    halves: &[u32; 256],
+    rows: &mut [u8],
+    line_numbers: &mut [u32],
+    positions: &mut [i32],
+    shapes: &mut [u16],
+) -> usize
+    requires { ⌜ (length (now kinds) ≤ 256) × (count ≡ length (probesOf (now lines))) × (count ≤ 4294967296) ⌝ }
+    requires { ⌜ linesJudged 0 (now kinds) (now numbers) (probesOf (now lines)) ≡ gives tt ⌝ }
+    requires { ⌜ Fits (drawn (now kinds) (now numbers) (probesOf (now lines))) (lineLists (now rows) (now «line_numbers») (now positions) (now shapes)) ⌝ }
+    requires { ⌜ Columns (now kinds) (now numbers) (length (now kinds)) (now lows) (now highs) (now halves) sound ⌝ }
+    ensures { λ r. ⌜ AllWritten (drawn (now (kinds .entry)) (now (numbers .entry)) (probesOf (now (lines .entry)))) (lineLists (now (rows .entry)) (now («line_numbers» .entry)) (now (positions .entry)) (now (shapes .entry))) r (lineLists (now (rows .exit)) (now («line_numbers» .exit)) (now (positions .exit)) (now (shapes .exit))) ⌝ }
+{
+    let mut lessers = [0u32; 1024];
+    let mut greaters = [0u32; 1024];
+    let mut bytes = [0u8; 256];
+    let mut keys = [0u64; 512];
+    let mut axes = cross_kept::nothing_kept(sound);
+    let mut at = 0usize;
+    let mut k = 0usize;
+    while k < count {
+        let probe = cross_drawn::probe_at(lines, k);
+        let lined = kept_line(
+            probe,
+            kinds,
+            numbers,
+            axes,
+            lows,
+            highs,
+            halves,
+            &mut lessers,
+            &mut greaters,
+            &mut bytes,
+            &mut keys,
+        );
+        axes = lined.axes;
+        let row = lined.row;
+        match row {
+            Row::Fault(_) => {
+                return at;
+            }
+            Row::Count(m) => {
+                let next = at + m;
+                write_line(
+                    k,
+                    at,
+                    kinds.len(),
+                    m,
+                    &bytes,
+                    &mut keys,
+                    rows,
+                    line_numbers,
+                    positions,
+                    shapes,
+                );
+                at = next;
+                k += 1;
+            }
+        }
+    }
+    at
+}
+
+// Writes one shape after another.
+fn write_few(
+    kinds: &[u8],
+    numbers: &[f64],
+    lines: &[f64],
+    count: usize,
+    rows: &mut [u8],
+    line_numbers: &mut [u32],
+    positions: &mut [i32],
+    shapes: &mut [u16],
+) -> usize
+    requires { ⌜ (length (now kinds) ≤ 256) × (count ≡ length (probesOf (now lines))) × (count ≤ 4294967296) ⌝ }
+    requires { ⌜ linesJudged 0 (now kinds) (now numbers) (probesOf (now lines)) ≡ gives tt ⌝ }
+    requires { ⌜ Fits (drawn (now kinds) (now numbers) (probesOf (now lines))) (lineLists (now rows) (now «line_numbers») (now positions) (now shapes)) ⌝ }
+    ensures { λ r. ⌜ AllWritten (drawn (now (kinds .entry)) (now (numbers .entry)) (probesOf (now (lines .entry)))) (lineLists (now (rows .entry)) (now («line_numbers» .entry)) (now (positions .entry)) (now (shapes .entry))) r (lineLists (now (rows .exit)) (now («line_numbers» .exit)) (now (positions .exit)) (now (shapes .exit))) ⌝ }
+{
+    let mut bytes = [0u8; 256];
+    let mut keys = [0u64; 512];
+    let mut at = 0usize;
+    let mut k = 0usize;
+    while k < count {
+        let probe = cross_drawn::probe_at(lines, k);
+        match cross_drawn::one_line(probe, kinds, numbers, &mut bytes, &mut keys) {
+            Row::Fault(_) => {
+                return at;
+            }
+            Row::Count(m) => {
+                write_line(
+                    k,
+                    at,
+                    kinds.len(),
+                    m,
+                    &bytes,
+                    &mut keys,
+                    rows,
+                    line_numbers,
+                    positions,
+                    shapes,
+                );
+                at += m;
+                k += 1;
+            }
+        }
+    }
+    at
+}
+
+// Writes all lines, none of which is at fault, and answers how many crossings they have.
+pub fn write_lines(
+    kinds: &[u8],
+    numbers: &[f64],
+    lines: &[f64],
+    count: usize,
+    rows: &mut [u8],
+    line_numbers: &mut [u32],
+    positions: &mut [i32],
+    shapes: &mut [u16],
+) -> usize
+    requires { ⌜ (length (now kinds) ≤ 256) × (count ≡ length (probesOf (now lines))) × (count ≤ 4294967296) ⌝ }
+    requires { ⌜ linesJudged 0 (now kinds) (now numbers) (probesOf (now lines)) ≡ gives tt ⌝ }
+    requires { ⌜ Fits (drawn (now kinds) (now numbers) (probesOf (now lines))) (lineLists (now rows) (now «line_numbers») (now positions) (now shapes)) ⌝ }
+    ensures { λ r. ⌜ AllWritten (drawn (now (kinds .entry)) (now (numbers .entry)) (probesOf (now (lines .entry)))) (lineLists (now (rows .entry)) (now («line_numbers» .entry)) (now (positions .entry)) (now (shapes .entry))) r (lineLists (now (rows .exit)) (now («line_numbers» .exit)) (now (positions .exit)) (now (shapes .exit))) ⌝ }
+{
+    if enough(kinds) {
+        let mut lows = [0.0f64; 768];
+        let mut highs = [0.0f64; 768];
+        let mut halves = [0u32; 256];
+        let sound = cross_columns::fill_columns(kinds, numbers, &mut lows, &mut highs, &mut halves);
+        return write_over(
+            kinds,
+            numbers,
+            lines,
+            count,
+            sound,
+            &lows,
+            &highs,
+            &halves,
+            rows,
+            line_numbers,
+            positions,
+            shapes,
+        );
+    }
+    write_few(
+        kinds,
+        numbers,
+        lines,
+        count,
+        rows,
+        line_numbers,
+        positions,
+        shapes,
+    )
+}

@@ -1,0 +1,4 @@
+pub mod Closest
+pub mod Added
+pub mod Nearly
+pub mod GivenLaws
