@@ -1,4 +1,4 @@
-/* All jobs on a bored block: Block less Bore. Prints what each answers, and ends with status 0 if all is as it should be. */
+/* All jobs on a bored block: Block less Bore. Prints what each answers, and ends with status 0 if all is as it should be. It is C and C++. */
 #include "kressedach.h"
 #include <stdio.h>
 #include <string.h>
@@ -31,6 +31,11 @@ static void expect(int holds, const char *what) {
     }
 }
 
+static void ask_version(void) {
+    printf("version: %lu\n", (unsigned long)kressedach_version());
+    expect(kressedach_version() == KRESSEDACH_VERSION, "the library is the header's");
+}
+
 static void read_sheet(void) {
     struct kressedach_read_report r;
     kressedach_read(&r, ALONE(sheet));
@@ -39,7 +44,7 @@ static void read_sheet(void) {
     expect(r.names == 2 && r.leaves == 2 && r.first == 23 && r.past == 29, "what it holds");
 
     kressedach_read(&r, false, NULL, 0, sheet, sizeof sheet - 1);
-    printf("without its last byte: refused %u at %zu\n", r.number, r.place);
+    printf("without its last byte: refused %u at %zu: %s\n", r.number, r.place, kressedach_meaning(r.number));
     expect(r.number == KRESSEDACH_ENDS_TOO_SOON && r.place == 28 && r.names == 0, "a sheet that ends too soon");
 
     kressedach_read(&r, false, NULL, 0, NULL, 0);
@@ -142,7 +147,7 @@ static const int32_t positions[] = {0, 40, 60, 100};
 static const uint16_t shapes[] = {0, 1, 1, 0};
 
 static void classify_lines(void) {
-    static const uint8_t in_air[2 * 2]; /* two lines, two shapes */
+    static const uint8_t in_air[2 * 2] = {0}; /* two lines, two shapes */
     struct kressedach_classify_report r;
     kressedach_classify(&r, ALONE(sheet), LIST(in_air), LIST(lines), LIST(positions), LIST(shapes), WALLS);
     print_walls(r.walls);
@@ -313,7 +318,7 @@ static void read_pair(void) {
 
 /* Their lists of the lines that are classified above: three entries are right, and the fourth is one too many. */
 static void judge_theirs(void) {
-    static const uint8_t in_air[2 * 2];
+    static const uint8_t in_air[2 * 2] = {0};
     static const uint32_t their_lines[] = {1, 1, 1, 1};
     static const int32_t their_starts[] = {0, 25, 60, 120}, their_ends[] = {25, 40, 100, 130}, through[] = {25, 100, 100, 130};
     struct kressedach_judge_report r;
@@ -336,6 +341,7 @@ static void judge_theirs(void) {
 }
 
 int main(void) {
+    ask_version();
     read_sheet();
     move();
     read_pair();

@@ -1,11 +1,13 @@
 /* Kressedach: reads solid sheets and answers with their wall lists. The C side of the proved library.
  *
- * Link libhost.a, which bindings/archive writes, for Linux on x86-64 or Arm (aarch64): cc prog.c libhost.a. It is position independent,
- * keeps no state, allocates nothing, calls nothing back, never unwinds, and may be called from any number of threads at once. Of the C
- * library it needs memcpy, memmove and memset at most. Its working memory is on the stack, which the proofs do not count: 512 kilobytes
- * are enough. docs/TRUST.md has what was measured, job by job and on both processors.
+ * For Linux on x86-64 or Arm (aarch64). Where bindings/install has put the library: cc prog.c $(pkg-config --cflags --libs kressedach).
+ * Else link libkressedach.a, which bindings/archive writes: cc prog.c libkressedach.a. It is position independent, keeps no state,
+ * allocates nothing, calls nothing back, never unwinds, and may be called from any number of threads at once. Of the C library it needs
+ * memcpy, memmove and memset at most. Its working memory is on the stack, which the proofs do not count: 512 kilobytes are enough.
+ * docs/TRUST.md has what was measured, job by job and on both processors.
  *
- * Each function writes its report, a struct, where its first argument says, and returns nothing: on every processor alike.
+ * Each function but kressedach_version writes its report, a struct, where its first argument says, and returns nothing: on every processor
+ * alike.
  *
  * Each function but the crossing makers takes the sheets of a call: the customer's, `sheet`, alone where `fitted` is false; else beside a
  * fittings sheet, `fittings`, whose shapes are numbered first. Where `fitted` is false, `fittings` is not looked at, and may have no bytes;
@@ -34,7 +36,10 @@
  *    it does when a program starts. Who has changed that (fesetround, flushing to zero, a part linked with -ffast-math) sets it back
  *    before a call.
  *
- * The compiler checks these declarations against nothing; bindings/rust/tests/declared.rs compares them with crates/host/src/lib.rt.
+ * Of this gcc and clang warn of what they can see when they compile: a report that is NULL, a list that is NULL and has entries, and a list
+ * that is shorter than said.
+ *
+ * The compiler checks these declarations against nothing; bindings/rust/tests/declared.rs compares them with crates/kressedach/src/lib.rt.
  */
 #ifndef KRESSEDACH_H
 #define KRESSEDACH_H
@@ -43,9 +48,45 @@
 #include <stddef.h>
 #include <stdint.h>
 
+/* What a caller keeps, as far as a compiler can see it: of each list, where it and its length stand among the arguments, and its name. */
+#ifdef __has_attribute
+#if __has_attribute(nonnull)
+#define KRESSEDACH_REPORTED __attribute__((nonnull(1)))
+#endif
+#if __has_attribute(access)
+#define KRESSEDACH_READ(at, past, list) __attribute__((access(read_only, at, past)))
+#define KRESSEDACH_WRITTEN(at, past, list) __attribute__((access(write_only, at, past)))
+#elif __has_attribute(diagnose_if)
+#define KRESSEDACH_READ(at, past, list)                                                                                                 \
+    __attribute__((diagnose_if(!list && list##_length > 0, "the list '" #list "' is NULL and has entries", "warning")))                 \
+    __attribute__((diagnose_if(list && __builtin_object_size(list, 0) / sizeof *list < list##_length,                                   \
+                               "the list '" #list "' is shorter than said", "warning")))
+#define KRESSEDACH_WRITTEN(at, past, list) KRESSEDACH_READ(at, past, list)
+#endif
+#endif
+#ifndef KRESSEDACH_REPORTED
+#define KRESSEDACH_REPORTED
+#endif
+#ifndef KRESSEDACH_READ
+#define KRESSEDACH_READ(at, past, list)
+#define KRESSEDACH_WRITTEN(at, past, list)
+#endif
+
+#ifdef __clang__
+#pragma clang diagnostic push
+#pragma clang diagnostic ignored "-Wgcc-compat"
+#endif
+
 #ifdef __cplusplus
 extern "C" {
 #endif
+
+/* The version of this header: 1000000 for each of its first number, 1000 for each of its second, 1 for each of its third. */
+#define KRESSEDACH_VERSION_TEXT "0.1.0"
+#define KRESSEDACH_VERSION 1000
+
+/* The version of the library that is linked, counted in the same way. The two are equal, unless a shared library was exchanged. */
+uint32_t kressedach_version(void);
 
 /* The numbers of the refusals, and what their places are. 0 is no refusal. */
 enum kressedach_number {
@@ -71,6 +112,40 @@ enum kressedach_number {
     KRESSEDACH_OUT_OF_USE = 19,    /* the offset in the customer's sheet of its first exclusive union, 0xFFF3: it does not move to edition 2 */
     KRESSEDACH_EDIT_WRONG = 20     /* the index: a node that is no operation, a code that is none, a moment that falls or exceeds the toggles */
 };
+
+/* What a number means, in words; docs/SHEET.md has the table. Of 16 and 18, whose place decides, all that it can be. */
+static inline const char *kressedach_meaning(uint8_t number) {
+    switch (number) {
+    case KRESSEDACH_GIVEN: return "given";
+    case KRESSEDACH_ENDS_TOO_SOON: return "the sheet ends too soon";
+    case KRESSEDACH_TAG_OUT_OF_PLACE: return "a tag that is unknown or out of place";
+    case KRESSEDACH_HEADER_WRONG: return "the header's length or edition is wrong";
+    case KRESSEDACH_NAME_WRONG: return "a name has a wrong length, or a byte that is not 0x21 to 0x7E";
+    case KRESSEDACH_NAME_TAKEN: return "a name that is taken already";
+    case KRESSEDACH_TOO_LARGE: return "more than 256 names, or a formula longer than 4094 bytes";
+    case KRESSEDACH_FORMULA_WRONG: return "the formula is wrong";
+    case KRESSEDACH_TOO_HIGH: return "the contracted tree is higher than 57";
+    case KRESSEDACH_LIST_TOO_SHORT: return "an answer list is too short";
+    case KRESSEDACH_NO_SUCH_SHAPE: return "a shape number that no name has";
+    case KRESSEDACH_FALLS: return "a line number falls, or a position falls within its line";
+    case KRESSEDACH_ODD: return "given no more: a shape crossed an odd number of times on a line";
+    case KRESSEDACH_LENGTHS_DIFFER:
+        return "lists that go together differ in length, or an order does not mix the lists of two foundries";
+    case KRESSEDACH_ROWS_WRONG:
+        return "the start rows' length is no multiple of the number of names, they are more than 4294967296, or a byte is neither 0 nor 1";
+    case KRESSEDACH_ASTRAY: return "a position at an end mark, -2147483648 or 2147483647, or a line with no start row";
+    case KRESSEDACH_SHAPE_WRONG:
+        return "more than 256 shapes; a number of the line is not finite, or its direction is all zero; "
+               "an axis above 2, a number that is not finite, a low not below its high, or a position out of range";
+    case KRESSEDACH_FITTINGS_NAME: return "a name that a fitting has";
+    case KRESSEDACH_BALL_WRONG: return "more than 256 balls; an offset, a radius or a centre out of its range";
+    case KRESSEDACH_OUT_OF_USE:
+        return "exclusive union, 0xFFF3, is out of use: a sheet that has it does not move to edition 2";
+    case KRESSEDACH_EDIT_WRONG:
+        return "an edit of a node that is no operation, to a code that is none, or at a moment that falls or exceeds the toggles";
+    default: return "unknown";
+    }
+}
 
 /* Which sheet the place of a refusal is in. */
 enum kressedach_sheet {
@@ -118,7 +193,8 @@ struct kressedach_read_report {
 void kressedach_read(struct kressedach_read_report *report,
                      bool fitted,
                      const uint8_t *fittings, size_t fittings_length,
-                     const uint8_t *sheet, size_t sheet_length);
+                     const uint8_t *sheet, size_t sheet_length)
+    KRESSEDACH_REPORTED KRESSEDACH_READ(3, 4, fittings) KRESSEDACH_READ(5, 6, sheet);
 
 struct kressedach_name_report {
     uint8_t number;
@@ -137,7 +213,8 @@ void kressedach_name(struct kressedach_name_report *report,
                      bool fitted,
                      const uint8_t *fittings, size_t fittings_length,
                      const uint8_t *sheet, size_t sheet_length,
-                     size_t shape);
+                     size_t shape)
+    KRESSEDACH_REPORTED KRESSEDACH_READ(3, 4, fittings) KRESSEDACH_READ(5, 6, sheet);
 
 struct kressedach_names_report {
     uint8_t number;
@@ -159,7 +236,9 @@ void kressedach_names(struct kressedach_names_report *report,
                       const uint8_t *sheet, size_t sheet_length,
                       uint8_t *sheets, size_t sheets_length,
                       size_t *firsts, size_t firsts_length,
-                      size_t *pasts, size_t pasts_length);
+                      size_t *pasts, size_t pasts_length)
+    KRESSEDACH_REPORTED KRESSEDACH_READ(3, 4, fittings) KRESSEDACH_READ(5, 6, sheet) KRESSEDACH_WRITTEN(7, 8, sheets)
+    KRESSEDACH_WRITTEN(9, 10, firsts) KRESSEDACH_WRITTEN(11, 12, pasts);
 
 struct kressedach_move_report {
     uint8_t number;
@@ -179,7 +258,8 @@ void kressedach_move(struct kressedach_move_report *report,
                      bool fitted,
                      const uint8_t *fittings, size_t fittings_length,
                      const uint8_t *sheet, size_t sheet_length,
-                     uint8_t *moved, size_t moved_length);
+                     uint8_t *moved, size_t moved_length)
+    KRESSEDACH_REPORTED KRESSEDACH_READ(3, 4, fittings) KRESSEDACH_READ(5, 6, sheet) KRESSEDACH_WRITTEN(7, 8, moved);
 
 struct kressedach_build_report {
     uint8_t number;
@@ -203,7 +283,9 @@ void kressedach_build(struct kressedach_build_report *report,
                       const uint8_t *sheet, size_t sheet_length,
                       uint16_t *kinds, size_t kinds_length,
                       uint16_t *firsts, size_t firsts_length,
-                      uint16_t *seconds, size_t seconds_length);
+                      uint16_t *seconds, size_t seconds_length)
+    KRESSEDACH_REPORTED KRESSEDACH_READ(3, 4, fittings) KRESSEDACH_READ(5, 6, sheet) KRESSEDACH_WRITTEN(7, 8, kinds)
+    KRESSEDACH_WRITTEN(9, 10, firsts) KRESSEDACH_WRITTEN(11, 12, seconds);
 
 struct kressedach_run_report {
     uint8_t number;
@@ -226,7 +308,9 @@ void kressedach_run(struct kressedach_run_report *report,
                     const uint16_t *toggles, size_t toggles_length,
                     uint8_t *roots, size_t roots_length,
                     uint32_t *counts, size_t counts_length,
-                    uint8_t *labels, size_t labels_length);
+                    uint8_t *labels, size_t labels_length)
+    KRESSEDACH_REPORTED KRESSEDACH_READ(3, 4, fittings) KRESSEDACH_READ(5, 6, sheet) KRESSEDACH_READ(7, 8, toggles)
+    KRESSEDACH_WRITTEN(9, 10, roots) KRESSEDACH_WRITTEN(11, 12, counts) KRESSEDACH_WRITTEN(13, 14, labels);
 
 struct kressedach_both_report {
     struct kressedach_run_report first;
@@ -256,7 +340,11 @@ void kressedach_run_both(struct kressedach_both_report *report,
                          uint8_t *first_labels, size_t first_labels_length,
                          uint8_t *second_roots, size_t second_roots_length,
                          uint32_t *second_counts, size_t second_counts_length,
-                         uint8_t *second_labels, size_t second_labels_length);
+                         uint8_t *second_labels, size_t second_labels_length)
+    KRESSEDACH_REPORTED KRESSEDACH_READ(3, 4, fittings) KRESSEDACH_READ(5, 6, sheet) KRESSEDACH_READ(7, 8, order)
+    KRESSEDACH_READ(9, 10, first) KRESSEDACH_READ(11, 12, second) KRESSEDACH_WRITTEN(13, 14, first_roots)
+    KRESSEDACH_WRITTEN(15, 16, first_counts) KRESSEDACH_WRITTEN(17, 18, first_labels) KRESSEDACH_WRITTEN(19, 20, second_roots)
+    KRESSEDACH_WRITTEN(21, 22, second_counts) KRESSEDACH_WRITTEN(23, 24, second_labels);
 
 /* Runs toggles as kressedach_run does, while operations of the formula become others, without a new build. An edit stands at one index of
  * three lists: after how many toggles (moments), which operation by its postfix position from 0 (positions, under either edition), and the
@@ -283,7 +371,10 @@ void kressedach_run_edited(struct kressedach_run_report *report,
                            uint8_t *roots, size_t roots_length,
                            uint32_t *counts, size_t counts_length,
                            uint8_t *labels, size_t labels_length,
-                           uint32_t *edit_counts, size_t edit_counts_length);
+                           uint32_t *edit_counts, size_t edit_counts_length)
+    KRESSEDACH_REPORTED KRESSEDACH_READ(3, 4, fittings) KRESSEDACH_READ(5, 6, sheet) KRESSEDACH_READ(7, 8, toggles)
+    KRESSEDACH_READ(9, 10, moments) KRESSEDACH_READ(11, 12, positions) KRESSEDACH_READ(13, 14, codes) KRESSEDACH_WRITTEN(15, 16, roots)
+    KRESSEDACH_WRITTEN(17, 18, counts) KRESSEDACH_WRITTEN(19, 20, labels) KRESSEDACH_WRITTEN(21, 22, edit_counts);
 
 struct kressedach_classify_report {
     uint8_t number;
@@ -299,7 +390,8 @@ struct kressedach_classify_report {
  *
  * A wall is a longest stretch of positive length inside; the shape at its start and the one at its end is the lowest number whose state
  * differs before and after that position. Where a line starts in metal, its first wall starts at KRESSEDACH_OPEN_START, and where metal
- * goes on past its last crossing, its last wall ends at KRESSEDACH_OPEN_END; the shape there is KRESSEDACH_OPEN_SHAPE.
+ * goes on past its last crossing, its last wall ends at KRESSEDACH_OPEN_END; the shape there is KRESSEDACH_OPEN_SHAPE. A wall's length,
+ * its end less its start, may be above INT32_MAX, so subtract in 64 bits: (int64_t)ends[k] - starts[k].
  *
  * Refusals: 1 to 7 and 17, 8, 13, 14, then 10, 15 and 11 crossing by crossing, then 9 for wall_lines, starts, ends, start_shapes,
  * end_shapes in this order.
@@ -321,7 +413,11 @@ void kressedach_classify(struct kressedach_classify_report *report,
                          int32_t *starts, size_t starts_length,
                          int32_t *ends, size_t ends_length,
                          uint16_t *start_shapes, size_t start_shapes_length,
-                         uint16_t *end_shapes, size_t end_shapes_length);
+                         uint16_t *end_shapes, size_t end_shapes_length)
+    KRESSEDACH_REPORTED KRESSEDACH_READ(3, 4, fittings) KRESSEDACH_READ(5, 6, sheet) KRESSEDACH_READ(7, 8, rows)
+    KRESSEDACH_READ(9, 10, lines) KRESSEDACH_READ(11, 12, positions) KRESSEDACH_READ(13, 14, shapes)
+    KRESSEDACH_WRITTEN(15, 16, wall_lines) KRESSEDACH_WRITTEN(17, 18, starts) KRESSEDACH_WRITTEN(19, 20, ends)
+    KRESSEDACH_WRITTEN(21, 22, start_shapes) KRESSEDACH_WRITTEN(23, 24, end_shapes);
 
 struct kressedach_judge_report {
     uint8_t number;
@@ -352,7 +448,10 @@ void kressedach_judge(struct kressedach_judge_report *report,
                       const uint16_t *shapes, size_t shapes_length,
                       const uint32_t *their_lines, size_t their_lines_length,
                       const int32_t *their_starts, size_t their_starts_length,
-                      const int32_t *their_ends, size_t their_ends_length);
+                      const int32_t *their_ends, size_t their_ends_length)
+    KRESSEDACH_REPORTED KRESSEDACH_READ(3, 4, fittings) KRESSEDACH_READ(5, 6, sheet) KRESSEDACH_READ(7, 8, rows)
+    KRESSEDACH_READ(9, 10, lines) KRESSEDACH_READ(11, 12, positions) KRESSEDACH_READ(13, 14, shapes) KRESSEDACH_READ(15, 16, their_lines)
+    KRESSEDACH_READ(17, 18, their_starts) KRESSEDACH_READ(19, 20, their_ends);
 
 struct kressedach_cross_report {
     uint8_t number;
@@ -381,7 +480,9 @@ void kressedach_cross(struct kressedach_cross_report *report,
                       const double *numbers, size_t numbers_length,
                       uint8_t *starts, size_t starts_length,
                       int32_t *positions, size_t positions_length,
-                      uint16_t *shapes, size_t shapes_length);
+                      uint16_t *shapes, size_t shapes_length)
+    KRESSEDACH_REPORTED KRESSEDACH_READ(8, 9, kinds) KRESSEDACH_READ(10, 11, numbers) KRESSEDACH_WRITTEN(12, 13, starts)
+    KRESSEDACH_WRITTEN(14, 15, positions) KRESSEDACH_WRITTEN(16, 17, shapes);
 
 struct kressedach_cross_many_report {
     uint8_t number;
@@ -413,7 +514,10 @@ void kressedach_cross_many(struct kressedach_cross_many_report *report,
                            uint8_t *rows, size_t rows_length,
                            uint32_t *line_numbers, size_t line_numbers_length,
                            int32_t *positions, size_t positions_length,
-                           uint16_t *shapes, size_t shapes_length);
+                           uint16_t *shapes, size_t shapes_length)
+    KRESSEDACH_REPORTED KRESSEDACH_READ(2, 3, kinds) KRESSEDACH_READ(4, 5, numbers) KRESSEDACH_READ(6, 7, lines)
+    KRESSEDACH_WRITTEN(8, 9, rows) KRESSEDACH_WRITTEN(10, 11, line_numbers) KRESSEDACH_WRITTEN(12, 13, positions)
+    KRESSEDACH_WRITTEN(14, 15, shapes);
 
 /* Crosses balls with one line that is parallel to an axis, in whole micrometres. A ball is four numbers: both offsets of the line from the
  * centre (-1000000 to 1000000), the radius (1 to 1000000), the centre along the line (-1000000000 to 1000000000). A ball begun counts, and
@@ -428,10 +532,20 @@ void kressedach_cross_balls(struct kressedach_cross_report *report,
                             const int32_t *numbers, size_t numbers_length,
                             uint8_t *starts, size_t starts_length,
                             int32_t *positions, size_t positions_length,
-                            uint16_t *shapes, size_t shapes_length);
+                            uint16_t *shapes, size_t shapes_length)
+    KRESSEDACH_REPORTED KRESSEDACH_READ(2, 3, numbers) KRESSEDACH_WRITTEN(4, 5, starts) KRESSEDACH_WRITTEN(6, 7, positions)
+    KRESSEDACH_WRITTEN(8, 9, shapes);
 
 #ifdef __cplusplus
 }
 #endif
+
+#ifdef __clang__
+#pragma clang diagnostic pop
+#endif
+
+#undef KRESSEDACH_REPORTED
+#undef KRESSEDACH_READ
+#undef KRESSEDACH_WRITTEN
 
 #endif

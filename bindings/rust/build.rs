@@ -1,6 +1,6 @@
-//! Links the proved library, `libhost.a`.
+//! Links the proved library, `libkressedach.a`.
 //!
-//! 1. Where `KRESSEDACH_LIB_DIR` is set, the archive is taken from that folder.
+//! 1. Where `KRESSEDACH_LIB_DIR` is set, the archive is taken from that folder. A relative one goes by the folder in which cargo was called.
 //! 2. Else the repository's own is taken, for the processor that `KRESSEDACH_PROCESSOR` names or the plain one of the target. Where there
 //!    is none, or an old one, `bindings/archive` proves the library and compiles it: from nothing that takes as long as the proofs do,
 //!    afterwards seconds. Cargo hides what a build script prints, so what is proved is said on the terminal, where there is one.
@@ -20,7 +20,7 @@ fn main() {
     let plain = plain();
     let asked = env::var("KRESSEDACH_PROCESSOR").ok().filter(|asked| !asked.is_empty());
     let (archive, processor) = match env::var_os("KRESSEDACH_LIB_DIR") {
-        Some(dir) => lent(&PathBuf::from(dir), plain, asked),
+        Some(dir) => lent(&called_from(PathBuf::from(dir)), plain, asked),
         None => own(&PathBuf::from(env::var_os("CARGO_MANIFEST_DIR").unwrap()).join("../.."), plain, asked),
     };
     let out = PathBuf::from(env::var_os("OUT_DIR").unwrap());
@@ -29,19 +29,19 @@ fn main() {
         let found = machine(&bytes).unwrap_or("neither x86-64 nor aarch64");
         missing(&format!("{} is for {found}, and this build is for {plain}.", archive.display()));
     }
-    if let Err(e) = fs::write(out.join("libhost.a"), bytes) {
+    if let Err(e) = fs::write(out.join("libkressedach.a"), bytes) {
         missing(&format!("{} cannot be copied: {e}.", archive.display()));
     }
     println!("cargo:rustc-env=KRESSEDACH_COMPILED_FOR={processor}");
     println!("cargo:rustc-link-search=native={}", out.display());
-    println!("cargo:rustc-link-lib=static=host");
+    println!("cargo:rustc-link-lib=static=kressedach");
 }
 
 /// Ends the build and says what is missing, and how it is had.
 fn missing(what: &str) -> ! {
-    eprintln!("\nkressedach needs the proved library, libhost.a. {what}");
+    eprintln!("\nkressedach needs the proved library, libkressedach.a. {what}");
     eprintln!("Run 'bindings/archive PROCESSOR' in the repository (it needs rt, the Rattle toolchain; PROCESSOR is x86-64 or aarch64),");
-    eprintln!("or set KRESSEDACH_LIB_DIR to a folder that holds libhost.a.\n");
+    eprintln!("or set KRESSEDACH_LIB_DIR to a folder that holds libkressedach.a.\n");
     std::process::exit(1);
 }
 
@@ -65,12 +65,24 @@ fn machine(archive: &[u8]) -> Option<&'static str> {
     }
 }
 
+/// A folder as the caller means it. Cargo runs this in the crate's own folder, and only `PWD` still has the one in which it was called.
+fn called_from(dir: PathBuf) -> PathBuf {
+    if dir.is_absolute() {
+        return dir;
+    }
+    println!("cargo:rerun-if-env-changed=PWD");
+    match env::var_os("PWD").map(PathBuf::from).filter(|here| here.is_absolute()) {
+        Some(here) => here.join(dir),
+        None => missing(&format!("KRESSEDACH_LIB_DIR is {}, and PWD does not say in which folder that is.", dir.display())),
+    }
+}
+
 /// The archive of the folder that the caller names, and its processor: what the folder's file `processor` says, else the plain one.
 fn lent(dir: &Path, plain: &str, asked: Option<String>) -> (PathBuf, String) {
-    let archive = dir.join("libhost.a");
+    let archive = dir.join("libkressedach.a");
     println!("cargo:rerun-if-changed={}", archive.display());
     if !archive.is_file() {
-        missing(&format!("KRESSEDACH_LIB_DIR is {}, and there is no libhost.a in it.", dir.display()));
+        missing(&format!("KRESSEDACH_LIB_DIR is {}, and there is no libkressedach.a in it.", dir.display()));
     }
     let said = fs::read_to_string(dir.join("processor")).map_or(plain.to_string(), |said| said.trim().to_string());
     match asked {
@@ -88,7 +100,7 @@ fn own(root: &Path, plain: &str, asked: Option<String>) -> (PathBuf, String) {
     let processor = if env::var("HOST") == env::var("TARGET") { runnable(root) } else { asked.unwrap_or(plain.to_string()) };
     make(root, &processor);
     let folder = if processor == "x86-64" { "target/staticlib".to_string() } else { format!("target/archive/{processor}") };
-    (root.join(folder).join("libhost.a"), processor)
+    (root.join(folder).join("libkressedach.a"), processor)
 }
 
 /// The processor that is asked for, which this machine can run.

@@ -1,8 +1,19 @@
-//! The crossing makers: one line's start row and crossings, from the drawing's own numbers or of balls.
+//! The crossing maker for one line, half-spaces and boxes, from the drawing's own numbers.
 
-use crate::{ffi, unless_refused, Crossing, Refusal, Start};
+use crate::call::call;
+use crate::{ffi, refusal, Refusal};
+#[cfg(feature = "alloc")]
+use crate::{Crossing, Start};
+#[cfg(feature = "alloc")]
+use alloc::{vec, vec::Vec};
 
 /// An axis of the drawing.
+///
+/// ```
+/// use kressedach::{Axis, Shape};
+/// // what lies below z = 25
+/// assert_eq!(Shape::HalfSpace { axis: Axis::Z, face: 25.0 }.parts().0, 2);
+/// ```
 #[derive(Debug, Clone, Copy, PartialEq, Eq, Hash)]
 pub enum Axis {
     /// The first.
@@ -14,6 +25,14 @@ pub enum Axis {
 }
 
 /// A shape of the drawing, in millimetres.
+///
+/// ```
+/// use kressedach::{cross, Probe, Shape};
+/// let block = Shape::Box { lows: [0.0, 0.0, 0.0], highs: [100.0, 40.0, 40.0] };
+/// let along = Probe { origin: [-10.0, 20.0, 20.0], direction: [1.0, 0.0, 0.0] };
+/// assert_eq!(cross(along, &[block])?.positions, [10000, 110000]);
+/// # Ok::<(), kressedach::Refusal>(())
+/// ```
 #[derive(Debug, Clone, Copy, PartialEq)]
 pub enum Shape {
     /// Solid below a face that lies across an axis.
@@ -33,10 +52,21 @@ pub enum Shape {
 }
 
 /// The byte that stands for a box in a list of kinds; 0 to 2 stand for a half-space on that axis.
+///
+/// ```
+/// use kressedach::{Shape, BOX};
+/// assert_eq!(Shape::Box { lows: [0.0; 3], highs: [1.0; 3] }.parts().0, BOX);
+/// ```
 pub const BOX: u8 = 255;
 
 impl Shape {
     /// As the library takes it: a byte, and six numbers. A half-space has its face in the first of them; the others are not looked at.
+    ///
+    /// ```
+    /// use kressedach::{Axis, Shape, BOX};
+    /// assert_eq!(Shape::HalfSpace { axis: Axis::Y, face: 5.0 }.parts(), (1, [5.0, 0.0, 0.0, 0.0, 0.0, 0.0]));
+    /// assert_eq!(Shape::Box { lows: [1.0, 2.0, 3.0], highs: [4.0, 5.0, 6.0] }.parts(), (BOX, [1.0, 2.0, 3.0, 4.0, 5.0, 6.0]));
+    /// ```
     pub fn parts(&self) -> (u8, [f64; 6]) {
         match *self {
             Shape::HalfSpace { axis, face } => (axis as u8, [face, 0.0, 0.0, 0.0, 0.0, 0.0]),
@@ -46,6 +76,13 @@ impl Shape {
 }
 
 /// A probe line, in millimetres. It has no end: positions behind the origin count as those before it do.
+///
+/// ```
+/// use kressedach::{cross, Axis, Probe, Shape};
+/// let probe = Probe { origin: [10.0, 0.0, 0.0], direction: [1.0, 0.0, 0.0] };
+/// assert_eq!(cross(probe, &[Shape::HalfSpace { axis: Axis::X, face: 4.0 }])?.positions, [-6000]);
+/// # Ok::<(), kressedach::Refusal>(())
+/// ```
 #[derive(Debug, Clone, Copy, PartialEq)]
 pub struct Probe {
     /// Where positions are counted from.
@@ -54,18 +91,16 @@ pub struct Probe {
     pub direction: [f64; 3],
 }
 
-/// A ball beside a line that is parallel to an axis, in whole micrometres.
-#[derive(Debug, Clone, Copy, PartialEq, Eq, Hash)]
-pub struct Ball {
-    /// How far the line lies from the centre on the two other axes, each -1000000 to 1000000.
-    pub offsets: [i32; 2],
-    /// 1 to 1000000.
-    pub radius: i32,
-    /// Where on the line the centre lies, -1000000000 to 1000000000.
-    pub centre: i32,
-}
-
 /// What a line has of some shapes.
+///
+/// ```
+/// use kressedach::{cross, Crossed, Probe, Shape};
+/// let block = Shape::Box { lows: [0.0; 3], highs: [5.0; 3] };
+/// let crossed = cross(Probe { origin: [-1.0, 1.0, 1.0], direction: [1.0, 0.0, 0.0] }, &[block])?;
+/// assert_eq!(crossed, Crossed { starts: vec![0], positions: vec![1000, 6000], shapes: vec![0, 0] });
+/// # Ok::<(), kressedach::Refusal>(())
+/// ```
+#[cfg(feature = "alloc")]
 #[derive(Debug, Clone, PartialEq, Eq, Hash)]
 pub struct Crossed {
     /// The start row, a byte a shape: 1 where the line starts inside it.
@@ -76,19 +111,38 @@ pub struct Crossed {
     pub shapes: Vec<u16>,
 }
 
+#[cfg(feature = "alloc")]
 impl Crossed {
-    /// The crossings, for a line of this number: what [`classify`](crate::classify) and [`classify_from`](crate::classify_from) take.
+    /// The crossings, for a line of this number: what [`classify`](crate::classify()) and [`classify_from`](crate::classify_from) take.
+    ///
+    /// ```
+    /// use kressedach::{Crossed, Crossing};
+    /// let crossed = Crossed { starts: vec![0], positions: vec![10, 90], shapes: vec![0, 0] };
+    /// assert!(crossed.crossings(7).eq([10, 90].map(|position| Crossing { line: 7, position, shape: 0 })));
+    /// ```
     pub fn crossings(&self, line: u32) -> impl Iterator<Item = Crossing> + '_ {
         self.positions.iter().zip(&self.shapes).map(move |(position, shape)| Crossing { line, position: *position, shape: *shape })
     }
 
     /// The shapes in which it starts, for a line of this number: what [`classify_from`](crate::classify_from) takes.
+    ///
+    /// ```
+    /// use kressedach::{Crossed, Start};
+    /// let crossed = Crossed { starts: vec![0, 1], positions: vec![], shapes: vec![] };
+    /// assert!(crossed.inside(7).eq([Start { line: 7, shape: 1 }]));
+    /// ```
     pub fn inside(&self, line: u32) -> impl Iterator<Item = Start> + '_ {
         self.starts.iter().zip(0..).filter(|(byte, _)| **byte == 1).map(move |(_, shape)| Start { line, shape })
     }
 }
 
 /// How many entries are given.
+///
+/// ```
+/// use kressedach::{cross_balls_into, Counts, LineLists};
+/// let mut lists = LineLists { starts: &mut [9; 1], positions: &mut [9; 2], shapes: &mut [9; 2] };
+/// assert_eq!(cross_balls_into(&[0, 0, 5, 100], &mut lists), Ok(Counts { shapes: 1, crossings: 2 }));
+/// ```
 #[derive(Debug, Clone, Copy, PartialEq, Eq, Hash)]
 pub struct Counts {
     /// In the start row: one a shape.
@@ -98,6 +152,14 @@ pub struct Counts {
 }
 
 /// Three lists that a line's answer is written to.
+///
+/// ```
+/// use kressedach::{cross_balls_into, LineLists};
+/// let mut lists = LineLists { starts: &mut [9; 1], positions: &mut [9; 2], shapes: &mut [9; 2] };
+/// cross_balls_into(&[0, 0, 5, 100], &mut lists)?;
+/// assert_eq!((lists.starts[0], lists.positions[1], lists.shapes[1]), (0, 105, 0));
+/// # Ok::<(), kressedach::Refusal>(())
+/// ```
 #[derive(Debug)]
 pub struct LineLists<'a> {
     /// The start row, an entry a shape.
@@ -146,23 +208,41 @@ pub struct LineLists<'a> {
 /// # Errors
 ///
 /// 16: more than 256 shapes, then the line, then the first shape at fault.
+#[cfg(feature = "alloc")]
 pub fn cross(probe: Probe, shapes: &[Shape]) -> Result<Crossed, Refusal> {
     let (kinds, numbers): (Vec<u8>, Vec<[f64; 6]>) = shapes.iter().map(Shape::parts).unzip();
-    given(shapes.len(), |lists| cross_into(probe, &kinds, numbers.as_flattened(), lists))
+    given(shapes.len(), |lists| cross_into(probe, ShapeLists { kinds: &kinds, numbers: numbers.as_flattened() }, lists))
+}
+
+/// Half-spaces and boxes as the library takes them.
+///
+/// There is a shape for each of `kinds`, and each has six of `numbers`. A number that the list lacks is not finite; numbers past the last
+/// shape are not looked at.
+///
+/// ```
+/// use kressedach::{ShapeLists, BOX};
+/// // below z = 25, and a box
+/// let numbers = [25.0, 0.0, 0.0, 0.0, 0.0, 0.0, 5.0, 0.0, 0.0, 6.0, 2.0, 2.0];
+/// let shapes = ShapeLists { kinds: &[2, BOX], numbers: &numbers };
+/// assert_eq!(shapes.numbers.len(), 6 * shapes.kinds.len());
+/// ```
+#[derive(Debug, Clone, Copy, PartialEq)]
+pub struct ShapeLists<'a> {
+    /// 0 to 2 a half-space on that axis, [`BOX`] a box, any other at fault.
+    pub kinds: &'a [u8],
+    /// Of each six: a half-space has its face first, and the others are not looked at; a box has its lows and then its highs.
+    pub numbers: &'a [f64],
 }
 
 /// Crosses half-spaces and boxes with one line into lent lists.
 ///
-/// There is a shape for each of `kinds`: 0 to 2 a half-space on that axis, [`BOX`] a box, any other at fault. Each has six of `numbers`,
-/// of which a half-space looks at the first, its face, and a box has its lows and then its highs. A number that the list lacks is not
-/// finite; numbers past the last shape are not looked at.
-///
 /// ```
-/// use kressedach::{cross_into, Counts, LineLists, Probe, BOX};
+/// use kressedach::{cross_into, Counts, LineLists, Probe, ShapeLists, BOX};
 /// let probe = Probe { origin: [0.0, 1.0, 1.0], direction: [1.0, 0.0, 0.0] };
 /// let (mut starts, mut positions, mut shapes) = ([9; 2], [9; 3], [9; 3]);
 /// let mut lists = LineLists { starts: &mut starts, positions: &mut positions, shapes: &mut shapes };
-/// let counts = cross_into(probe, &[BOX], &[5.0, 0.0, 0.0, 6.0, 2.0, 2.0], &mut lists)?;
+/// let block = ShapeLists { kinds: &[BOX], numbers: &[5.0, 0.0, 0.0, 6.0, 2.0, 2.0] };
+/// let counts = cross_into(probe, block, &mut lists)?;
 /// assert_eq!(counts, Counts { shapes: 1, crossings: 2 });
 /// assert_eq!((starts, positions, shapes), ([0, 9], [5000, 6000, 9], [0, 0, 9]));
 /// # Ok::<(), kressedach::Refusal>(())
@@ -170,104 +250,25 @@ pub fn cross(probe: Probe, shapes: &[Shape]) -> Result<Crossed, Refusal> {
 ///
 /// # Errors
 ///
-/// 16 as [`cross`], then 9 for the lists in their order.
+/// 16 for more than 256 shapes, the line, the first shape at fault; then 9 for the lists in their order.
 #[inline]
-pub fn cross_into(probe: Probe, kinds: &[u8], numbers: &[f64], lists: &mut LineLists) -> Result<Counts, Refusal> {
+pub fn cross_into(probe: Probe, shapes: ShapeLists, lists: &mut LineLists) -> Result<Counts, Refusal> {
     let ([ox, oy, oz], [dx, dy, dz]) = (probe.origin, probe.direction);
-    // SAFETY: slices are pointers to that many entries; those that are written are borrowed by nobody else.
-    let r = unsafe {
-        ffi::reported(|report| {
-            ffi::kressedach_cross(
-                report,
-                ox,
-                oy,
-                oz,
-                dx,
-                dy,
-                dz,
-                kinds.as_ptr(),
-                kinds.len(),
-                numbers.as_ptr(),
-                numbers.len(),
-                lists.starts.as_mut_ptr(),
-                lists.starts.len(),
-                lists.positions.as_mut_ptr(),
-                lists.positions.len(),
-                lists.shapes.as_mut_ptr(),
-                lists.shapes.len(),
-            )
-        })
-    };
-    counted(r)
-}
-
-/// Crosses balls with one line that is parallel to an axis, in whole micrometres.
-///
-/// A ball is crossed at its centre less and plus the half chord, which is rounded down; where that is 0 it is not crossed. Every ball
-/// starts outside.
-///
-/// ```
-/// use kressedach::{cross_balls, Ball};
-/// let vent = Ball { offsets: [300, -400], radius: 1300, centre: 50000 };
-/// let crossed = cross_balls(&[vent])?;
-/// assert_eq!((crossed.starts, crossed.positions, crossed.shapes), (vec![0], vec![48800, 51200], vec![0, 0]));
-///
-/// let refusal = cross_balls(&[vent, Ball { radius: 0, ..vent }]).unwrap_err();
-/// assert_eq!(refusal.to_string(), "refused 18 at ball 1: an offset, a radius or a centre out of its range");
-/// # Ok::<(), kressedach::Refusal>(())
-/// ```
-///
-/// # Errors
-///
-/// 18: more than 256 balls, then the first with a number out of its range.
-pub fn cross_balls(balls: &[Ball]) -> Result<Crossed, Refusal> {
-    let numbers: Vec<[i32; 4]> = balls.iter().map(|ball| [ball.offsets[0], ball.offsets[1], ball.radius, ball.centre]).collect();
-    given(balls.len(), |lists| cross_balls_into(numbers.as_flattened(), lists))
-}
-
-/// Crosses balls with one line into lent lists. Each ball has four numbers: both offsets, radius, centre. A ball begun counts, and a number
-/// that it lacks is out of range.
-///
-/// ```
-/// use kressedach::{cross_balls_into, LineLists};
-/// let (mut starts, mut positions, mut shapes) = ([9; 2], [9; 3], [9; 3]);
-/// let mut lists = LineLists { starts: &mut starts, positions: &mut positions, shapes: &mut shapes };
-/// assert_eq!(cross_balls_into(&[3, 0, 5, 100], &mut lists)?.crossings, 2);
-/// assert_eq!((starts, positions, shapes), ([0, 9], [96, 104, 9], [0, 0, 9]));
-/// # Ok::<(), kressedach::Refusal>(())
-/// ```
-///
-/// # Errors
-///
-/// 18 as [`cross_balls`], then 9 for the lists in their order.
-#[inline]
-pub fn cross_balls_into(numbers: &[i32], lists: &mut LineLists) -> Result<Counts, Refusal> {
-    // SAFETY: slices are pointers to that many entries; those that are written are borrowed by nobody else.
-    let r = unsafe {
-        ffi::reported(|report| {
-            ffi::kressedach_cross_balls(
-                report,
-                numbers.as_ptr(),
-                numbers.len(),
-                lists.starts.as_mut_ptr(),
-                lists.starts.len(),
-                lists.positions.as_mut_ptr(),
-                lists.positions.len(),
-                lists.shapes.as_mut_ptr(),
-                lists.shapes.len(),
-            )
-        })
-    };
+    let r = call!(kressedach_cross:
+        is ox, is oy, is oz, is dx, is dy, is dz, reads shapes.kinds, reads shapes.numbers,
+        writes lists.starts, writes lists.positions, writes lists.shapes
+    );
     counted(r)
 }
 
 #[inline]
-fn counted(r: ffi::CrossReport) -> Result<Counts, Refusal> {
-    unless_refused(r.number, 0, r.place, Counts { shapes: r.shapes, crossings: r.crossings })
+pub(crate) fn counted(r: ffi::CrossReport) -> Result<Counts, Refusal> {
+    refusal::unless(r.number, 0, r.place, Counts { shapes: r.shapes, crossings: r.crossings })
 }
 
 /// A job's answer in lists of its own, with room for two crossings a shape.
-fn given(shapes: usize, job: impl FnOnce(&mut LineLists) -> Result<Counts, Refusal>) -> Result<Crossed, Refusal> {
+#[cfg(feature = "alloc")]
+pub(crate) fn given(shapes: usize, job: impl FnOnce(&mut LineLists) -> Result<Counts, Refusal>) -> Result<Crossed, Refusal> {
     let (mut starts, mut positions, mut numbers) = (vec![0; shapes], vec![0; 2 * shapes], vec![0; 2 * shapes]);
     let counts = job(&mut LineLists { starts: &mut starts, positions: &mut positions, shapes: &mut numbers })?;
     positions.truncate(counts.crossings);

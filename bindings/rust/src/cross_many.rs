@@ -1,10 +1,24 @@
 //! The crossing maker for many lines and one drawing.
 
-use crate::{ffi, unless_refused, Probe, Refusal, Shape};
-use std::error::Error;
-use std::fmt;
+use crate::call::call;
+use crate::{refusal, Probe, Reason, Refusal, ShapeLists};
+#[cfg(feature = "alloc")]
+use crate::{Lines, Shape};
+#[cfg(feature = "alloc")]
+use alloc::{vec, vec::Vec};
+use core::error::Error;
+use core::fmt;
 
 /// What many lines have of some shapes: the lists that [`classify_into`](crate::classify_into) takes, as they are.
+///
+/// ```
+/// use kressedach::{cross_many, ManyCrossed, Probe, Shape};
+/// let block = Shape::Box { lows: [0.0; 3], highs: [5.0; 3] };
+/// let crossed = cross_many(&[Probe { origin: [-1.0, 1.0, 1.0], direction: [1.0, 0.0, 0.0] }], &[block])?;
+/// assert_eq!(crossed, ManyCrossed { rows: vec![0], lines: vec![0, 0], positions: vec![1000, 6000], shapes: vec![0, 0] });
+/// # Ok::<(), kressedach::LineRefusal>(())
+/// ```
+#[cfg(feature = "alloc")]
 #[derive(Debug, Clone, PartialEq, Eq, Hash)]
 pub struct ManyCrossed {
     /// A start row a line, and in each a byte a shape: 1 where the line starts inside it.
@@ -17,7 +31,30 @@ pub struct ManyCrossed {
     pub shapes: Vec<u16>,
 }
 
+#[cfg(feature = "alloc")]
+impl ManyCrossed {
+    /// As [`classify_into`](crate::classify_into) takes them.
+    ///
+    /// ```
+    /// use kressedach::ManyCrossed;
+    /// let crossed = ManyCrossed { rows: vec![0], lines: vec![0, 0], positions: vec![1000, 6000], shapes: vec![0, 0] };
+    /// assert_eq!(crossed.lines().positions, [1000, 6000]);
+    /// ```
+    pub fn lines(&self) -> Lines<'_> {
+        Lines { rows: &self.rows, lines: &self.lines, positions: &self.positions, shapes: &self.shapes }
+    }
+}
+
 /// How many entries are given.
+///
+/// ```
+/// use kressedach::{cross_many_into, ManyCounts, ManyLists, ShapeLists};
+/// let mut lists = ManyLists { rows: &mut [], lines: &mut [], positions: &mut [], shapes: &mut [] };
+/// let none = ShapeLists { kinds: &[], numbers: &[] };
+/// let counts = cross_many_into(&[0.0, 0.0, 0.0, 1.0, 0.0, 0.0], none, &mut lists)?;
+/// assert_eq!(counts, ManyCounts { lines: 1, crossings: 0 });
+/// # Ok::<(), kressedach::LineRefusal>(())
+/// ```
 #[derive(Debug, Clone, Copy, PartialEq, Eq, Hash)]
 pub struct ManyCounts {
     /// Rows, each with an entry a shape: one a line.
@@ -27,6 +64,15 @@ pub struct ManyCounts {
 }
 
 /// Four lists that the answer of many lines is written to.
+///
+/// ```
+/// use kressedach::{cross_many_into, ManyLists, ShapeLists};
+/// let mut lists = ManyLists { rows: &mut [9; 1], lines: &mut [9; 1], positions: &mut [9; 1], shapes: &mut [9; 1] };
+/// let below = ShapeLists { kinds: &[0], numbers: &[5.0, 0.0, 0.0, 0.0, 0.0, 0.0] };
+/// cross_many_into(&[0.0, 0.0, 0.0, 1.0, 0.0, 0.0], below, &mut lists)?;
+/// assert_eq!((lists.rows[0], lists.lines[0], lists.positions[0], lists.shapes[0]), (1, 0, 5000, 0));
+/// # Ok::<(), kressedach::LineRefusal>(())
+/// ```
 #[derive(Debug)]
 pub struct ManyLists<'a> {
     /// The start rows, an entry a line and shape.
@@ -44,7 +90,7 @@ pub struct ManyLists<'a> {
 /// It prints as a sentence that a person can act on:
 ///
 /// ```
-/// use kressedach::{cross_many, Axis, LineRefusal, Probe, Refusal, Shape};
+/// use kressedach::{cross_many, Axis, LineRefusal, Probe, Reason, Refusal, Shape};
 /// let along = Probe { origin: [0.0; 3], direction: [1.0, 0.0, 0.0] };
 /// let still = Probe { direction: [0.0; 3], ..along };
 /// let below = Shape::HalfSpace { axis: Axis::X, face: 5.0 };
@@ -56,10 +102,10 @@ pub struct ManyLists<'a> {
 /// assert_eq!((refusal.line, refusal.refusal.place), (Some(2), 0));
 /// assert!(refusal.to_string().starts_with("refused 16 at shape 0 on line 2: an axis above 2, a number that is not finite,"));
 ///
-/// let of = |number, place| LineRefusal { line: None, refusal: Refusal { number, sheet: None, place } }.to_string();
-/// assert_eq!(of(14, 0), "refused 14: more than 4294967296 lines");
-/// assert_eq!(of(16, 256), "refused 16: more than 256 shapes");
-/// assert_eq!(of(9, 7), "refused 9 for want of 7 entries: an answer list is too short");
+/// let of = |reason, place| LineRefusal { line: None, refusal: Refusal { reason, sheet: None, place } }.to_string();
+/// assert_eq!(of(Reason::RowsWrong, 0), "refused 14: more than 4294967296 lines");
+/// assert_eq!(of(Reason::ShapeWrong, 256), "refused 16: more than 256 shapes");
+/// assert_eq!(of(Reason::ListTooShort, 7), "refused 9 for want of 7 entries: an answer list is too short");
 /// ```
 #[derive(Debug, Clone, Copy, PartialEq, Eq, Hash)]
 pub struct LineRefusal {
@@ -71,11 +117,11 @@ pub struct LineRefusal {
 
 impl fmt::Display for LineRefusal {
     fn fmt(&self, f: &mut fmt::Formatter<'_>) -> fmt::Result {
-        let Refusal { number, place, .. } = self.refusal;
+        let (number, place) = (self.refusal.number(), self.refusal.place);
         match self.line {
             Some(line) if place == 65535 => write!(f, "refused {number} for line {line}: {}", self.refusal.meaning()),
             Some(line) => write!(f, "refused {number} at shape {place} on line {line}: {}", self.refusal.meaning()),
-            None if number == 14 => write!(f, "refused 14: more than 4294967296 lines"),
+            None if self.refusal.reason == Reason::RowsWrong => write!(f, "refused 14: more than 4294967296 lines"),
             None => self.refusal.fmt(f),
         }
     }
@@ -91,13 +137,18 @@ impl From<LineRefusal> for Refusal {
 
 impl Probe {
     /// As the library takes it among many: six numbers, origin and then direction.
+    ///
+    /// ```
+    /// let probe = kressedach::Probe { origin: [1.0, 2.0, 3.0], direction: [0.0, 0.0, 1.0] };
+    /// assert_eq!(probe.numbers(), [1.0, 2.0, 3.0, 0.0, 0.0, 1.0]);
+    /// ```
     pub fn numbers(&self) -> [f64; 6] {
         let ([a, b, c], [d, e, f]) = (self.origin, self.direction);
         [a, b, c, d, e, f]
     }
 }
 
-/// Crosses half-spaces and boxes with many lines: what [`cross`](crate::cross) gives for each, one after another.
+/// Crosses half-spaces and boxes with many lines: what [`cross`](crate::cross()) gives for each, one after another.
 ///
 /// ```
 /// use kressedach::{classify_into, cross_many, Probe, Shape, WallLists};
@@ -119,7 +170,7 @@ impl Probe {
 ///     start_shapes: &mut start_shapes,
 ///     end_shapes: &mut end_shapes,
 /// };
-/// assert_eq!(classify_into(sheet, &crossed.rows, &crossed.lines, &crossed.positions, &crossed.shapes, &mut walls)?, 3);
+/// assert_eq!(classify_into(sheet, crossed.lines(), &mut walls)?, 3);
 /// assert_eq!((lines, starts, ends), ([0, 1, 1, 9, 9], [10000, 10000, 70000, 9, 9], [110000, 50000, 110000, 9, 9]));
 /// # Ok::<(), kressedach::Refusal>(())
 /// ```
@@ -127,24 +178,32 @@ impl Probe {
 /// # Errors
 ///
 /// 16 for more than 256 shapes, 14 for more than 4294967296 lines, then line by line 16: for the line, then for the first shape at fault.
+#[cfg(feature = "alloc")]
 pub fn cross_many(probes: &[Probe], shapes: &[Shape]) -> Result<ManyCrossed, LineRefusal> {
     let (kinds, numbers): (Vec<u8>, Vec<[f64; 6]>) = shapes.iter().map(Shape::parts).unzip();
     let lines: Vec<[f64; 6]> = probes.iter().map(Probe::numbers).collect();
+    given(lines.as_flattened(), ShapeLists { kinds: &kinds, numbers: numbers.as_flattened() })
+}
+
+/// The answer in lists of its own.
+#[cfg(feature = "alloc")]
+pub(crate) fn given(lines: &[f64], shapes: ShapeLists) -> Result<ManyCrossed, LineRefusal> {
+    let count = lines.len().div_ceil(6);
     // more shapes are refused whatever the room
-    let rows = if kinds.len() > 256 { 0 } else { lines.len() * kinds.len() };
-    let given = |room: usize| given(lines.as_flattened(), &kinds, numbers.as_flattened(), rows, room);
+    let rows = if shapes.kinds.len() > 256 { 0 } else { count * shapes.kinds.len() };
     // a line mostly meets few shapes: where they are more, the refusal says how many crossings there are
-    match given((2 * rows).min(8 * lines.len() + 4096)) {
-        Err(short) if short.refusal.number == 9 => given(short.refusal.place),
+    match given_in(lines, shapes, rows, (2 * rows).min(8 * count + 4096)) {
+        Err(short) if short.refusal.reason == Reason::ListTooShort => given_in(lines, shapes, rows, short.refusal.place),
         answer => answer,
     }
 }
 
 /// The answer in lists of its own, of so many entries.
-fn given(lines: &[f64], kinds: &[u8], numbers: &[f64], rows: usize, room: usize) -> Result<ManyCrossed, LineRefusal> {
+#[cfg(feature = "alloc")]
+fn given_in(lines: &[f64], shapes: ShapeLists, rows: usize, room: usize) -> Result<ManyCrossed, LineRefusal> {
     let mut all = ManyCrossed { rows: vec![0; rows], lines: vec![0; room], positions: vec![0; room], shapes: vec![0; room] };
     let mut lists = ManyLists { rows: &mut all.rows, lines: &mut all.lines, positions: &mut all.positions, shapes: &mut all.shapes };
-    let counts = cross_many_into(lines, kinds, numbers, &mut lists)?;
+    let counts = cross_many_into(lines, shapes, &mut lists)?;
     all.lines.truncate(counts.crossings);
     all.positions.truncate(counts.crossings);
     all.shapes.truncate(counts.crossings);
@@ -153,18 +212,18 @@ fn given(lines: &[f64], kinds: &[u8], numbers: &[f64], rows: usize, room: usize)
 
 /// Crosses half-spaces and boxes with many lines into lent lists.
 ///
-/// Each line has six of `lines`: origin, direction. A line begun counts, and a number that it lacks is not finite. Kinds and numbers of the
-/// shapes are those of [`cross_into`](crate::cross_into).
+/// Each line has six of `lines`: origin, direction. A line begun counts, and a number that it lacks is not finite.
 ///
 /// `rows` needs an entry a line and shape, the others one a crossing. Two crossings a shape and line are always room enough: with that room
 /// the lines are gone through once to judge them and once to write, with less once more between, to count their crossings.
 ///
 /// ```
-/// use kressedach::{cross_many_into, ManyCounts, ManyLists, BOX};
+/// use kressedach::{cross_many_into, ManyCounts, ManyLists, ShapeLists, BOX};
 /// let lines = [0.0, 1.0, 1.0, 1.0, 0.0, 0.0, 0.0, 5.0, 1.0, 1.0, 0.0, 0.0, 0.0, 1.0, 1.0, -1.0, 0.0, 0.0];
 /// let (mut rows, mut numbers, mut positions, mut shapes) = ([9; 4], [9; 5], [9; 5], [9; 5]);
 /// let mut lists = ManyLists { rows: &mut rows, lines: &mut numbers, positions: &mut positions, shapes: &mut shapes };
-/// let counts = cross_many_into(&lines, &[BOX], &[5.0, 0.0, 0.0, 6.0, 2.0, 2.0], &mut lists)?;
+/// let block = ShapeLists { kinds: &[BOX], numbers: &[5.0, 0.0, 0.0, 6.0, 2.0, 2.0] };
+/// let counts = cross_many_into(&lines, block, &mut lists)?;
 /// assert_eq!(counts, ManyCounts { lines: 3, crossings: 4 });
 /// assert_eq!((rows, numbers), ([0, 0, 0, 9], [0, 0, 2, 2, 9]));
 /// assert_eq!((positions, shapes), ([5000, 6000, -6000, -5000, 9], [0, 0, 0, 0, 9]));
@@ -173,32 +232,15 @@ fn given(lines: &[f64], kinds: &[u8], numbers: &[f64], rows: usize, room: usize)
 ///
 /// # Errors
 ///
-/// 16 and 14 as [`cross_many`], then 9 for the lists in their order.
+/// 16 for more than 256 shapes, 14 for more than 4294967296 lines, then line by line 16: for the line, then for the first shape at fault;
+/// then 9 for the lists in their order.
 #[inline]
-pub fn cross_many_into(lines: &[f64], kinds: &[u8], numbers: &[f64], lists: &mut ManyLists) -> Result<ManyCounts, LineRefusal> {
-    // SAFETY: slices are pointers to that many entries; those that are written are borrowed by nobody else.
-    let r = unsafe {
-        ffi::reported(|report| {
-            ffi::kressedach_cross_many(
-                report,
-                kinds.as_ptr(),
-                kinds.len(),
-                numbers.as_ptr(),
-                numbers.len(),
-                lines.as_ptr(),
-                lines.len(),
-                lists.rows.as_mut_ptr(),
-                lists.rows.len(),
-                lists.lines.as_mut_ptr(),
-                lists.lines.len(),
-                lists.positions.as_mut_ptr(),
-                lists.positions.len(),
-                lists.shapes.as_mut_ptr(),
-                lists.shapes.len(),
-            )
-        })
-    };
-    let line = (r.number == 16 && r.place != 256).then_some(r.line);
+pub fn cross_many_into(lines: &[f64], shapes: ShapeLists, lists: &mut ManyLists) -> Result<ManyCounts, LineRefusal> {
+    let r = call!(kressedach_cross_many:
+        reads shapes.kinds, reads shapes.numbers, reads lines,
+        writes lists.rows, writes lists.lines, writes lists.positions, writes lists.shapes
+    );
+    let line = (r.number == Reason::ShapeWrong.number() && r.place != 256).then_some(r.line);
     let counts = ManyCounts { lines: r.lines, crossings: r.crossings };
-    unless_refused(r.number, 0, r.place, counts).map_err(|refusal| LineRefusal { line, refusal })
+    refusal::unless(r.number, 0, r.place, counts).map_err(|refusal| LineRefusal { line, refusal })
 }

@@ -1,8 +1,16 @@
 //! Sheets from names and a formula, and back. Whatever is written is read by the proved reader before it is given.
 
 use crate::{read, Formula, Refusal, Sheets, Which};
+use alloc::vec::Vec;
 
 /// The edition of a sheet.
+///
+/// ```
+/// use kressedach::{encode, formula, Edition, Formula};
+/// let sheet = encode(&["A"], &Formula::shape(0), Edition::Two)?;
+/// assert_eq!(formula(&sheet)?.0, Edition::Two);
+/// # Ok::<(), kressedach::Refusal>(())
+/// ```
 #[derive(Debug, Clone, Copy, PartialEq, Eq, Hash)]
 pub enum Edition {
     /// Edition 1, in which an operation stands after its operands.
@@ -27,7 +35,7 @@ pub enum Edition {
 ///
 /// # Errors
 ///
-/// As [`read`], of the bytes that would have been given.
+/// As [`read`](crate::read()), of the bytes that would have been given.
 pub fn encode<N: AsRef<[u8]>>(names: &[N], formula: &Formula, edition: Edition) -> Result<Vec<u8>, Refusal> {
     encoded(None, names, formula, edition)
 }
@@ -44,12 +52,17 @@ pub fn encode<N: AsRef<[u8]>>(names: &[N], formula: &Formula, edition: Edition) 
 ///
 /// # Errors
 ///
-/// As [`read`], of both sheets.
+/// As [`read`](crate::read()), of both sheets.
 pub fn encode_beside<N: AsRef<[u8]>>(fittings: &[u8], names: &[N], formula: &Formula, edition: Edition) -> Result<Vec<u8>, Refusal> {
     encoded(Some(fittings), names, formula, edition)
 }
 
 /// The fittings sheet that has these names.
+///
+/// ```
+/// assert_eq!(kressedach::encode_fittings(&["lug"])?, b"\x01\0\x02\0\x01\x02\0\x03lug");
+/// # Ok::<(), kressedach::Refusal>(())
+/// ```
 ///
 /// # Errors
 ///
@@ -86,7 +99,7 @@ fn names_from(fittings: &[u8], tag: usize) -> Vec<&str> {
     let mut names = Vec::new();
     while let [2, high, low, after @ ..] = rest {
         let (name, others) = after.split_at(after.len().min(usize::from(u16::from_be_bytes([*high, *low]))));
-        names.push(std::str::from_utf8(name).unwrap_or_default());
+        names.push(core::str::from_utf8(name).unwrap_or_default());
         rest = others;
     }
     names
@@ -103,7 +116,7 @@ fn names_from(fittings: &[u8], tag: usize) -> Vec<&str> {
 ///
 /// # Errors
 ///
-/// As [`read`].
+/// As [`read`](crate::read()).
 pub fn formula<'a>(sheets: impl Into<Sheets<'a>>) -> Result<(Edition, Formula), Refusal> {
     let sheets = sheets.into();
     let bytes = sheets.part(2, read(sheets)?.formula);

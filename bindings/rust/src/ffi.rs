@@ -1,5 +1,5 @@
-//! The exported functions of `crates/host`, declared again. The compiler checks this against nothing; `tests/declared.rs` compares it
-//! with `crates/host/src/lib.rt`. Each writes its report where its first argument says, on every processor.
+//! The exported functions of `crates/kressedach`, declared again. The compiler checks this against nothing; `tests/declared.rs` compares it
+//! with `crates/kressedach/src/lib.rt`. Each writes its report where its first argument says, on every processor.
 //!
 //! # Safety
 //!
@@ -350,7 +350,7 @@ extern "C" {
 ///
 /// `call` has the whole report written.
 pub unsafe fn reported<R>(call: impl FnOnce(*mut R)) -> R {
-    let mut report = std::mem::MaybeUninit::uninit();
+    let mut report = core::mem::MaybeUninit::uninit();
     call(report.as_mut_ptr());
     unsafe { report.assume_init() }
 }

@@ -1,32 +1,7 @@
 //! A formula in Rust, and its codes in both orders.
 
-/// An operation of a formula.
-#[derive(Debug, Clone, Copy, PartialEq, Eq, Hash)]
-pub enum Operation {
-    /// Inside the left operand, the right one, or both.
-    Union,
-    /// Inside both.
-    Intersection,
-    /// Inside the left operand and not the right one.
-    Difference,
-    /// Inside one of them, and not both. No move to edition 2 writes it any more.
-    Exclusive,
-}
-
-impl Operation {
-    /// All four, by rising code.
-    pub const ALL: [Operation; 4] = [Operation::Union, Operation::Intersection, Operation::Difference, Operation::Exclusive];
-
-    /// Its code in a sheet: 0xFFF0 to 0xFFF3.
-    pub fn code(self) -> u16 {
-        0xFFF0 + self as u16
-    }
-
-    /// The operation of a code, or none.
-    pub fn of_code(code: u16) -> Option<Operation> {
-        Operation::ALL.get(usize::from(code.checked_sub(0xFFF0)?)).copied()
-    }
-}
+use crate::Operation;
+use alloc::{vec, vec::Vec};
 
 /// A formula: a shape, or an operation on two formulas.
 ///
@@ -45,11 +20,20 @@ pub struct Formula {
 
 impl Formula {
     /// A shape, by its number. No sheets have more than 256 names.
+    ///
+    /// ```
+    /// assert_eq!(kressedach::Formula::shape(7).codes(), [7]);
+    /// ```
     pub fn shape(number: u8) -> Formula {
         Formula { codes: vec![number.into()] }
     }
 
     /// An operation: this formula is its left operand.
+    ///
+    /// ```
+    /// use kressedach::{Formula, Operation};
+    /// assert_eq!(Formula::shape(0).with(Operation::Union, Formula::shape(1)).codes(), [0, 1, 0xFFF0]);
+    /// ```
     pub fn with(mut self, operation: Operation, right: Formula) -> Formula {
         self.codes.extend(right.codes);
         self.codes.push(operation.code());
@@ -57,31 +41,61 @@ impl Formula {
     }
 
     /// Inside this formula, the other, or both.
+    ///
+    /// ```
+    /// use kressedach::Formula;
+    /// assert_eq!(Formula::shape(0).union(Formula::shape(1)).codes(), [0, 1, 0xFFF0]);
+    /// ```
     pub fn union(self, right: Formula) -> Formula {
         self.with(Operation::Union, right)
     }
 
     /// Inside both.
+    ///
+    /// ```
+    /// use kressedach::Formula;
+    /// assert_eq!(Formula::shape(0).intersection(Formula::shape(1)).codes(), [0, 1, 0xFFF1]);
+    /// ```
     pub fn intersection(self, right: Formula) -> Formula {
         self.with(Operation::Intersection, right)
     }
 
     /// Inside this formula and not the other.
+    ///
+    /// ```
+    /// use kressedach::Formula;
+    /// assert_eq!(Formula::shape(0).difference(Formula::shape(1)).codes(), [0, 1, 0xFFF2]);
+    /// ```
     pub fn difference(self, right: Formula) -> Formula {
         self.with(Operation::Difference, right)
     }
 
     /// Inside one of them, and not both.
+    ///
+    /// ```
+    /// use kressedach::Formula;
+    /// assert_eq!(Formula::shape(0).exclusive(Formula::shape(1)).codes(), [0, 1, 0xFFF3]);
+    /// ```
     pub fn exclusive(self, right: Formula) -> Formula {
         self.with(Operation::Exclusive, right)
     }
 
     /// Its codes in postfix order, as edition 1 has them.
+    ///
+    /// ```
+    /// use kressedach::Formula;
+    /// assert_eq!(Formula::shape(0).difference(Formula::shape(1)).codes(), [0, 1, 0xFFF2]);
+    /// ```
     pub fn codes(&self) -> &[u16] {
         &self.codes
     }
 
     /// Its codes with the operation first, as edition 2 has them.
+    ///
+    /// ```
+    /// use kressedach::Formula;
+    /// assert_eq!(Formula::shape(0).difference(Formula::shape(1)).codes_first(), [0xFFF2, 0, 1]);
+    /// ```
     pub fn codes_first(&self) -> Vec<u16> {
         turned(&self.codes)
     }

@@ -1,10 +1,25 @@
 //! Judging another ray caster's wall list.
 
-use crate::lines::Numbers;
-use crate::{ffi, read, unless_refused, Crossing, Refusal, Sheets, Start};
+use crate::call::call;
+#[cfg(feature = "alloc")]
+use crate::numbering::{Numbered, Numbers};
+use crate::{refusal, Lines, Refusal, Sheets};
+#[cfg(feature = "alloc")]
+use crate::{Crossing, Start};
+#[cfg(feature = "alloc")]
+use alloc::vec::Vec;
 
 /// An entry of another ray caster's wall list.
-#[derive(Debug, Clone, Copy, PartialEq, Eq, Hash)]
+///
+/// ```
+/// use kressedach::{judge, Crossing, Entry, Opinion};
+/// let at = |position| Crossing { line: 7, position, shape: 0 };
+/// let theirs = [Entry { line: 7, start: 0, end: 40 }];
+/// let sheet = b"\x01\0\x02\0\x01\x02\0\x01A\x03\0\x02\0\0";
+/// assert_eq!(judge(sheet, &[], &[at(0), at(40)], &theirs)?, Opinion::Right);
+/// # Ok::<(), kressedach::Refusal>(())
+/// ```
+#[derive(Debug, Clone, Copy, PartialEq, Eq, PartialOrd, Ord, Hash)]
 pub struct Entry {
     /// The line's number.
     pub line: u32,
@@ -15,6 +30,12 @@ pub struct Entry {
 }
 
 /// The opinion on another ray caster's wall list.
+///
+/// ```
+/// use kressedach::{judge, Opinion};
+/// assert_eq!(judge(b"\x01\0\x02\0\x01\x02\0\x01A\x03\0\x02\0\0", &[], &[], &[])?, Opinion::Right); // no lines, no walls
+/// # Ok::<(), kressedach::Refusal>(())
+/// ```
 #[derive(Debug, Clone, Copy, PartialEq, Eq, Hash)]
 pub enum Opinion {
     /// Its entries, joined where they touch, are exactly the walls.
@@ -27,7 +48,7 @@ pub enum Opinion {
 
 impl Opinion {
     /// As the library tells it, of a list of so many entries.
-    fn of(right: bool, index: usize, length: usize) -> Opinion {
+    pub(crate) fn of(right: bool, index: usize, length: usize) -> Opinion {
         match right {
             true => Opinion::Right,
             false if index == length => Opinion::Lacking,
@@ -67,27 +88,40 @@ impl Opinion {
 /// # Errors
 ///
 /// As [`classify_from`](crate::classify_from).
+#[cfg(feature = "alloc")]
 pub fn judge<'a>(sheets: impl Into<Sheets<'a>>, starts: &[Start], crossings: &[Crossing], theirs: &[Entry]) -> Result<Opinion, Refusal> {
-    let sheets = sheets.into();
+    judged(sheets.into(), starts, crossings, theirs, |sheets, lines, theirs| judge_lists(sheets, lines, theirs))
+}
+
+/// The opinion on lines of any numbers, by a job that goes by rows.
+#[cfg(feature = "alloc")]
+pub(crate) fn judged(
+    sheets: Sheets,
+    starts: &[Start],
+    crossings: &[Crossing],
+    mut theirs: &[Entry],
+    job: impl FnOnce(Sheets, Lines, TheirLists) -> Result<Opinion, Refusal>,
+) -> Result<Opinion, Refusal> {
     let mut numbers = Numbers::of(starts, crossings);
     // an entry on a line of which nothing is known is wrong: those after the first such matter no more, and its line alone needs a row
-    let mut theirs = theirs;
     if let Some(stranger) = theirs.iter().position(|entry| !numbers.has(entry.line)) {
         numbers.add(theirs[stranger].line);
         theirs = &theirs[..=stranger];
     }
-    let rows = numbers.rows(starts, read(sheets)?.names);
-    let lines = numbers.rows_of(crossings.iter().map(|crossing| crossing.line));
-    let positions: Vec<i32> = crossings.iter().map(|crossing| crossing.position).collect();
-    let shapes: Vec<u16> = crossings.iter().map(|crossing| crossing.shape).collect();
-    let their_lines = numbers.rows_of(theirs.iter().map(|entry| entry.line));
-    let their_starts: Vec<i32> = theirs.iter().map(|entry| entry.start).collect();
-    let their_ends: Vec<i32> = theirs.iter().map(|entry| entry.end).collect();
-    let lists = TheirLists { lines: &their_lines, starts: &their_starts, ends: &their_ends };
-    judge_lists(sheets, &rows, &lines, &positions, &shapes, lists)
+    let numbered = Numbered::of(numbers, crate::read(sheets)?.names, starts, crossings);
+    let lines = numbered.numbers.rows_of(theirs.iter().map(|entry| entry.line));
+    let starts: Vec<i32> = theirs.iter().map(|entry| entry.start).collect();
+    let ends: Vec<i32> = theirs.iter().map(|entry| entry.end).collect();
+    job(sheets, numbered.lines(), TheirLists { lines: &lines, starts: &starts, ends: &ends })
 }
 
 /// Another ray caster's wall list as three lists of one length, an entry a wall in each.
+///
+/// ```
+/// use kressedach::TheirLists;
+/// let theirs = TheirLists { lines: &[0, 1], starts: &[-10, -2147483648], ends: &[25, 7] };
+/// assert_eq!((theirs.lines[1], theirs.starts[1], theirs.ends[1]), (1, kressedach::OPEN_START, 7));
+/// ```
 #[derive(Debug, Clone, Copy)]
 pub struct TheirLists<'a> {
     /// The line's number.
@@ -102,58 +136,25 @@ pub struct TheirLists<'a> {
 /// allocated, and no list is written.
 ///
 /// ```
-/// use kressedach::{judge_lists, Opinion, TheirLists};
+/// use kressedach::{judge_lists, Lines, Opinion, Reason, TheirLists};
 /// let sheet = b"\x01\0\x02\0\x01\x02\0\x01A\x03\0\x02\0\0";
 /// // line 0 starts in air and line 1 inside A
-/// let judge = |ends: &[i32]| {
-///     let theirs = TheirLists { lines: &[0, 1], starts: &[-10, -2147483648], ends };
-///     judge_lists(sheet, &[0, 1], &[0, 0, 1], &[-10, 25, 7], &[0, 0, 0], theirs)
-/// };
+/// let lines = Lines { rows: &[0, 1], lines: &[0, 0, 1], positions: &[-10, 25, 7], shapes: &[0, 0, 0] };
+/// let judge = |ends: &[i32]| judge_lists(sheet, lines, TheirLists { lines: &[0, 1], starts: &[-10, -2147483648], ends });
 /// assert_eq!(judge(&[25, 7])?, Opinion::Right);
 /// assert_eq!(judge(&[25, 9])?, Opinion::WrongAt(1));
-/// assert_eq!(judge(&[25]).unwrap_err().number, 13);
+/// assert_eq!(judge(&[25]).unwrap_err().reason, Reason::LengthsDiffer);
 /// # Ok::<(), kressedach::Refusal>(())
 /// ```
 ///
 /// # Errors
 ///
-/// 1 to 7 and 17 as [`read`], 8, 13 for the crossings' lists or theirs, 14, then 10, 15 and 11 crossing by crossing.
+/// 1 to 7 and 17 as [`read`](crate::read()), 8, 13 for the crossings' lists or theirs, 14, then 10, 15 and 11 crossing by crossing.
 #[inline]
-pub fn judge_lists<'a>(
-    sheets: impl Into<Sheets<'a>>,
-    rows: &[u8],
-    lines: &[u32],
-    positions: &[i32],
-    shapes: &[u16],
-    theirs: TheirLists,
-) -> Result<Opinion, Refusal> {
-    let (fitted, fittings, sheet) = sheets.into().parts();
-    // SAFETY: a slice is a pointer to that many entries, which nobody writes while it is borrowed.
-    let r = unsafe {
-        ffi::reported(|report| {
-            ffi::kressedach_judge(
-                report,
-                fitted,
-                fittings.as_ptr(),
-                fittings.len(),
-                sheet.as_ptr(),
-                sheet.len(),
-                rows.as_ptr(),
-                rows.len(),
-                lines.as_ptr(),
-                lines.len(),
-                positions.as_ptr(),
-                positions.len(),
-                shapes.as_ptr(),
-                shapes.len(),
-                theirs.lines.as_ptr(),
-                theirs.lines.len(),
-                theirs.starts.as_ptr(),
-                theirs.starts.len(),
-                theirs.ends.as_ptr(),
-                theirs.ends.len(),
-            )
-        })
-    };
-    unless_refused(r.number, r.sheet, r.place, Opinion::of(r.right, r.index, theirs.lines.len()))
+pub fn judge_lists<'a>(sheets: impl Into<Sheets<'a>>, lines: Lines, theirs: TheirLists) -> Result<Opinion, Refusal> {
+    let r = call!(kressedach_judge:
+        sheets sheets.into(), reads lines.rows, reads lines.lines, reads lines.positions, reads lines.shapes,
+        reads theirs.lines, reads theirs.starts, reads theirs.ends
+    );
+    refusal::unless(r.number, r.sheet, r.place, Opinion::of(r.right, r.index, theirs.lines.len()))
 }

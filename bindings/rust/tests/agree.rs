@@ -7,7 +7,7 @@ mod given;
 mod lent;
 
 use given::{any_given, mostly_good, same, Given};
-use kressedach::{NameLists, RunLists, WallLists};
+use kressedach::{Both, Lines, NameLists, NodeLists, RunLists, WallLists};
 use lent::{rooms, Lent};
 use peer::lines::{Crossing, Crossings};
 use peer::make::{self, Dice, Form};
@@ -72,7 +72,8 @@ impl LentRun {
 fn compare(case: &Case) -> Result<Vec<u8>, String> {
     if let Case::Both { sheet, order, toggles: [first, second], rooms } = case {
         let [mut to_first, mut to_second] = rooms.map(LentRun::new);
-        let got = kressedach::run_both_into(sheet.ours(), order, [first, second], [to_first.lists(), to_second.lists()]);
+        let mut lists = Both { first: to_first.lists(), second: to_second.lists() };
+        let got = kressedach::run_both_into(sheet.ours(), order, Both { first, second }, &mut lists).into_array();
         let due = peer::run_both(sheet.theirs(), order, [first, second], *rooms);
         let lent = [to_first, to_second];
         return got
@@ -112,7 +113,8 @@ fn compare_one(case: &Case) -> Result<u8, String> {
         }
         Case::Build { sheet, rooms } => {
             let [mut kinds, mut firsts, mut seconds] = rooms.map(|room| Lent::new(room, |k| k as u16));
-            let got = kressedach::build_into(sheet.ours(), kinds.list(), firsts.list(), seconds.list());
+            let mut lists = NodeLists { kinds: kinds.list(), firsts: firsts.list(), seconds: seconds.list() };
+            let got = kressedach::build_into(sheet.ours(), &mut lists);
             let due = peer::build(sheet.theirs(), *rooms);
             let size = due.as_ref().map(|dwarf| (dwarf.leaves, dwarf.records.len(), dwarf.rounds, dwarf.height()));
             let number = same(got.map(|size| (size.leaves, size.nodes, size.rounds, size.height)), size)?;
@@ -124,8 +126,7 @@ fn compare_one(case: &Case) -> Result<u8, String> {
         }
         Case::Run { sheet, toggles, rooms } => {
             let mut lent = LentRun::new(*rooms);
-            let RunLists { roots, counts, labels } = lent.lists();
-            let got = kressedach::run_into(sheet.ours(), toggles, roots, counts, labels);
+            let got = kressedach::run_into(sheet.ours(), toggles, &mut lent.lists());
             let due = peer::run(sheet.theirs(), toggles, *rooms);
             lent.check(&due)?;
             same(got, due.as_ref().map(|ran| ran.labels.len()))
@@ -141,7 +142,7 @@ fn compare_one(case: &Case) -> Result<u8, String> {
                 start_shapes: start_shapes.list(),
                 end_shapes: end_shapes.list(),
             };
-            let got = kressedach::classify_into(sheet.ours(), rows, lines, positions, shapes, &mut lists);
+            let got = kressedach::classify_into(sheet.ours(), Lines { rows, lines, positions, shapes }, &mut lists);
             let due = peer::classify(sheet.theirs(), Crossings { rows, lines, positions, shapes }, *rooms);
             let number = same(got, due.as_ref().map(|walls| walls.len()))?;
             wall_lines.check("wall_lines", due.iter().flatten().map(|wall| wall.line))?;
@@ -443,14 +444,14 @@ fn a_small_stack_is_enough() {
             assert_eq!(kressedach::move_sheet(&sheet).map(|moved| kressedach::move_sheet(&moved)), Ok(Ok(sheet)));
         }
         let operations = make::sheet_first(&["A"], &[0xFFF3; 2047]);
-        assert_eq!(kressedach::move_sheet(&operations).map_err(|refusal| (refusal.number, refusal.place)), Err((7, 9)));
+        assert_eq!(kressedach::move_sheet(&operations).map_err(|refusal| (refusal.number(), refusal.place)), Err((7, 9)));
         for case in largest_sheets() {
             match case {
                 Case::Read { sheet } => drop(kressedach::read(sheet.ours()).unwrap()),
                 Case::Build { sheet, .. } => drop(kressedach::build(sheet.ours()).unwrap()),
                 Case::Run { sheet, toggles, .. } => drop(kressedach::run(sheet.ours(), &toggles).unwrap()),
                 Case::Both { sheet, order, toggles: [first, second], .. } => {
-                    let ran = kressedach::run_both(sheet.ours(), &order, [&first, &second]);
+                    let ran = kressedach::run_both(sheet.ours(), &order, Both { first: &first, second: &second }).into_array();
                     assert!(ran.iter().all(Result::is_ok));
                 }
                 Case::Classify { sheet, rows, lines, positions, shapes, .. } => {

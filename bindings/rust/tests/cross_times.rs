@@ -5,7 +5,7 @@
 
 mod said;
 
-use kressedach::{cross_many_into, ManyLists};
+use kressedach::{cross_many_into, ManyLists, ShapeLists};
 use peer::rasters::{self, Raster};
 use peer::{from_env, say};
 use said::{file, WALLCHECK};
@@ -51,7 +51,7 @@ fn crossed(raster: &Raster, mut take: impl FnMut(usize, &[u32], &[i32], &[u16]))
     let mut lists = (vec![0; rows], vec![0; 2 * rows], vec![0; 2 * rows], vec![0; 2 * rows]);
     for (k, block) in raster.lines.chunks(6 * BLOCK).enumerate() {
         let mut lent = ManyLists { rows: &mut lists.0, lines: &mut lists.1, positions: &mut lists.2, shapes: &mut lists.3 };
-        let n = cross_many_into(block, &raster.kinds, &raster.numbers, &mut lent).unwrap().crossings;
+        let n = cross_many_into(block, ShapeLists { kinds: &raster.kinds, numbers: &raster.numbers }, &mut lent).unwrap().crossings;
         take(k * BLOCK, &lists.1[..n], &lists.2[..n], &lists.3[..n]);
     }
 }

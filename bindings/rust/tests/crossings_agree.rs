@@ -6,7 +6,7 @@
 
 mod lent;
 
-use kressedach::{Counts, LineLists, Refusal};
+use kressedach::{Counts, LineLists, Refusal, ShapeLists};
 use lent::{rooms, Lent};
 use peer::crossings::{Crossed, Probe, Shapes};
 use peer::drawings::{self, EXTREME};
@@ -26,7 +26,8 @@ impl Case {
     fn ours(&self, lists: &mut LineLists) -> Result<Counts, Refusal> {
         match self {
             Case::Shapes { probe, kinds, numbers, .. } => {
-                kressedach::cross_into(kressedach::Probe { origin: probe.origin, direction: probe.direction }, kinds, numbers, lists)
+                let probe = kressedach::Probe { origin: probe.origin, direction: probe.direction };
+                kressedach::cross_into(probe, ShapeLists { kinds, numbers }, lists)
             }
             Case::Balls { numbers, .. } => kressedach::cross_balls_into(numbers, lists),
         }
@@ -55,7 +56,7 @@ fn compare(case: &Case) -> Result<usize, String> {
     let (mut starts, mut positions, mut shapes) = (Lent::new(a, |k| k as u8), Lent::new(b, |k| k as i32), Lent::new(c, |k| k as u16));
     let got = case.ours(&mut LineLists { starts: starts.list(), positions: positions.list(), shapes: shapes.list() });
     let due = case.theirs();
-    let got = got.map(|counts| (counts.shapes, counts.crossings)).map_err(|refusal| (refusal.number, refusal.sheet, refusal.place));
+    let got = got.map(|counts| (counts.shapes, counts.crossings)).map_err(|refusal| (refusal.number(), refusal.sheet, refusal.place));
     let counts = due
         .as_ref()
         .map(|crossed| (crossed.starts.len(), crossed.crossings.len()))
@@ -126,7 +127,7 @@ fn what_is_given_is_classified() {
         let (mut starts, mut positions, mut shapes) = (vec![0; kinds.len()], vec![0; 2 * kinds.len()], vec![0; 2 * kinds.len()]);
         let mut lists = LineLists { starts: &mut starts, positions: &mut positions, shapes: &mut shapes };
         let probe = kressedach::Probe { origin: probe.origin, direction: probe.direction };
-        let Ok(counts) = kressedach::cross_into(probe, &kinds, &numbers, &mut lists) else { continue };
+        let Ok(counts) = kressedach::cross_into(probe, ShapeLists { kinds: &kinds, numbers: &numbers }, &mut lists) else { continue };
         if counts.shapes == 0 {
             continue;
         }

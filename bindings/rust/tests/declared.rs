@@ -1,5 +1,6 @@
-//! The two declarations of the boundary, `ffi.rs` and `kressedach.h`, are those that `crates/host/src/lib.rt` asks for: what a function of
-//! the library returns, it writes where a first argument more says.
+//! The two declarations of the boundary, `ffi.rs` and `kressedach.h`, are those that `crates/kressedach/src/lib.rt` asks for: what a
+//! function of the library returns, it writes where a first argument more says; the version alone is returned, and only C asks for it. The
+//! header tells gcc and clang of each list whether it is read or written, and where its length stands.
 
 use std::fs;
 
@@ -9,7 +10,7 @@ fn text(path: &str) -> String {
 
 /// Without comments, attributes and preprocessor lines, and with one space where any space was.
 fn bare(source: &str) -> String {
-    let mut s = source.to_string();
+    let mut s = source.replace("\\\n", "");
     while let Some(at) = s.find("/*") {
         let end = at + s[at..].find("*/").unwrap() + 2;
         s.replace_range(at..end, " ");
@@ -52,15 +53,29 @@ fn parameter(p: &str) -> (String, String) {
     }
 }
 
+/// What the header says of the report and of each list, by their places among C's parameters.
+fn attributes(parameters: &[&str]) -> String {
+    let (mut said, mut at) = ("KRESSEDACH_REPORTED".to_string(), 2);
+    for p in parameters {
+        let (name, t) = p.trim().split_once(": ").unwrap();
+        if t.starts_with('&') {
+            let mode = if t.starts_with("&mut") { "WRITTEN" } else { "READ" };
+            said += &format!(" KRESSEDACH_{mode}({at}, {}, {name})", at + 1);
+        }
+        at += if t.starts_with('&') { 2 } else { 1 };
+    }
+    said
+}
+
 #[test]
 fn the_declarations_agree() {
-    let host = bare(&text("../../crates/host/src/lib.rt"));
+    let library = bare(&text("../../crates/kressedach/src/lib.rt"));
     let (header, ffi) = (bare(&text("../c/kressedach.h")), bare(&text("src/ffi.rs")));
     let declared = |c: String, rust: String| {
         assert!(header.contains(&c), "{c}\nis not in the header:\n{header}");
         assert!(ffi.contains(&rust), "{rust}\nis not in ffi.rs:\n{ffi}");
     };
-    let structs: Vec<&str> = host.split("pub struct ").skip(1).collect();
+    let structs: Vec<&str> = library.split("pub struct ").skip(1).collect();
     for s in &structs {
         let (name, rest) = s.split_once(" { ").unwrap();
         let fields = rest.split_once(" }").unwrap().0;
@@ -71,21 +86,25 @@ fn the_declarations_agree() {
         let c: String = fields.split(", ").map(c_field).collect();
         declared(format!("struct {} {{ {c}}};", c_name(name)), format!("pub struct {name} {{ {fields} }}"));
     }
-    let functions: Vec<&str> = host.split("pub extern \"C\" fn ").skip(1).collect();
+    let functions: Vec<&str> = library.split("pub extern \"C\" fn ").skip(1).collect();
+    let (version, functions): (Vec<&str>, Vec<&str>) = functions.into_iter().partition(|f| f.starts_with("kressedach_version() -> u32 "));
+    assert!(version.len() == 1 && header.contains("uint32_t kressedach_version(void);"));
     for f in &functions {
         let (name, rest) = f.split_once('(').unwrap();
         let (parameters, rest) = rest.split_once(") -> ").unwrap();
         let result = rest.split_whitespace().next().unwrap();
-        let (c, rust): (Vec<_>, Vec<_>) = parameters.split(", ").map(parameter).unzip();
-        let (c, rust) = (c.join(", "), rust.join(", "));
-        declared(format!("void {name}({} *report, {c});", c_type(result)), format!("pub fn {name}(report: *mut {result}, {rust});"));
+        let parameters: Vec<&str> = parameters.split(", ").collect();
+        let (c, rust): (Vec<_>, Vec<_>) = parameters.iter().map(|p| parameter(p)).unzip();
+        let (c, rust, attributes) = (c.join(", "), rust.join(", "), attributes(&parameters));
+        let c = format!("void {name}({} *report, {c}) {attributes};", c_type(result));
+        declared(c, format!("pub fn {name}(report: *mut {result}, {rust});"));
     }
     for (what, most) in [("NODES", kressedach::MOST_NODES), ("NAMES", kressedach::MOST_NAMES)] {
         assert!(text("../c/kressedach.h").contains(&format!("#define KRESSEDACH_MOST_{what} {most}\n")));
     }
     // nothing is declared that is not exported
     let count = |s: &str, of: &str| s.matches(of).count();
-    assert_eq!((structs.len(), functions.len()), (11, 13), "structs and functions of the host");
+    assert_eq!((structs.len(), functions.len()), (11, 13), "structs and functions of the library");
     assert_eq!((count(&header, "_report {"), count(&header, "void kressedach_")), (11, 13), "of the header");
     assert_eq!((count(&ffi, "pub struct "), count(&ffi, "pub fn ")), (11, 13), "of ffi.rs");
 }

@@ -8,7 +8,7 @@ mod given;
 mod lent;
 
 use given::{mostly_good, same, Given};
-use kressedach::{EditLists, RunLists};
+use kressedach::{EditLists, EditedLists, RunLists};
 use lent::{rooms, Lent};
 use peer::designs::{self, Design};
 use peer::make::{self, Dice, Form};
@@ -36,8 +36,9 @@ fn compare(case: &Case) -> Result<u8, String> {
     let Case { sheet, toggles, design, rooms: [a, b, c, d] } = case;
     let (mut roots, mut labels) = (Lent::new(*a, |k| k as u8), Lent::new(*c, |k| k as u8));
     let (mut counts, mut edit_counts) = (Lent::new(*b, |k| k as u32), Lent::new(*d, |k| k as u32));
-    let lists = RunLists { roots: roots.list(), counts: counts.list(), labels: labels.list() };
-    let got = kressedach::run_edited_into(sheet.ours(), toggles, edits(design), lists, edit_counts.list());
+    let run = RunLists { roots: roots.list(), counts: counts.list(), labels: labels.list() };
+    let mut lists = EditedLists { run, edit_counts: edit_counts.list() };
+    let got = kressedach::run_edited_into(sheet.ours(), toggles, edits(design), &mut lists);
     let due = peer::run_edited(sheet.theirs(), toggles, design.lists(), case.rooms);
     let number = same(got, due.as_ref().map(|due| due.ran.labels.len()))?;
     roots.check("roots", due.iter().flat_map(|due| due.ran.roots.iter().copied()))?;
@@ -265,8 +266,9 @@ fn the_largest_sheets() {
         assert_eq!(assert_same(&case), 0);
         let call = move || {
             let (mut roots, mut counts, mut labels, mut edit_counts) = (vec![0; 656], vec![0; 656], vec![0; 3069], vec![0; 165]);
-            let lists = RunLists { roots: &mut roots, counts: &mut counts, labels: &mut labels };
-            assert!(kressedach::run_edited_into(case.sheet.ours(), &case.toggles, edits(&case.design), lists, &mut edit_counts).is_ok());
+            let run = RunLists { roots: &mut roots, counts: &mut counts, labels: &mut labels };
+            let mut lists = EditedLists { run, edit_counts: &mut edit_counts };
+            assert!(kressedach::run_edited_into(case.sheet.ours(), &case.toggles, edits(&case.design), &mut lists).is_ok());
         };
         std::thread::Builder::new().stack_size(512 * 1024).spawn(call).unwrap().join().unwrap();
     }

@@ -19,8 +19,8 @@ check) echo 'fn outcome::x: proved'; echo 'rt: outcome proved (1 s)'; echo 'rt: 
 staticlib)
     echo 'rt: outcome proved (unchanged since it was last proved)'
     [ -z "${RATTLE_HOME:-}" ] || "$RATTLE_HOME/on/aarch64/toolchain/bin/clang" module.bc -o module.o
-    mkdir -p target/staticlib; echo archive >target/staticlib/libhost.a
-    echo 'rt: target/staticlib/libhost.a has the functions of host' ;;
+    mkdir -p target/staticlib; echo archive >target/staticlib/libkressedach.a
+    echo 'rt: target/staticlib/libkressedach.a has the functions of kressedach' ;;
 esac
 "#;
 const FAILS: &str = "[ \"$1\" != try ] || exit 0; echo 'rt: outcome proved (1 s)'; echo 'fn basics::y: refused'; echo 'rt: basics NOT PROVED (exit 1, 2 s)'; exit 1\n";
@@ -98,7 +98,7 @@ fn what_it_proves_and_prints() {
         format!("{NEEDS}Two lines through a bored block, by the library's own code, which is not yet proved on this machine:\n{}", walls());
     assert_eq!(first, due);
     let crates: usize = rest.split(' ').next().unwrap().parse().unwrap();
-    for (k, name) in ["outcome", "basics", "host"].iter().enumerate() {
+    for (k, name) in ["outcome", "basics", "kressedach"].iter().enumerate() {
         let line = format!("\n  {name} proved; {} crates left, 0 min ", crates - k - 1);
         assert_eq!(rest.matches(&line).count(), 1, "{line}{rest}");
     }
@@ -112,7 +112,7 @@ fn nothing_is_proved_twice() {
     let cargo = cargo();
     let folder = tools("try-again", X86_64, &[("rt", FAILS), ("cargo", &cargo), ("cc", "")]);
     fs::create_dir_all(folder.join("target/staticlib")).unwrap();
-    fs::write(folder.join("target/staticlib/libhost.a"), b"").unwrap();
+    fs::write(folder.join("target/staticlib/libkressedach.a"), b"").unwrap();
     let (status, said, wrong) = tried(&folder, None);
     assert_eq!((status, wrong.as_str()), (Some(0), ""), "{said}");
     assert!(!said.contains("Proving") && said.ends_with("\n2,0,100000,Block,Block\n"), "{said}");
@@ -132,7 +132,7 @@ fn on_arm_the_archive_is_for_arm() {
     let (status, said, wrong) = tried(&folder, None);
     assert_eq!((status, wrong.as_str()), (Some(0), ""), "{said}");
     assert!(said.contains("Proving the library for aarch64, "), "{said}");
-    let made = fs::read_to_string(folder.join("target/archive/aarch64/libhost.a")).unwrap();
+    let made = fs::read_to_string(folder.join("target/archive/aarch64/libkressedach.a")).unwrap();
     assert!(made.contains("--target=aarch64-unknown-linux-gnu") && made.contains("-ffp-contract=off"), "{made}");
     assert_eq!(fs::read_to_string(folder.join("target/archive/aarch64/processor")).unwrap(), "aarch64\n");
     assert_eq!(fs::read_to_string(folder.join("target/archive/module.bc")).unwrap(), "the module");

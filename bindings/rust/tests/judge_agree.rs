@@ -38,7 +38,8 @@ fn told(opinion: Opinion, length: usize) -> (bool, usize) {
 fn ours(case: &Case) -> Result<Opinion, kressedach::Refusal> {
     let Case { sheet, lines, theirs } = case;
     let lists = TheirLists { lines: &theirs.lines, starts: &theirs.starts, ends: &theirs.ends };
-    kressedach::judge_lists(sheet.ours(), &lines.rows, &lines.lines, &lines.positions, &lines.shapes, lists)
+    let Lines { rows, lines, positions, shapes } = lines;
+    kressedach::judge_lists(sheet.ours(), kressedach::Lines { rows, lines, positions, shapes }, lists)
 }
 
 /// Calls the library and the plain implementation. Gives the opinion or the refusal's number, or in what they differ.
@@ -157,7 +158,7 @@ fn classified(sheet: &Given, lines: &Lines) -> Theirs {
         end_shapes: &mut vec![0; room],
     };
     let Lines { rows, lines, positions, shapes } = lines;
-    let count = kressedach::classify_into(sheet.ours(), rows, lines, positions, shapes, &mut lists).unwrap();
+    let count = kressedach::classify_into(sheet.ours(), kressedach::Lines { rows, lines, positions, shapes }, &mut lists).unwrap();
     Theirs { lines: wall_lines[..count].to_vec(), starts: starts[..count].to_vec(), ends: ends[..count].to_vec() }
 }
 

@@ -9,7 +9,7 @@
 mod ffi;
 mod lent;
 
-use kressedach::{ManyLists, Probe, Shape, WallLists, BOX};
+use kressedach::{Lines, ManyLists, Probe, Shape, ShapeLists, WallLists, BOX};
 use lent::{rooms, Lent};
 use peer::crossings::Shapes;
 use peer::drawings::EXTREME;
@@ -461,8 +461,8 @@ fn more_lines_than_there_may_be() {
         let (lines, kinds) = (&zeros.numbers()[..lines], vec![3; shapes]);
         let due = peer::many::cross_many(lines, Shapes { kinds: &kinds, numbers: &[] }, [0; 4]).unwrap_err();
         let mut lists = ManyLists { rows: &mut [], lines: &mut [], positions: &mut [], shapes: &mut [] };
-        let got = kressedach::cross_many_into(lines, &kinds, &[], &mut lists).unwrap_err();
-        assert_eq!((got.refusal.number, got.refusal.place), (due.refused.number, due.refused.place));
+        let got = kressedach::cross_many_into(lines, ShapeLists { kinds: &kinds, numbers: &[] }, &mut lists).unwrap_err();
+        assert_eq!((got.refusal.number(), got.refusal.place), (due.refused.number, due.refused.place));
         (due.refused.number, due.refused.place, got.line)
     };
     assert_eq!(refused(6 * 4294967296, 1), (16, 65535, Some(0)));
@@ -481,7 +481,7 @@ fn what_is_given_is_classified() {
         let rows = kinds.len() * lines.len().div_ceil(6);
         let mut all = (vec![0; rows], vec![0; 2 * rows], vec![0; 2 * rows], vec![0; 2 * rows]);
         let mut lists = ManyLists { rows: &mut all.0, lines: &mut all.1, positions: &mut all.2, shapes: &mut all.3 };
-        let Ok(counts) = kressedach::cross_many_into(&lines, &kinds, &numbers, &mut lists) else { continue };
+        let Ok(counts) = kressedach::cross_many_into(&lines, ShapeLists { kinds: &kinds, numbers: &numbers }, &mut lists) else { continue };
         if kinds.is_empty() {
             continue;
         }
@@ -499,7 +499,8 @@ fn what_is_given_is_classified() {
             start_shapes: &mut walls.3,
             end_shapes: &mut walls.4,
         };
-        let got = kressedach::classify_into(&sheet, crossings.rows, crossings.lines, crossings.positions, crossings.shapes, &mut lent);
+        let Crossings { rows, lines, positions, shapes } = crossings;
+        let got = kressedach::classify_into(&sheet, Lines { rows, lines, positions, shapes }, &mut lent);
         assert_eq!(got, Ok(due.len()));
         for (k, wall) in due.iter().enumerate() {
             assert_eq!((walls.0[k], walls.1[k], walls.2[k]), (wall.line, wall.start, wall.end));
@@ -527,5 +528,5 @@ fn lists_of_its_own() {
     }
     let probe = Probe { origin: [0.0; 3], direction: [1.0; 3] };
     let refusal = kressedach::cross_many(&[probe], &[below(0); 257]).unwrap_err();
-    assert_eq!((refusal.line, refusal.refusal.number, refusal.refusal.place), (None, 16, 256));
+    assert_eq!((refusal.line, refusal.refusal.number(), refusal.refusal.place), (None, 16, 256));
 }

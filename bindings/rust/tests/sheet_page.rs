@@ -2,7 +2,7 @@
 
 mod said;
 
-use kressedach::{move_sheet, names, Refusal};
+use kressedach::{move_sheet, names, Reason};
 use said::wallcheck;
 use std::fs;
 
@@ -35,16 +35,30 @@ fn the_table_of_refusals() {
     let numbers: Vec<u8> = rows.iter().map(|row| row.split('|').nth(1).unwrap().trim().parse().unwrap()).collect();
     assert!(numbers.iter().copied().eq(1..=20), "{numbers:?}");
     // what a refusal's number means is said in one way, but where its place decides
-    for (row, number) in rows.iter().zip(numbers).filter(|(_, number)| ![8, 13, 16, 17, 18, 19].contains(number)) {
-        let meaning = Refusal { number, sheet: None, place: 0 }.meaning();
-        assert!(row.contains(meaning), "{number}: {meaning}\n{row}");
+    let elsewise = [Reason::LengthsDiffer, Reason::ShapeWrong, Reason::FittingsName, Reason::OutOfUse];
+    for (row, reason) in rows.iter().zip(Reason::ALL).filter(|(_, reason)| !elsewise.contains(reason)) {
+        assert!(row.contains(reason.meaning()), "{reason:?}: {}\n{row}", reason.meaning());
     }
+}
+
+/// The crate's reasons are the header's names, number by number.
+#[test]
+fn the_header_names_the_reasons() {
     let header = text("bindings/c/kressedach.h");
     let numbers = header.split("enum kressedach_number {").nth(1).unwrap().split("};").next().unwrap();
-    for line in numbers.lines().filter(|line| line.contains(" = ")) {
-        let number = line.split(" = ").nth(1).unwrap().split([',', ' ']).next().unwrap();
-        assert!(number == "0" || page.contains(&format!("\n| {number} | ")), "{line}");
-    }
+    let named = |line: &str| {
+        let (name, rest) = line.trim().strip_prefix("KRESSEDACH_")?.split_once(" = ")?;
+        Some((name.to_string(), rest.split([',', ' ']).next().unwrap().parse().unwrap()))
+    };
+    let in_c: Vec<(String, u8)> = numbers.lines().filter_map(named).collect();
+    let letter = |(at, letter): (usize, char)| match letter.is_uppercase() && at > 0 {
+        true => format!("_{letter}"),
+        false => letter.to_uppercase().to_string(),
+    };
+    let name = |reason: &Reason| format!("{reason:?}").chars().enumerate().map(letter).collect::<String>();
+    let ours: Vec<(String, u8)> = Reason::ALL.iter().map(|reason| (name(reason), reason.number())).collect();
+    assert_eq!(in_c[0], ("GIVEN".into(), 0));
+    assert_eq!(in_c[1..], ours);
 }
 
 /// The pages that a caller reads point here, and to no document that is not in the repository.
@@ -60,8 +74,13 @@ fn callers_find_the_page() {
     ] {
         assert!(text(page).contains("docs/SHEET.md"), "{page}");
     }
-    let sources = ["lib", "cross", "cross_many", "edits", "encode", "formula", "judging", "lines", "refusal"]
-        .map(|file| format!("bindings/rust/src/{file}.rs"));
+    let folder = fs::read_dir(format!("{}/src", env!("CARGO_MANIFEST_DIR"))).unwrap();
+    let sources: Vec<String> = folder
+        .map(|file| file.unwrap().file_name().into_string().unwrap())
+        .filter(|file| file.ends_with(".rs"))
+        .map(|file| format!("bindings/rust/src/{file}"))
+        .collect();
+    assert!(sources.len() > 20, "{sources:?}");
     let pages =
         ["README.md", "examples/README.md", "examples/NEWCOMERS.md", "bindings/rust/README.md", "bindings/c/kressedach.h", "docs/SHEET.md"];
     for page in pages.map(String::from).iter().chain(&sources) {

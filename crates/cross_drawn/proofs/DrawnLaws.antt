@@ -12,12 +12,12 @@ use Rattle.cross_line.specs.Crossing.{shapeCuts}
 use Rattle.cross_line.proofs.LentLaws.{length-cuts}
 use Rattle.cross_drawn.specs.Drawn.{Drawn, rowsOf, linesFrom, positionsIn, shapesIn, drawn}
 
-rows-join : (xs ys : Drawn) → rowsOf (xs ++ ys) ≡ rowsOf xs ++ rowsOf ys
+pub rows-join : (xs ys : Drawn) → rowsOf (xs ++ ys) ≡ rowsOf xs ++ rowsOf ys
 unfolding rowsOf
 rows-join [] ys = refl
 rows-join (x ∷ xs) ys = ap (λ l. startRow x ++ l) (rows-join xs ys) ∙ sym (append-assoc (startRow x) (rowsOf xs) (rowsOf ys))
 
-lines-join : (n : ℕ) (xs ys : Drawn) → linesFrom n (xs ++ ys) ≡ linesFrom n xs ++ linesFrom (n + length xs) ys
+pub lines-join : (n : ℕ) (xs ys : Drawn) → linesFrom n (xs ++ ys) ≡ linesFrom n xs ++ linesFrom (n + length xs) ys
 unfolding linesFrom
 lines-join n [] ys = ap (λ k. linesFrom k ys) (omega arith)
 lines-join n (x ∷ xs) ys =
@@ -26,13 +26,13 @@ lines-join n (x ∷ xs) ys =
     ap (λ l. here ++ l) (lines-join (suc n) xs ys) ∙ sym (append-assoc here (linesFrom (suc n) xs) (linesFrom (suc n + length xs) ys))
     ∙ ap (λ k. (here ++ linesFrom (suc n) xs) ++ linesFrom k ys) next
 
-positions-join : (xs ys : Drawn) → positionsIn (xs ++ ys) ≡ positionsIn xs ++ positionsIn ys
+pub positions-join : (xs ys : Drawn) → positionsIn (xs ++ ys) ≡ positionsIn xs ++ positionsIn ys
 unfolding positionsIn
 positions-join [] ys = refl
 positions-join (x ∷ xs) ys =
     ap (λ l. map positionOf (lineCrossings x) ++ l) (positions-join xs ys) ∙ sym (append-assoc (map positionOf (lineCrossings x)) (positionsIn xs) (positionsIn ys))
 
-shapes-join : (xs ys : Drawn) → shapesIn (xs ++ ys) ≡ shapesIn xs ++ shapesIn ys
+pub shapes-join : (xs ys : Drawn) → shapesIn (xs ++ ys) ≡ shapesIn xs ++ shapesIn ys
 unfolding shapesIn
 shapes-join [] ys = refl
 shapes-join (x ∷ xs) ys = ap (λ l. map shapeOf (lineCrossings x) ++ l) (shapes-join xs ys) ∙ sym (append-assoc (map shapeOf (lineCrossings x)) (shapesIn xs) (shapesIn ys))

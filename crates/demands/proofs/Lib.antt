@@ -1,5 +1,7 @@
 pub mod Demands
 pub mod Judgements
+pub mod Parts
+pub mod DrawingParts
 pub mod Table
 pub mod Foundries
 pub mod Editions

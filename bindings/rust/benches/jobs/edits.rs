@@ -1,6 +1,6 @@
 //! An edit's time beside that of a toggle of one leaf and of a new build, on the same sheet.
 
-use kressedach::{EditLists, RunLists, MOST_NODES};
+use kressedach::{EditLists, EditedLists, NodeLists, RunLists, MOST_NODES};
 use peer::designs::Design;
 use peer::make::{self, Dice, Form};
 use peer::sheet::Sheets;
@@ -72,8 +72,9 @@ fn work(formula: &str, leaves: usize, more: usize) -> Work {
 fn run(work: &Work, toggles: usize, edits: usize, to: &mut Lists) -> usize {
     let design = &work.design;
     let edits = EditLists { moments: &design.moments[..edits], positions: &design.positions[..edits], codes: &design.codes[..edits] };
-    let lists = RunLists { roots: &mut to.0, counts: &mut to.1, labels: &mut to.2 };
-    kressedach::run_edited_into(&work.sheet, &work.toggles[..toggles], edits, lists, &mut to.3).unwrap()
+    let run = RunLists { roots: &mut to.0, counts: &mut to.1, labels: &mut to.2 };
+    let mut lists = EditedLists { run, edit_counts: &mut to.3 };
+    kressedach::run_edited_into(&work.sheet, &work.toggles[..toggles], edits, &mut lists).unwrap()
 }
 
 type Lists = (Vec<u8>, Vec<u32>, Vec<u8>, Vec<u32>);
@@ -90,7 +91,10 @@ fn row(formula: &'static str, leaves: usize, more: usize) -> Row {
     };
     let (first, all) = (work.first, work.toggles.len());
     let (built, [mut kinds, mut firsts, mut seconds]) = (work.clone(), [[0; MOST_NODES]; 3]);
-    let build = move || _ = black_box(kressedach::build_into(black_box(&built.sheet), &mut kinds, &mut firsts, &mut seconds));
+    let build = move || {
+        let mut lists = NodeLists { kinds: &mut kinds, firsts: &mut firsts, seconds: &mut seconds };
+        _ = black_box(kressedach::build_into(black_box(&built.sheet), &mut lists));
+    };
     Row { formula, leaves, more, calls: [timed(first, 0), timed(all, 0), timed(first, more), Box::new(build)], check: check(work) }
 }
 

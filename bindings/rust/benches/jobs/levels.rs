@@ -236,7 +236,7 @@ fn shared(level: &str) -> PathBuf {
     run(Command::new("sh").arg(format!("{ROOT}/bindings/archive")).arg(level));
     let folder = if level == "x86-64" { "staticlib".to_string() } else { format!("archive/{level}") };
     let library = Path::new(env!("CARGO_TARGET_TMPDIR")).join(format!("{level}.so"));
-    let archive = format!("{ROOT}/target/{folder}/libhost.a");
+    let archive = format!("{ROOT}/target/{folder}/libkressedach.a");
     run(Command::new("cc").args(["-shared", "-Wl,--whole-archive", &archive, "-Wl,--no-whole-archive", "-o"]).arg(&library));
     library
 }

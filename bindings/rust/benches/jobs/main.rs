@@ -8,6 +8,8 @@ mod levels;
 mod many;
 mod plain;
 mod rows;
+mod scale;
+mod threads;
 
 use rows::Row;
 use std::process::Command;
@@ -31,8 +33,13 @@ fn main() {
     for row in &edits {
         (row.check)();
     }
+    scale::check();
+    let threads = threads::all(if timed { 1_000_000 } else { 4_000 });
+    for row in &threads {
+        (row.check)();
+    }
     if !timed {
-        return println!("benchmark: the answers of {} rows agree", rows.len() + edits.len() + many.len());
+        return println!("benchmark: the answers of {} rows agree", rows.len() + edits.len() + many.len() + threads.len());
     }
     heading();
     let said: Vec<Said> = rows.into_iter().map(|mut row| line(&mut row)).collect();
@@ -54,7 +61,12 @@ fn main() {
     }
     edited(edits);
     many::print(many);
+    let [mut small, mut large] = rows::one_line_calls();
+    let times = best(&mut [&mut small, &mut large]);
+    println!("\nA call of classify with one line that crosses nothing takes {:.0} nanoseconds on the smallest sheet, of one name, and {:.0} on the largest.", times[0], times[1]);
+    threads::print(threads);
     levels::print(best);
+    scale::print(&said.into_iter().map(|row| row.timed).collect::<Vec<_>>());
 }
 
 /// Times an edit beside a toggle of one leaf and a new build: edits and toggles as the difference of two runs.
@@ -87,6 +99,8 @@ struct Said {
     walk: Option<f64>,
     /// The time of judging the walls of the same lines, in times of the library's.
     judge: Option<f64>,
+    /// The row for the formula.
+    timed: scale::Timed,
 }
 
 fn verdict(said: &[Said], what: &str, is_so: fn(&Said) -> bool) {
@@ -152,12 +166,15 @@ fn line(row: &mut Row) -> Said {
         library / plain,
         library / copy
     );
+    let what = what.replace(" |", ",");
+    let timed = scale::Timed { what: what.clone(), job: row.job, costs: std::mem::take(&mut row.costs), time: library * row.items as f64 };
     Said {
-        what: what.replace(" |", ","),
+        what,
         leaves: row.leaves,
         plain: library / plain,
         walk: walk.filter(|_| row.leaves >= 256).map(|time| time / library),
         judge: judge.map(|time| time / library),
+        timed,
     }
 }
 

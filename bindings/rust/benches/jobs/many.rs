@@ -85,13 +85,17 @@ impl Lists {
     }
 }
 
+fn shapes(raster: &Raster) -> kressedach::ShapeLists<'_> {
+    kressedach::ShapeLists { kinds: &raster.kinds, numbers: &raster.numbers }
+}
+
 /// A way to cross many lines; gives the number of crossings.
 type Way = fn(&Raster, &mut ManyLists) -> usize;
 
-const LIBRARY: Way = |r, lists| kressedach::cross_many_into(&r.lines, &r.kinds, &r.numbers, lists).unwrap().crossings;
+const LIBRARY: Way = |r, lists| kressedach::cross_many_into(&r.lines, shapes(r), lists).unwrap().crossings;
 const PLAIN: Way = |r, lists| plain::cross_many(&r.lines, &r.kinds, &r.numbers, lists).unwrap()[1];
 const ONE_BY_ONE: Way =
-    |r, lists| line_by_line(r, lists, |probe, lists| kressedach::cross_into(probe, &r.kinds, &r.numbers, lists).unwrap().crossings);
+    |r, lists| line_by_line(r, lists, |probe, lists| kressedach::cross_into(probe, shapes(r), lists).unwrap().crossings);
 const PLAIN_ONE_BY_ONE: Way =
     |r, lists| line_by_line(r, lists, |probe, lists| plain::cross(&probe, &r.kinds, &r.numbers, lists).unwrap()[1]);
 
@@ -149,7 +153,8 @@ fn classifying(work: Rc<Work>) -> Box<dyn FnMut()> {
             end_shapes: &mut end_shapes,
         };
         let Lists { rows, lines, positions, shapes } = black_box(&lists);
-        let given = kressedach::classify_into(&work.sheet, rows, &lines[..n], &positions[..n], &shapes[..n], &mut walls);
+        let crossed = kressedach::Lines { rows, lines: &lines[..n], positions: &positions[..n], shapes: &shapes[..n] };
+        let given = kressedach::classify_into(&work.sheet, crossed, &mut walls);
         _ = black_box(given.unwrap());
     })
 }

@@ -1,7 +1,8 @@
 //! What is timed: each row is one job on one sheet with its lists.
 
 use crate::plain;
-use kressedach::{LineLists, Opinion, Probe, TheirLists, WallLists, BOX};
+use crate::scale::Costs;
+use kressedach::{LineLists, NodeLists, Opinion, Probe, RunLists, ShapeLists, TheirLists, WallLists, BOX};
 use peer::lines::{Crossing, Crossings};
 use peer::make::{self, Dice, Form};
 use peer::sheet::Sheets;
@@ -11,6 +12,8 @@ pub struct Row {
     pub job: &'static str,
     pub formula: &'static str,
     pub leaves: usize,
+    /// What a call has of each thing that costs.
+    pub costs: Costs,
     pub lists: String,
     /// How many items a call works on.
     pub items: usize,
@@ -86,6 +89,62 @@ pub fn all(crossings: usize) -> Vec<Row> {
     rows
 }
 
+/// Reading: a name is compared with those before it.
+fn read_costs(leaves: usize) -> Costs {
+    let names = leaves.min(256) as f64;
+    vec![("call", 1.0), ("name", names), ("two names", names * (names - 1.0) / 2.0), ("leaf", leaves as f64)]
+}
+
+/// Building: reading, and the nodes that are made.
+fn build_costs(leaves: usize, nodes: usize) -> Costs {
+    let mut costs = read_costs(leaves);
+    costs.push(("node", nodes as f64));
+    costs
+}
+
+/// Lines: reading; every byte of the start rows, every crossing, the formula at every crossing and at every start in a shape, every wall.
+/// Where a line starts in a shape, the call's crossings go another way, and the shapes of its row are put in.
+fn line_costs(lines: &Lines, leaves: usize, walls: usize) -> Costs {
+    let (names, crossings) = (leaves.min(256), lines.lines.len());
+    let started = lines.rows.chunks(names).filter(|row| row.contains(&1)).count();
+    let inside = lines.rows.iter().filter(|byte| **byte == 1).count();
+    let place = |k: usize| (lines.lines[k], lines.positions[k]);
+    let shared = (1..crossings).filter(|k| place(*k) == place(k - 1)).count();
+    let mut costs = read_costs(leaves);
+    costs.extend([
+        ("call with lines", 1.0),
+        ("line and name", lines.rows.len() as f64),
+        ("crossing", crossings as f64),
+        ("crossing where the one before it is", shared as f64),
+        ("crossing or start in a shape, and leaf", ((crossings + started) * leaves) as f64),
+        ("wall", walls as f64),
+        ("crossing, where a line starts in a shape", if started > 0 { crossings as f64 } else { 0.0 }),
+        ("line that starts in a shape, and name", (started * names) as f64),
+        ("shape that a line starts in", inside as f64),
+    ]);
+    costs
+}
+
+fn cost_of(shapes: &str) -> &'static str {
+    match shapes {
+        "half-spaces" => "half-space",
+        "boxes along" => "box along",
+        "boxes aslant" => "box aslant",
+        _ => "ball",
+    }
+}
+
+/// One line in air that crosses nothing, on the smallest sheet and on the largest: what a call costs before it has lines to work on.
+pub fn one_line_calls() -> [Box<dyn FnMut()>; 2] {
+    let dice = &mut Dice::of(16, 0);
+    let small = make::sheet(&["A"], &[0]);
+    let large = make::sheet(&make::names(dice, 256, 32), &make::codes(dice, 256, 1024, Form::Any));
+    [(small, 1), (large, 256)].map(|(sheet, names)| -> Box<dyn FnMut()> {
+        let (lines, mut room) = (Lines::of(sheet, vec![0; names], &[]), Room::of(1));
+        Box::new(move || _ = black_box(LIBRARY(black_box(&lines), &mut room.lent())))
+    })
+}
+
 /// Copies a list, each time it is called.
 fn copying<T: Copy + 'static>(from: Vec<T>) -> impl FnMut() {
     let mut to = from.clone();
@@ -99,6 +158,7 @@ fn read(formula: &'static str, leaves: usize) -> Row {
         job: "read",
         formula,
         leaves,
+        costs: read_costs(leaves),
         lists: format!("{} bytes", sheet.len()),
         items: leaves,
         library: Box::new(move || _ = black_box(kressedach::read(black_box(&a)))),
@@ -131,6 +191,7 @@ fn read_pair(formula: &'static str, fitted: usize, leaves: usize) -> Row {
         job: "read",
         formula,
         leaves,
+        costs: read_costs(leaves),
         lists: format!("{} and {} bytes", fittings.len(), own.len()),
         items: leaves,
         library: Box::new(move || _ = black_box(kressedach::read(black_box(kressedach::Sheets::beside(&a.0, &a.1))))),
@@ -177,6 +238,7 @@ fn moved(formula: &'static str, leaves: usize) -> Row {
         job: "move",
         formula,
         leaves,
+        costs: read_costs(leaves),
         lists: format!("{} bytes", sheet.len()),
         items: leaves,
         library: Box::new(move || _ = black_box(kressedach::move_into(black_box(&a), &mut moved))),
@@ -224,9 +286,13 @@ fn build(formula: &'static str, leaves: usize) -> Row {
         job: "build",
         formula,
         leaves,
+        costs: build_costs(leaves, nodes),
         lists: format!("{nodes} nodes"),
         items: leaves,
-        library: Box::new(move || _ = black_box(kressedach::build_into(black_box(&a), &mut kinds, &mut firsts, &mut seconds))),
+        library: Box::new(move || {
+            let mut lists = NodeLists { kinds: &mut kinds, firsts: &mut firsts, seconds: &mut seconds };
+            _ = black_box(kressedach::build_into(black_box(&a), &mut lists));
+        }),
         plain: Box::new(move || {
             _ = black_box(plain::build(black_box(&b), &mut plain_kinds, &mut plain_firsts, &mut plain_seconds));
         }),
@@ -242,7 +308,8 @@ fn build(formula: &'static str, leaves: usize) -> Row {
             let lists = |list: fn(&peer::dwarf::Record) -> u16| due.records.iter().map(list).collect::<Vec<u16>>();
             let lists = [lists(|record| record.kind), lists(|record| record.first), lists(|record| record.second)];
             let [mut kinds, mut firsts, mut seconds] = [[0; NODES]; 3];
-            let built = kressedach::build_into(&sheet, &mut kinds, &mut firsts, &mut seconds).unwrap();
+            let mut built = NodeLists { kinds: &mut kinds, firsts: &mut firsts, seconds: &mut seconds };
+            let built = kressedach::build_into(&sheet, &mut built).unwrap();
             assert_eq!([built.leaves, built.nodes, built.rounds, built.height], size);
             assert!([&kinds[..nodes], &firsts[..nodes], &seconds[..nodes]] == lists);
             let [mut kinds, mut firsts, mut seconds] = [[0; NODES]; 3];
@@ -262,6 +329,9 @@ fn run(formula: &'static str, leaves: usize, count: usize) -> Row {
         })
         .collect();
     let nodes = peer::build(Sheets::alone(&sheet), [NODES; 3]).unwrap().records.len();
+    let reworked: u32 = peer::run(Sheets::alone(&sheet), &toggles, [usize::MAX; 3]).unwrap().counts.iter().sum();
+    let mut costs = build_costs(leaves, nodes);
+    costs.extend([("call with toggles", 1.0), ("toggle", count as f64), ("label reworked", f64::from(reworked))]);
     let (a, b) = ((sheet.clone(), toggles.clone()), (sheet.clone(), toggles.clone()));
     let lists = || (vec![0u8; count], vec![0u32; count], vec![0u8; NODES]);
     let ((mut roots, mut counts, mut labels), mut plain_lists) = (lists(), lists());
@@ -271,10 +341,12 @@ fn run(formula: &'static str, leaves: usize, count: usize) -> Row {
         job: "run",
         formula,
         leaves,
+        costs,
         lists: format!("{count} toggles"),
         items: count,
         library: Box::new(move || {
-            _ = black_box(kressedach::run_into(black_box(&a.0), black_box(&a.1), &mut roots, &mut counts, &mut labels))
+            let mut lists = RunLists { roots: &mut roots, counts: &mut counts, labels: &mut labels };
+            _ = black_box(kressedach::run_into(black_box(&a.0), black_box(&a.1), &mut lists))
         }),
         plain: Box::new(move || {
             let (roots, counts, labels) = &mut plain_lists;
@@ -292,7 +364,8 @@ fn run(formula: &'static str, leaves: usize, count: usize) -> Row {
         check: Box::new(move || {
             let due = peer::run(Sheets::alone(&sheet), &toggles, [usize::MAX; 3]).unwrap();
             let (mut roots, mut counts, mut labels) = (vec![0; toggles.len()], vec![0; toggles.len()], vec![0; NODES]);
-            assert_eq!(kressedach::run_into(&sheet, &toggles, &mut roots, &mut counts, &mut labels), Ok(due.labels.len()));
+            let mut lists = RunLists { roots: &mut roots, counts: &mut counts, labels: &mut labels };
+            assert_eq!(kressedach::run_into(&sheet, &toggles, &mut lists), Ok(due.labels.len()));
             assert!(roots == due.roots && counts == due.counts && labels[..due.labels.len()] == due.labels);
             assert_eq!(plain::run(&sheet, &toggles, &mut roots, &mut counts, &mut labels), Ok(due.labels.len()));
             assert!(roots == due.roots && counts == due.counts && labels[..due.labels.len()] == due.labels);
@@ -382,7 +455,7 @@ impl Room {
         }
     }
 
-    fn lent(&mut self) -> WallLists<'_> {
+    pub fn lent(&mut self) -> WallLists<'_> {
         let Room { lines, starts, ends, start_shapes, end_shapes } = self;
         WallLists { lines, starts, ends, start_shapes, end_shapes }
     }
@@ -391,7 +464,7 @@ impl Room {
 /// A way to classify, with the lists it writes.
 type Way = fn(&Lines, &mut WallLists) -> usize;
 
-const LIBRARY: Way = |l, walls| kressedach::classify_into(&l.sheet, &l.rows, &l.lines, &l.positions, &l.shapes, walls).unwrap();
+const LIBRARY: Way = |l, walls| kressedach::classify_into(&l.sheet, l.ours(), walls).unwrap();
 const WORDS: Way = |l, walls| plain::by_words(&l.sheet, l.plain(), walls).unwrap();
 const WALK: Way = |l, walls| plain::by_walk(&l.sheet, l.plain(), walls).unwrap();
 
@@ -406,6 +479,10 @@ impl Lines {
         }
     }
 
+    pub fn ours(&self) -> kressedach::Lines<'_> {
+        kressedach::Lines { rows: &self.rows, lines: &self.lines, positions: &self.positions, shapes: &self.shapes }
+    }
+
     fn plain(&self) -> plain::Lines<'_> {
         plain::Lines { rows: &self.rows, lines: &self.lines, positions: &self.positions, shapes: &self.shapes }
     }
@@ -414,7 +491,7 @@ impl Lines {
 /// The opinion on so many walls, as another ray caster's list.
 fn judged(lines: &Lines, walls: &Room, count: usize) -> Opinion {
     let theirs = TheirLists { lines: &walls.lines[..count], starts: &walls.starts[..count], ends: &walls.ends[..count] };
-    kressedach::judge_lists(&lines.sheet, &lines.rows, &lines.lines, &lines.positions, &lines.shapes, theirs).unwrap()
+    kressedach::judge_lists(&lines.sheet, lines.ours(), theirs).unwrap()
 }
 
 fn judging(lines: std::rc::Rc<Lines>, room: usize) -> Box<dyn FnMut()> {
@@ -480,6 +557,7 @@ fn lines_row(formula: &'static str, leaves: usize, sheet: Vec<u8>, rows: Vec<u8>
         job: "classify",
         formula,
         leaves,
+        costs: line_costs(&lines, leaves, walls),
         lists: named,
         items: count,
         library: timed(LIBRARY),
@@ -563,7 +641,7 @@ type CrossWay = fn(&Drawing, &mut LineLists) -> [usize; 2];
 
 const PROVED: CrossWay = |d, lists| {
     let counts = match d.balls.is_empty() {
-        true => kressedach::cross_into(d.probe, &d.kinds, &d.numbers, lists),
+        true => kressedach::cross_into(d.probe, ShapeLists { kinds: &d.kinds, numbers: &d.numbers }, lists),
         false => kressedach::cross_balls_into(&d.balls, lists),
     };
     counts.map(|counts| [counts.shapes, counts.crossings]).unwrap()
@@ -603,6 +681,7 @@ fn cross(shapes: &'static str, count: usize) -> Row {
         job: "cross",
         formula: shapes,
         leaves: count,
+        costs: vec![("call", 1.0), (cost_of(shapes), count as f64), ("crossing", due.crossings.len() as f64)],
         lists: format!("{} crossings", due.crossings.len()),
         items: count,
         library: timed(PROVED),

@@ -38,7 +38,7 @@ impl Debug for Given {
 /// The refusal's number, 0 for none, where an answer is the one that is due.
 pub fn same<T: PartialEq + Debug>(got: Result<T, kressedach::Refusal>, due: Result<T, &Refused>) -> Result<u8, String> {
     let which = |sheet: Option<Which>| sheet.map_or(0, |which| if which == Which::Fittings { 1 } else { 2 });
-    let got = got.map_err(|refusal| (refusal.number, which(refusal.sheet), refusal.place));
+    let got = got.map_err(|refusal| (refusal.number(), which(refusal.sheet), refusal.place));
     let due = due.map_err(|refused| (refused.number, refused.sheet, refused.place));
     if got != due {
         return Err(format!("the answer is {got:?}, due is {due:?}"));

@@ -4,20 +4,22 @@ use crate::answer::{Answer, Waiting};
 use crate::asked::Asked;
 use crate::check::blocks::{Blocks, Takes};
 use crate::check::directions::Others;
-use crate::check::solids::{Block, Solids};
+use crate::check::solids::{Solids, Spare};
 use crate::csv;
-use crate::drawing::{Drawing, Line};
+use crate::drawing::{Drawing, Fault, Line};
 use crate::files::Source;
 use crate::shown;
 use crate::stop::{say, Stop};
+use crate::threads;
+use kressedach::{in_parts, Lines};
 use std::io::Write;
 
 pub fn cross(asked: &Asked) -> Result<Answer, Stop> {
-    let (shapes, lines) = (asked.file(0), asked.file(1));
+    let (shapes, lines, threads) = (asked.file(0), asked.file(1), threads::asked(asked)?);
     let (text, blocks) = (shapes.text()?, Blocks::of(lines)?);
     let drawing = Drawing::of(&text).map_err(|wrong| shapes.wrong(wrong))?;
-    let mut crossing = Crossing::of(&drawing, asked.has("--starts"), (shapes, lines), Waiting::begin(asked.output()));
-    blocks.give(drawing.solids.len(), &mut crossing)?;
+    let mut crossing = Crossing::of(&drawing, asked.has("--starts"), threads, (shapes, lines), Waiting::begin(asked.output()));
+    blocks.give(drawing.solids.len(), threads, &mut crossing)?;
     crossing.end().map(Answer::waited)
 }
 
@@ -26,12 +28,13 @@ struct Crossing<'a> {
     drawing: &'a Drawing,
     solids: Solids<'a>,
     starts: bool,
+    threads: usize,
     shapes: Source<'a>,
     lines: Source<'a>,
     waiting: Waiting,
     /// The shapes' labels, each with the row's end.
     labels: Vec<Vec<u8>>,
-    block: Block,
+    spare: Spare,
     text: Vec<u8>,
     lengths: Others,
     /// The first line that starts in a shape and that shape, and how many lines do.
@@ -51,13 +54,14 @@ impl Takes for Crossing<'_> {
         if self.refused.is_some() {
             return Ok(());
         }
-        if let Err(fault) = self.solids.cross(lines, &mut self.block) {
-            self.refused = Some(fault.stop(self.shapes, self.lines));
-            return Ok(());
-        }
-        self.put_starts(lines);
-        if !self.starts {
-            self.put_crossings(lines);
+        for part in in_parts(self.threads, lines, |lines| self.part(lines)) {
+            match part {
+                Ok(part) => self.put(part),
+                Err(fault) => {
+                    self.refused = Some(fault.stop(self.shapes, self.lines));
+                    return Ok(());
+                }
+            }
         }
         self.waiting.write_all(&self.text).map_err(|e| self.waiting.wrong(e))?;
         self.text.clear();
@@ -65,18 +69,27 @@ impl Takes for Crossing<'_> {
     }
 }
 
+/// What some of the lines have: rows; the first of them that starts in a shape and that shape, and how many do.
+#[derive(Default)]
+struct Part {
+    text: Vec<u8>,
+    inside: Option<(u32, usize)>,
+    inside_lines: u64,
+}
+
 impl<'a> Crossing<'a> {
-    fn of(drawing: &'a Drawing, starts: bool, (shapes, lines): (Source<'a>, Source<'a>), waiting: Waiting) -> Crossing<'a> {
+    fn of(drawing: &'a Drawing, starts: bool, threads: usize, (shapes, lines): (Source<'a>, Source<'a>), waiting: Waiting) -> Crossing<'a> {
         let columns = if starts { "line" } else { "line,position" };
         Crossing {
             drawing,
             solids: Solids::as_drawn(drawing),
             starts,
+            threads,
             shapes,
             lines,
             waiting,
             labels: drawing.labels.iter().map(|label| (csv::quoted(label).into_owned() + "\n").into_bytes()).collect(),
-            block: Block::default(),
+            spare: Spare::default(),
             text: format!("{columns},{}\n", drawing.by).into_bytes(),
             lengths: Others::default(),
             inside: None,
@@ -85,32 +98,49 @@ impl<'a> Crossing<'a> {
         }
     }
 
+    fn part(&self, lines: &[Line]) -> Result<Part, Fault> {
+        self.spare.lend(|block| {
+            self.solids.cross(lines, block)?;
+            let mut part = Part::default();
+            self.put_starts(lines, block.lines(), &mut part);
+            if !self.starts {
+                self.put_crossings(lines, block.lines(), &mut part.text);
+            }
+            Ok(part)
+        })
+    }
+
+    fn put(&mut self, part: Part) {
+        self.text.extend(part.text);
+        self.inside = self.inside.or(part.inside);
+        self.inside_lines += part.inside_lines;
+    }
+
     /// Counts the lines that start in shapes, and puts them behind the text where they are asked for.
-    fn put_starts(&mut self, lines: &[Line]) {
+    fn put_starts(&self, lines: &[Line], crossed: Lines, part: &mut Part) {
         // mostly there is none: rows are looked at together first
-        if self.block.rows().iter().fold(0, |any, start| any | start) == 0 {
+        if crossed.rows.iter().fold(0, |any, start| any | start) == 0 {
             return;
         }
-        for (line, row) in lines.iter().zip(self.block.rows().chunks_exact(self.labels.len())) {
+        for (line, row) in lines.iter().zip(crossed.rows.chunks_exact(self.labels.len())) {
             let mut inside = row.iter().zip(0..).filter(|(start, _)| **start == 1).map(|(_, shape)| shape).peekable();
-            self.inside_lines += u64::from(inside.peek().is_some());
-            self.inside = self.inside.or(inside.peek().map(|shape| (line.number, *shape)));
+            part.inside_lines += u64::from(inside.peek().is_some());
+            part.inside = part.inside.or(inside.peek().map(|shape| (line.number, *shape)));
             for shape in inside.filter(|_| self.starts) {
-                csv::put(&mut self.text, line.number.into());
-                self.text.push(b',');
-                self.text.extend_from_slice(&self.labels[shape]);
+                csv::put(&mut part.text, line.number.into());
+                part.text.push(b',');
+                part.text.extend_from_slice(&self.labels[shape]);
             }
         }
     }
 
-    fn put_crossings(&mut self, lines: &[Line]) {
-        let (places, positions, shapes) = (self.block.lines(), self.block.positions(), self.block.shapes());
-        for ((line, position), shape) in places.iter().zip(positions).zip(shapes) {
-            csv::put(&mut self.text, lines[*line as usize].number.into());
-            self.text.push(b',');
-            csv::put(&mut self.text, (*position).into());
-            self.text.push(b',');
-            self.text.extend_from_slice(&self.labels[usize::from(*shape)]);
+    fn put_crossings(&self, lines: &[Line], crossed: Lines, text: &mut Vec<u8>) {
+        for ((line, position), shape) in crossed.lines.iter().zip(crossed.positions).zip(crossed.shapes) {
+            csv::put(text, lines[*line as usize].number.into());
+            text.push(b',');
+            csv::put(text, (*position).into());
+            text.push(b',');
+            text.extend_from_slice(&self.labels[usize::from(*shape)]);
         }
     }
 

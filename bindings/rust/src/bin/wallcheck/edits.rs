@@ -11,7 +11,7 @@ use crate::shown;
 use crate::stop::Stop;
 use crate::toggle_jobs::{self, labels_of};
 use crate::words::{self, OPERATIONS};
-use kressedach::{Edit, Edited, Operation, Refusal};
+use kressedach::{Edit, Edited, Operation, Reason, Refusal};
 use std::fmt::Write as _;
 use std::str::FromStr;
 
@@ -26,8 +26,8 @@ pub fn run(asked: &Asked) -> Result<Answer, Stop> {
     let names = files.names()?;
     let list = lists::toggles(&texts[0], &Shapes::of(&names)).map_err(|wrong| toggles.wrong(wrong))?;
     let changes = changes(&texts[1], true).map_err(|wrong| edits.wrong(wrong))?;
-    let edited = kressedach::run_edited(files.sheets(), &list.entries, &changes.entries).map_err(|refusal| match refusal.number {
-        20 => edits.refused(refusal, of_edit(&files, &names, &changes, refusal, list.entries.len())),
+    let edited = kressedach::run_edited(files.sheets(), &list.entries, &changes.entries).map_err(|refusal| match refusal.reason {
+        Reason::EditWrong => edits.refused(refusal, of_edit(&files, &names, &changes, refusal, list.entries.len())),
         _ => files.refused_or(toggles, refusal, words::of_toggles(&names, &list, refusal)),
     })?;
     let labels = asked.has("--labels");

@@ -8,11 +8,13 @@ use crate::files::{Files, Source};
 use crate::line_jobs::Lines;
 use crate::lists::{self, List};
 use crate::stop::Stop;
+use crate::threads;
 use kressedach::{Entry, Opinion, Wall};
 
 const COLUMNS: [&str; 3] = ["line", "start", "end"];
 
 pub fn judge(asked: &Asked) -> Result<Answer, Stop> {
+    let threads = threads::asked(asked)?;
     let (files, starts) = (Files::asked(asked)?, asked.source("--starts"));
     let [crossings, theirs] = [1, 2].map(|place| asked.file(place));
     let texts = [crossings.text()?, theirs.text()?];
@@ -21,14 +23,14 @@ pub fn judge(asked: &Asked) -> Result<Answer, Stop> {
     let lines = Lines::of(&names, starts.map(|starts| (starts, &starts_text[..])), (crossings, &texts[0]))?;
     let list = entries(&texts[1]).map_err(|wrong| theirs.wrong(wrong))?;
     let refused = |refusal| lines.refused(&files, &names, refusal);
-    let opinion = kressedach::judge(files.sheets(), lines.starts(), lines.crossings(), &list.entries).map_err(refused)?;
+    let opinion = kressedach::judge_on(threads, files.sheets(), lines.starts(), lines.crossings(), &list.entries).map_err(refused)?;
     lines.say_unused(&files, &names);
     let at = match opinion {
         Opinion::Right => return Ok(Answer::text("right\n")),
         Opinion::WrongAt(at) => at,
         Opinion::Lacking => list.entries.len(),
     };
-    let walls = kressedach::classify_from(files.sheets(), lines.starts(), lines.crossings()).map_err(refused)?;
+    let walls = kressedach::classify_on(threads, files.sheets(), lines.starts(), lines.crossings()).map_err(refused)?;
     // that a list is not right is an answer
     Ok(Answer::text(told(&list, at, expected(&walls, &list.entries[..at]), theirs)).but(3, String::new()))
 }

@@ -7,9 +7,10 @@ use crate::files::{Files, Source};
 use crate::lists::{self, List, Shapes};
 use crate::page::unused;
 use crate::stop::{say, Stop};
+use crate::threads;
 use crate::wall_table::{WallTable, Wanted};
 use crate::words;
-use kressedach::{Crossing, Refusal, Start};
+use kressedach::{Crossing, Reason, Refusal, Start};
 
 /// So many warnings of a kind are said one by one.
 const MOST_SAID: usize = 10;
@@ -73,8 +74,8 @@ impl<'a> Lines<'a> {
 
     /// A refusal of the sheets, the starts or the crossings.
     pub fn refused(&self, files: &Files, names: &[&str], refusal: Refusal) -> Stop {
-        match (refusal.number, &self.starts) {
-            (14, (Some(starts), starting)) => starts.refused(refusal, words::of_starts(names, starting)),
+        match (refusal.reason, &self.starts) {
+            (Reason::RowsWrong, (Some(starts), starting)) => starts.refused(refusal, words::of_starts(names, starting)),
             _ => files.refused_or(self.crossings.0, refusal, words::of_crossings(names, &self.crossings.1, refusal)),
         }
     }
@@ -82,6 +83,7 @@ impl<'a> Lines<'a> {
 
 pub fn walls(asked: &Asked) -> Result<Answer, Stop> {
     let (wanted, starts, crossings) = (Wanted::of(asked)?, asked.source("--starts"), asked.file(1));
+    let threads = threads::asked(asked)?;
     let files = Files::asked(asked)?;
     let files = match asked.source("--edits") {
         Some(edits) => edited::files(files, edits)?,
@@ -91,7 +93,7 @@ pub fn walls(asked: &Asked) -> Result<Answer, Stop> {
     let names = files.names()?;
     let starts_text = starts.map_or(Ok(String::new()), Source::text)?;
     let lines = Lines::of(&names, starts.map(|starts| (starts, &starts_text[..])), (crossings, &text))?;
-    let walls = kressedach::classify_from(files.sheets(), lines.starts(), lines.crossings())
+    let walls = kressedach::classify_on(threads, files.sheets(), lines.starts(), lines.crossings())
         .map_err(|refusal| lines.refused(&files, &names, refusal))?;
     lines.say_unused(&files, &names);
     let (mut table, mut text) = (WallTable::of(wanted, &names), wanted.heading().into_bytes());

@@ -30,6 +30,7 @@ mod sheet_jobs;
 mod shown;
 mod stop;
 mod table;
+mod threads;
 mod toggle_jobs;
 mod wall_table;
 mod words;

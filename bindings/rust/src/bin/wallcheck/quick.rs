@@ -4,7 +4,7 @@
 
 use crate::lists::{crossings, Shapes};
 use crate::wall_table::walls_of;
-use kressedach::{classify_from, classify_into, WallLists};
+use kressedach::{classify_from, classify_into, Lines, WallLists};
 use peer::make::sheet;
 use std::alloc::{GlobalAlloc, Layout, System};
 use std::cell::Cell;
@@ -129,7 +129,7 @@ fn at_most_twice_a_plain_pass() {
                 start_shapes: &mut start_shapes,
                 end_shapes: &mut end_shapes,
             };
-            classify_into(&pump, &rows, &columns.0, &columns.1, &columns.2, &mut walls)
+            classify_into(&pump, Lines { rows: &rows, lines: &columns.0, positions: &columns.1, shapes: &columns.2 }, &mut walls)
         });
         let turn = [whole.0, library.0, timed(|| plain(&text)).0];
         best = [0, 1, 2].map(|k: usize| best[k].min(turn[k]));

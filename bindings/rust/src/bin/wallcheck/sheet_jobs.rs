@@ -46,7 +46,7 @@ pub fn list(asked: &Asked) -> Result<Answer, Stop> {
     let mut text = String::from("node,kind,first,second,meaning\n");
     for (number, node) in dwarf.nodes.iter().enumerate() {
         let meaning = csv::quoted(&words::of_node(node, &names)).into_owned();
-        let _ = writeln!(text, "{number},{},{},{},{meaning}", node.kind, node.first, node.second);
+        let _ = writeln!(text, "{number},{},{},{},{meaning}", node.kind.number(), node.first, node.second);
     }
     Ok(Answer::text(text))
 }

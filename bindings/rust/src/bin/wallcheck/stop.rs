@@ -34,7 +34,7 @@ impl Refused {
             (None, _) => self.refusal.to_string(),
             (Some(why), place) => {
                 let place = place.map_or(String::new(), |place| format!(" {place}"));
-                format!("refused {}{place}: {why}", self.refusal.number)
+                format!("refused {}{place}: {why}", self.refusal.number())
             }
         };
         format!("wallcheck: {whose}{}: {refused}\n{}", self.file, about.collect::<String>())

@@ -62,8 +62,7 @@ pub fn millimetres(number: i64) -> String {
 
 /// How thick a wall is; an open one has no thickness.
 pub fn thickness(wall: &Wall) -> Option<i64> {
-    let open = wall.start == OPEN_START || wall.end == OPEN_END;
-    (!open).then(|| i64::from(wall.end) - i64::from(wall.start))
+    (!wall.is_open()).then(|| wall.length().into())
 }
 
 /// Walls that are written one after the other, and what they were so far.

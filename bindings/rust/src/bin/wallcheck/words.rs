@@ -4,20 +4,19 @@ use crate::faults::Faults;
 use crate::kinds;
 use crate::lists::List;
 use crate::shown;
-use kressedach::{Crossing, Node, Operation, Refusal, Sheets, Start, Which, OPEN_END, OPEN_START};
+use kressedach::{Crossing, Kind, Node, Operation, Reason, Refusal, Sheets, Side, Start, Which, OPEN_END, OPEN_START};
 
 pub const OPERATIONS: [&str; 4] = ["union", "intersection", "difference", "exclusive union"];
 
 /// What a node of the contracted tree is.
 pub fn of_node(node: &Node, names: &[&str]) -> String {
-    let operation = |lowest: u16| OPERATIONS[usize::from(node.kind - lowest)];
     match node.kind {
-        0 => format!("leaf {}", names[usize::from(node.first)]),
-        1..=4 => format!("E {}", operation(1)),
-        5..=8 => format!("R {} left raked", operation(5)),
-        9..=12 => format!("R {} right raked", operation(9)),
-        13 => "S".into(),
-        _ => "C".into(),
+        Kind::Leaf => format!("leaf {}", names[usize::from(node.first)]),
+        Kind::E(operation) => format!("E {}", OPERATIONS[operation as usize]),
+        Kind::R(operation, Side::Left) => format!("R {} left raked", OPERATIONS[operation as usize]),
+        Kind::R(operation, Side::Right) => format!("R {} right raked", OPERATIONS[operation as usize]),
+        Kind::S => "S".into(),
+        Kind::C => "C".into(),
     }
 }
 
@@ -28,20 +27,22 @@ pub fn of_sheet(sheets: Sheets, refusal: Refusal) -> Option<String> {
         Which::Fittings => sheets.fittings?,
         Which::Customers => sheets.customers,
     };
-    match refusal.number {
-        1 if refusal.sheet == Some(Which::Customers) && kressedach::read_fittings(sheet).is_ok() => {
+    match refusal.reason {
+        Reason::EndsTooSoon if refusal.sheet == Some(Which::Customers) && kressedach::read_fittings(sheet).is_ok() => {
             Some("it is a fittings sheet, names without a formula: --fittings takes it".into())
         }
-        2 if refusal.sheet == Some(Which::Fittings) && matches!(sheet[place], 3 | 4) => {
+        Reason::TagOutOfPlace if refusal.sheet == Some(Which::Fittings) && matches!(sheet[place], 3 | 4) => {
             Some("it has a formula: it is a customer's sheet, and --fittings takes names alone".into())
         }
-        2 => Some(of_tag(sheet, place)),
-        4 | 5 | 17 => Some(match (two(sheet, place + 1)?, name(sheet, place)) {
+        Reason::TagOutOfPlace => Some(of_tag(sheet, place)),
+        Reason::NameWrong | Reason::NameTaken | Reason::FittingsName => Some(match (two(sheet, place + 1)?, name(sheet, place)) {
             (1..=32, Some(name)) => format!("the name there is {name}"),
             (length, _) => format!("the name there has {length} bytes; 1 to 32 are allowed"),
         }),
-        6 if matches!(sheet.get(place), Some(3 | 4)) => Some(format!("the formula there has {} bytes", two(sheet, place + 1)?)),
-        7 => of_formula(sheets, place),
+        Reason::TooLarge if matches!(sheet.get(place), Some(3 | 4)) => {
+            Some(format!("the formula there has {} bytes", two(sheet, place + 1)?))
+        }
+        Reason::FormulaWrong => of_formula(sheets, place),
         _ => None,
     }
 }
@@ -114,7 +115,7 @@ fn after_names(sheet: &[u8]) -> Option<(usize, usize)> {
 
 /// About a refusal of toggles: all whose shape there is none of.
 pub fn of_toggles(names: &[&str], list: &List<u16>, refusal: Refusal) -> Option<String> {
-    let shapes = list.entries.iter().copied().enumerate().filter(|_| refusal.number == 10);
+    let shapes = list.entries.iter().copied().enumerate().filter(|_| refusal.reason == Reason::NoSuchShape);
     unknown_shapes(names, list, shapes).told()
 }
 
@@ -135,7 +136,7 @@ pub fn of_starts(names: &[&str], list: &List<Start>) -> Option<String> {
 /// About a refusal of crossings: all that are at fault, of which it names the first.
 pub fn of_crossings(names: &[&str], list: &List<Crossing>, refusal: Refusal) -> Option<String> {
     let at_fault = (0..list.entries.len()).skip(refusal.place).filter_map(|at| of_crossing(names, list, at));
-    at_fault.filter(|_| matches!(refusal.number, 10 | 11 | 15)).collect::<Faults>().told()
+    at_fault.filter(|_| matches!(refusal.reason, Reason::NoSuchShape | Reason::Falls | Reason::Astray)).collect::<Faults>().told()
 }
 
 /// Why a crossing is none. Every line has a start row, so 15 is for a position.

@@ -7,7 +7,7 @@ use crate::faults::Faults;
 use crate::files::Source;
 use crate::stop::Stop;
 
-/// So many start bytes of a block: few enough for a processor's cache, and more than a line has.
+/// So many start bytes of a block for each thread: few enough for a processor's cache, and more than a line has.
 const MOST_BYTES: usize = 1 << 17;
 
 /// Whoever is given lines, block by block.
@@ -29,11 +29,11 @@ impl<'a> Blocks<'a> {
         Ok(Blocks { source, pieces: Pieces::of(source)? })
     }
 
-    /// Gives all lines of the file, of which each has so many start bytes. Where a row is wrong no more lines are given, and the others are
-    /// looked at for more of it.
-    pub fn give(mut self, names: usize, to: &mut impl Takes) -> Result<(), Stop> {
+    /// Gives all lines of the file, of which each has so many start bytes, in blocks that so many threads share. Where a row is wrong no more
+    /// lines are given, and the others are looked at for more of it.
+    pub fn give(mut self, names: usize, threads: usize, to: &mut impl Takes) -> Result<(), Stop> {
         let (mut reader, mut progress, mut faults) = (LineReader::default(), Progress::begin(), Faults::default());
-        let (in_a_block, mut done) = ((MOST_BYTES / names.max(1)).max(1), 0);
+        let (in_a_block, mut done) = ((MOST_BYTES / names.max(1)).max(1) * threads, 0);
         while let Some(piece) = self.pieces.next()? {
             let lines = match reader.read(piece.before, &piece.text, |line| to.judge(line)) {
                 Ok(lines) => lines,

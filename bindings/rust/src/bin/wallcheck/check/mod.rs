@@ -15,6 +15,7 @@ use crate::asked::Asked;
 use crate::drawing::Drawing;
 use crate::page::unused;
 use crate::stop::{say, Stop};
+use crate::threads;
 use crate::wall_table::Wanted;
 use blocks::Blocks;
 use directions::Lengths;
@@ -23,7 +24,7 @@ use run::{Judged, Run};
 use solids::Solids;
 
 pub fn check(asked: &Asked) -> Result<Answer, Stop> {
-    let wanted = Wanted::of(asked)?;
+    let (wanted, threads) = (Wanted::of(asked)?, threads::asked(asked)?);
     let (shapes, lines) = (asked.file(1), asked.file(2));
     let given = Given::of(asked)?;
     let files = given.files();
@@ -37,10 +38,10 @@ pub fn check(asked: &Asked) -> Result<Answer, Stop> {
     let solids = Solids::of(&drawing, numbers.iter().map(|number| usize::from(*number)), names.len());
     let never = unused(&formula, names.len());
     let used = solids.plain().into_iter().filter(|(name, _)| !never.contains(&usize::from(*name))).collect();
-    let judged = Judged { files: &files, names: &names, solids, used };
+    let judged = Judged { files: &files, names: &names, solids, used, threads };
     let lengths = Lengths::of(asked.has("--normalise"));
     let mut run = Run::of(&judged, wanted, lengths, (shapes, lines), Waiting::begin(asked.output()));
-    Blocks::of(lines)?.give(names.len(), &mut run)?;
+    Blocks::of(lines)?.give(names.len(), threads, &mut run)?;
     let (waiting, status, said) = run.end()?;
     Ok(Answer::waited(waiting).but(status, said))
 }

@@ -3,13 +3,13 @@
 use super::blocks::Takes;
 use super::directions::Lengths;
 use super::faces::face;
-use super::solids::{Block, Solids};
+use super::solids::{Solids, Spare};
 use crate::answer::Waiting;
 use crate::drawing::Line;
 use crate::files::{Files, Source};
 use crate::stop::Stop;
 use crate::wall_table::{WallTable, Wanted};
-use kressedach::{classify_into, Shape, Wall, WallLists};
+use kressedach::{classify_into, in_parts, Lines, Shape, Wall, WallLists};
 use std::io::Write;
 
 /// By what lines are judged.
@@ -19,6 +19,8 @@ pub struct Judged<'a> {
     pub solids: Solids<'a>,
     /// The half-spaces and boxes that the formula uses, each with the number of its name.
     pub used: Vec<(u16, Shape)>,
+    /// How many threads share the lines of a block.
+    pub threads: usize,
 }
 
 /// Lines on their way to walls.
@@ -31,7 +33,7 @@ pub struct Run<'a> {
     waiting: Waiting,
     table: WallTable<'a>,
     seen: Seen,
-    block: Block,
+    spare: Spare,
     text: Vec<u8>,
 }
 
@@ -42,11 +44,12 @@ impl Takes for Run<'_> {
 
     /// The walls of a block of lines, written.
     fn take(&mut self, lines: &[Line]) -> Result<(), Stop> {
-        self.by.solids.cross(lines, &mut self.block).map_err(|fault| fault.stop(self.shapes, self.lines))?;
-        let walls = self.walls(lines)?;
-        for wall in walls {
-            let line = &lines[wall.line as usize];
-            self.table.put(&mut self.text, &Wall { line: line.number, ..wall }, Some(&line.probe));
+        for part in in_parts(self.by.threads, lines, |lines| self.walls(lines).map(|walls| (lines, walls))) {
+            let (lines, walls) = part?;
+            for wall in walls {
+                let line = &lines[wall.line as usize];
+                self.table.put(&mut self.text, &Wall { line: line.number, ..wall }, Some(&line.probe));
+            }
         }
         self.seen.lines += lines.len() as u64;
         if self.wanted.summary {
@@ -76,12 +79,20 @@ impl<'a> Run<'a> {
     ) -> Run<'a> {
         let table = WallTable::of(wanted, by.names);
         let text = wanted.heading().into_bytes();
-        Run { by, wanted, lengths, shapes, lines, waiting, table, seen: Seen::default(), block: Block::default(), text }
+        Run { by, wanted, lengths, shapes, lines, waiting, table, seen: Seen::default(), spare: Spare::default(), text }
     }
 
-    /// The walls of the block that was crossed, by the lines' places in it.
+    /// The walls of lines, by their places among them.
     fn walls(&self, lines: &[Line]) -> Result<Vec<Wall>, Stop> {
-        let (block, room) = (&self.block, self.block.lines().len() / 2 + lines.len());
+        self.spare.lend(|block| {
+            self.by.solids.cross(lines, block).map_err(|fault| fault.stop(self.shapes, self.lines))?;
+            self.walls_of(block.lines(), lines.len())
+        })
+    }
+
+    /// The walls of so many lines that were crossed.
+    fn walls_of(&self, crossed: Lines, lines: usize) -> Result<Vec<Wall>, Stop> {
+        let room = crossed.lines.len() / 2 + lines;
         let mut lists = WallLists {
             lines: &mut vec![0; room],
             starts: &mut vec![0; room],
@@ -89,7 +100,7 @@ impl<'a> Run<'a> {
             start_shapes: &mut vec![0; room],
             end_shapes: &mut vec![0; room],
         };
-        let classified = classify_into(self.by.files.sheets(), block.rows(), block.lines(), block.positions(), block.shapes(), &mut lists);
+        let classified = classify_into(self.by.files.sheets(), crossed, &mut lists);
         let count = classified.map_err(|refusal| self.by.files.refused_or(self.lines, refusal, None))?;
         let wall = |k: usize| Wall {
             line: lists.lines[k],

@@ -1,7 +1,8 @@
 //! The shapes of a drawing by the numbers of a sheet's names, and what a block of lines has of them.
 
 use crate::drawing::{Drawing, Fault, Line, Solid};
-use kressedach::{cross_balls_into, cross_many_into, LineLists, LineRefusal, ManyLists, Refusal, Shape};
+use kressedach::{cross_balls_into, cross_many_into, LineLists, LineRefusal, Lines, ManyLists, Refusal, Shape, ShapeLists};
+use std::sync::Mutex;
 
 /// Half-spaces and boxes as the library takes them, and balls; with each the number of its name and its place in the drawing.
 pub struct Solids<'a> {
@@ -45,21 +46,23 @@ struct Lists {
 }
 
 impl Block {
-    /// A row a line, in it a byte a name: 1 where the line starts inside that shape.
-    pub fn rows(&self) -> &[u8] {
-        &self.rows
+    pub fn lines(&self) -> Lines<'_> {
+        let (lists, all) = (&self.lists, ..self.crossings);
+        Lines { rows: &self.rows, lines: &lists.lines[all], positions: &lists.positions[all], shapes: &lists.shapes[all] }
     }
+}
 
-    pub fn lines(&self) -> &[u32] {
-        &self.lists.lines[..self.crossings]
-    }
+/// Blocks whose memory is used again, as many as there are threads.
+#[derive(Default)]
+pub struct Spare(Mutex<Vec<Block>>);
 
-    pub fn positions(&self) -> &[i32] {
-        &self.lists.positions[..self.crossings]
-    }
-
-    pub fn shapes(&self) -> &[u16] {
-        &self.lists.shapes[..self.crossings]
+impl Spare {
+    pub fn lend<R>(&self, job: impl FnOnce(&mut Block) -> R) -> R {
+        let spare = || self.0.lock().expect("no thread panics here");
+        let mut block = spare().pop().unwrap_or_default();
+        let given = job(&mut block);
+        spare().push(block);
+        given
     }
 }
 
@@ -102,6 +105,10 @@ impl<'a> Solids<'a> {
         self.plain.iter().filter_map(shape).collect()
     }
 
+    fn lists(&self) -> ShapeLists<'_> {
+        ShapeLists { kinds: &self.kinds, numbers: &self.numbers }
+    }
+
     /// The start rows and crossings of a block of lines.
     pub fn cross(&self, lines: &[Line], block: &mut Block) -> Result<(), Fault> {
         let named = self.plain.len() == self.names;
@@ -115,7 +122,7 @@ impl<'a> Solids<'a> {
         make_room(positions, 2 * rows.len());
         make_room(shapes, 2 * rows.len());
         let mut lists = ManyLists { rows, lines: on, positions, shapes };
-        let crossed = cross_many_into(&block.numbers, &self.kinds, &self.numbers, &mut lists);
+        let crossed = cross_many_into(&block.numbers, self.lists(), &mut lists);
         block.crossings = crossed.map_err(|refused| self.first_fault(lines, refused))?.crossings;
         if !named {
             self.widen(block);
@@ -146,7 +153,7 @@ impl<'a> Solids<'a> {
         let (mut all, mut room, mut at) = (Lists::default(), Room::of(self.balls.len()), 0);
         for (k, line) in lines.iter().enumerate() {
             let mut on = self.balls_on(line, &mut room)?;
-            let plain = block.lines()[at..].iter().take_while(|line| **line as usize == k).count();
+            let plain = block.lines().lines[at..].iter().take_while(|line| **line as usize == k).count();
             on.extend((at..at + plain).map(|at| (block.lists.positions[at], block.lists.shapes[at])));
             on.sort_unstable();
             at += plain;

@@ -4,7 +4,7 @@ use super::{Drawing, Line, Solid, CENTRE, LIMITS, LINE};
 use crate::files::Source;
 use crate::shown;
 use crate::stop::Stop;
-use kressedach::{Ball, Refusal, Shape};
+use kressedach::{Ball, Reason, Refusal, Shape};
 
 /// Why there are no crossings: something in the file of lines; or a refusal, with its reason and its place.
 pub enum Fault {
@@ -45,7 +45,7 @@ impl Drawing {
         let (why, place) = match (refusal.place, shapes.get(refusal.place)) {
             (256, Some(shape)) => {
                 let (label, row) = row_of(*shape);
-                let what = if refusal.number == 18 { "balls" } else { "half-spaces and boxes" };
+                let what = if refusal.reason == Reason::BallWrong { "balls" } else { "half-spaces and boxes" };
                 (format!("more than 256 {what}"), Place::TooMany(label, row))
             }
             (_, Some(shape)) => {

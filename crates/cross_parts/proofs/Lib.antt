@@ -1,0 +1,5 @@
+pub mod ProbeParts
+pub mod DrawnParts
+pub mod JobParts
+pub mod CutAgain
+mod Examples

@@ -1,0 +1,3 @@
+pub mod Cuts
+pub mod Theirs
+pub mod Places
