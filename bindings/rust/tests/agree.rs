@@ -6,9 +6,10 @@
 mod given;
 mod lent;
 
-use given::{any_given, mostly_good, same, Given};
+use given::{mostly_good, same, Given, Ours};
 use kressedach::{Both, Lines, NameLists, NodeLists, RunLists, WallLists};
 use lent::{rooms, Lent};
+use peer::calls::{any_given, any_mix, any_order, any_toggles};
 use peer::lines::{Crossing, Crossings};
 use peer::make::{self, Dice, Form};
 use peer::toggles::Ran;
@@ -197,42 +198,6 @@ fn nodes(sheet: &Given) -> usize {
 
 fn lists(all: &[Crossing]) -> (Vec<u32>, Vec<i32>, Vec<u16>) {
     (all.iter().map(|c| c.line).collect(), all.iter().map(|c| c.position).collect(), all.iter().map(|c| c.shape).collect())
-}
-
-/// Toggles, at times with one that is no shape of the sheet.
-fn any_toggles(dice: &mut Dice, names: usize, most: usize) -> Vec<u16> {
-    let mut toggles = make::toggles(dice, names, most);
-    if dice.once_in(10) && !toggles.is_empty() {
-        let at = dice.below(toggles.len());
-        toggles[at] = dice.of_these(&[names as u16, 256, 65535]);
-    }
-    toggles
-}
-
-/// An order of so many turns for each foundry.
-fn any_mix(dice: &mut Dice, turns: [usize; 2]) -> Vec<u8> {
-    let mut left = turns;
-    let next = |_| {
-        let turn = usize::from(dice.below(left[0] + left[1]) >= left[0]);
-        left[turn] -= 1;
-        turn as u8
-    };
-    (0..turns[0] + turns[1]).map(next).collect()
-}
-
-/// The same, at times damaged.
-fn any_order(dice: &mut Dice, turns: [usize; 2]) -> Vec<u8> {
-    let mut order = any_mix(dice, turns);
-    if dice.once_in(5) {
-        let at = dice.below(order.len() + 1);
-        match (dice.below(4), order.get_mut(at)) {
-            (0, Some(turn)) => *turn = dice.of_these(&[2, 3, 255]),
-            (1, Some(turn)) => *turn = 1 - *turn,
-            (2, _) => drop(order.pop()),
-            _ => order.insert(at, dice.of_these(&[0, 1, 2])),
-        }
-    }
-    order
 }
 
 fn make_case(dice: &mut Dice, job: u64) -> Case {

@@ -7,7 +7,7 @@
 mod given;
 mod lent;
 
-use given::{mostly_good, same, Given};
+use given::{mostly_good, same, Given, Ours};
 use kressedach::{EditLists, EditedLists, RunLists};
 use lent::{rooms, Lent};
 use peer::designs::{self, Design};

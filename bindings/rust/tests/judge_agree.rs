@@ -5,7 +5,7 @@
 
 mod given;
 
-use given::{mostly_good, same, Given};
+use given::{mostly_good, same, Given, Ours};
 use kressedach::{Opinion, TheirLists};
 use peer::judging::Entry;
 use peer::lines::{Crossing, Wall};

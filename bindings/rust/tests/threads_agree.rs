@@ -7,7 +7,7 @@ mod given;
 #[allow(dead_code)]
 mod lent;
 
-use given::{mostly_good, Given};
+use given::{mostly_good, Given, Ours};
 use kressedach::{classify_into, classify_into_on, classify_on, cross_into_on, cross_many, cross_many_into, cross_on};
 use kressedach::{judge_lists, judge_lists_on, judge_on, Lines, ManyLists, Opinion, Probe, Shape, ShapeLists, TheirLists, WallLists};
 use lent::rooms;

@@ -3,12 +3,13 @@
 //! Nothing here is proved or tuned, and nothing is shared with the library: the formula is a tree of boxes, the contraction works on
 //! nodes that point to each other, and a line is evaluated position by position. Each module follows one section of the document.
 //! [`make`] makes sheets and lists, good and damaged, from a seed, [`drawings`] probe lines, shapes and balls, [`rasters`] many lines for
-//! one drawing, [`designs`] edits, and [`theirs`] the wall lists of others.
+//! one drawing, [`designs`] edits, [`theirs`] the wall lists of others, and [`calls`] what a call is made of.
 //!
 //! Each job takes the lengths of the answer lists (`rooms`), in the order in which the document names them, and gives what the first
 //! entries of those lists become.
 
 pub mod balls;
+pub mod calls;
 pub mod crossings;
 pub mod designs;
 pub mod drawings;

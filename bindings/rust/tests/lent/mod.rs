@@ -1,6 +1,6 @@
 //! Answer lists as the comparisons lend them.
 
-use peer::make::Dice;
+pub use peer::calls::rooms;
 use std::fmt::Debug;
 
 /// An answer list as it is lent, full of noise, between entries that are not lent.
@@ -32,17 +32,4 @@ impl<T: Copy + PartialEq + Debug> Lent<T> {
             None => Ok(()),
         }
     }
-}
-
-/// The lengths of answer lists that need so much room: mostly enough, sometimes too short.
-pub fn rooms<const LISTS: usize>(dice: &mut Dice, needed: [usize; LISTS]) -> [usize; LISTS] {
-    let often_good = dice.below(4) > 0;
-    needed.map(|need| match dice.below(if often_good { 3 } else { 6 }) {
-        0 => need,
-        1 => need + 1,
-        2 => need + dice.below(70),
-        3 => need.saturating_sub(1),
-        4 => 0,
-        _ => dice.below(need + 1),
-    })
 }
