@@ -185,28 +185,35 @@ pub fn cross_many(probes: &[Probe], shapes: &[Shape]) -> Result<ManyCrossed, Lin
     given(lines.as_flattened(), ShapeLists { kinds: &kinds, numbers: numbers.as_flattened() })
 }
 
-/// The answer in lists of its own.
+/// So many start bytes at a time: few enough for a processor's cache, with room for two crossings for each.
+#[cfg(feature = "alloc")]
+const MOST_BYTES: usize = 1 << 17;
+
+/// The answer in lists of its own: block by block, each with room enough, so that the library need not count before it writes.
 #[cfg(feature = "alloc")]
 pub(crate) fn given(lines: &[f64], shapes: ShapeLists) -> Result<ManyCrossed, LineRefusal> {
-    let count = lines.len().div_ceil(6);
-    // more shapes are refused whatever the room
-    let rows = if shapes.kinds.len() > 256 { 0 } else { count * shapes.kinds.len() };
-    // a line mostly meets few shapes: where they are more, the refusal says how many crossings there are
-    match given_in(lines, shapes, rows, (2 * rows).min(8 * count + 4096)) {
-        Err(short) if short.refusal.reason == Reason::ListTooShort => given_in(lines, shapes, rows, short.refusal.place),
-        answer => answer,
+    let (count, each) = (lines.len().div_ceil(6), shapes.kinds.len());
+    // the whole is refused where a block is, with its own number, place and line, and whatever the room
+    let refused = || {
+        let mut none = ManyLists { rows: &mut [], lines: &mut [], positions: &mut [], shapes: &mut [] };
+        cross_many_into(lines, shapes, &mut none).expect_err("the whole is refused where a block is")
+    };
+    if each > 256 || count > 1 << 32 {
+        return Err(refused());
     }
-}
-
-/// The answer in lists of its own, of so many entries.
-#[cfg(feature = "alloc")]
-fn given_in(lines: &[f64], shapes: ShapeLists, rows: usize, room: usize) -> Result<ManyCrossed, LineRefusal> {
-    let mut all = ManyCrossed { rows: vec![0; rows], lines: vec![0; room], positions: vec![0; room], shapes: vec![0; room] };
-    let mut lists = ManyLists { rows: &mut all.rows, lines: &mut all.lines, positions: &mut all.positions, shapes: &mut all.shapes };
-    let counts = cross_many_into(lines, shapes, &mut lists)?;
-    all.lines.truncate(counts.crossings);
-    all.positions.truncate(counts.crossings);
-    all.shapes.truncate(counts.crossings);
+    let in_a_block = (MOST_BYTES / each.max(1)).max(1);
+    let room = 2 * each * count.min(in_a_block);
+    let mut all = ManyCrossed { rows: vec![0; count * each], lines: vec![], positions: vec![], shapes: vec![] };
+    let (mut on, mut positions, mut crossed) = (vec![0; room], vec![0; room], vec![0; room]);
+    for (k, block) in lines.chunks(6 * in_a_block).enumerate() {
+        let first = k * in_a_block;
+        let rows = &mut all.rows[first * each..];
+        let mut lists = ManyLists { rows, lines: &mut on, positions: &mut positions, shapes: &mut crossed };
+        let crossings = cross_many_into(block, shapes, &mut lists).map_err(|_| refused())?.crossings;
+        all.lines.extend(on[..crossings].iter().map(|line| first as u32 + line));
+        all.positions.extend_from_slice(&positions[..crossings]);
+        all.shapes.extend_from_slice(&crossed[..crossings]);
+    }
     Ok(all)
 }
 

@@ -512,12 +512,12 @@ fn what_is_given_is_classified() {
     assert!(calls > 1000 && open > 1000, "{calls} calls, {open} lines that start in metal");
 }
 
-/// The answer in lists of its own is that in lent ones, also where lines are crossed more often than room is made for at first.
+/// The answer in lists of its own is that in lent ones, also where lines are crossed in several blocks.
 #[test]
 fn lists_of_its_own() {
     let below = |k: usize| Shape::HalfSpace { axis: [kressedach::Axis::X, kressedach::Axis::Y][k % 2], face: k as f64 };
     let drawing: Vec<Shape> = (0..200).map(below).collect();
-    for lines in [0, 1, 3, 400] {
+    for lines in [0, 1, 3, 2000] {
         let probes: Vec<Probe> = (0..lines).map(|k| Probe { origin: [k as f64, 0.5, 0.0], direction: [1.0, -2.0, 0.0] }).collect();
         let all = kressedach::cross_many(&probes, &drawing).unwrap();
         let alone: Vec<_> = probes.iter().map(|probe| kressedach::cross(*probe, &drawing).unwrap()).collect();
@@ -527,6 +527,12 @@ fn lists_of_its_own() {
         assert!(all.shapes.iter().eq(alone.iter().flat_map(|line| &line.shapes)));
     }
     let probe = Probe { origin: [0.0; 3], direction: [1.0; 3] };
+    let mut probes = vec![probe; 2000];
+    for wrong in [1999, 700, 3] {
+        probes[wrong].direction = [0.0; 3];
+        let refusal = kressedach::cross_many(&probes, &drawing).unwrap_err();
+        assert_eq!((refusal.line, refusal.refusal.number(), refusal.refusal.place), (Some(wrong), 16, 65535));
+    }
     let refusal = kressedach::cross_many(&[probe], &[below(0); 257]).unwrap_err();
     assert_eq!((refusal.line, refusal.refusal.number(), refusal.refusal.place), (None, 16, 256));
 }

@@ -10,7 +10,7 @@ use Rattle.contraction.specs.Records.{C-rec}
 use Rattle.contraction.specs.Rounds.{Work, tip, one, two, nodes, tipOf, rakes, leftOne, leftTwo, raked, compresses, compressed, roundLeaves}
 use Rattle.contraction.specs.Terms.{Many}
 
-abbrev pub tips : Work → ℕ
+abbrev tips : Work → ℕ
 tips (tip d) = 1
 tips (one d c) = tips c
 tips (two o l r) = tips l + tips r
@@ -54,7 +54,7 @@ two-nodes o (one d c) (two e′ c′ d′) l′ r′ n p q = omega (arith, p tt,
 two-nodes o (two e c d) (one d′ c′) l′ r′ n p q = omega (arith, p tt, q tt)
 two-nodes o (two e c d) (two e′ c′ d′) l′ r′ n p q = omega (arith, p tt, q tt)
 
-pub raked-nodes : (w : Work) (n : ℕ) → Many w → nodes (raked w n) + tips w ≡ nodes w
+raked-nodes : (w : Work) (n : ℕ) → Many w → nodes (raked w n) + tips w ≡ nodes w
 raked-nodes (tip d) n m = absurd m
 raked-nodes (one d c) n m = one-nodes d c (raked c n) _ (raked-nodes c n)
 raked-nodes (two o l r) n m = two-nodes o l r (raked l n) (raked r _) _ (raked-nodes l n) (raked-nodes r _)

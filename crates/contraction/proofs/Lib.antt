@@ -9,4 +9,4 @@ pub mod Over
 pub mod Leaves
 pub mod Paths
 pub mod Tall
-pub mod Steps
+pub mod EntryLaws

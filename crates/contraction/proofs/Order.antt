@@ -21,7 +21,7 @@ Below n (tip d) = d < n
 Below n (one d c) = (d < n) × Below n c
 Below n (two o l r) = Below n l × Below n r
 
-pub below-mono : (w : Work) (n m : ℕ) → n ≤ m → Below n w → Below m w
+below-mono : (w : Work) (n m : ℕ) → n ≤ m → Below n w → Below m w
 below-mono (tip d) n m h b = omega arith
 below-mono (one d c) n m h b = (omega arith, below-mono c n m h (b .1))
 below-mono (two o l r) n m h b = (below-mono l n m h (b .0), below-mono r n m h (b .1))
@@ -79,7 +79,7 @@ two-below o (some a) none l′ r′ n m p q h = (omega arith, below-mono r′ n 
 two-below o none (some b) l′ r′ n m p q h = (omega arith, below-mono l′ n m (omega arith) p)
 two-below o none none l′ r′ n m p q h = (below-mono l′ n m (omega arith) p, below-mono r′ n m (omega arith) q)
 
-pub raked-below : (w : Work) (n m : ℕ) → Below n w → n + length (rakes w) ≤ m → Below m (raked w n)
+raked-below : (w : Work) (n m : ℕ) → Below n w → n + length (rakes w) ≤ m → Below m (raked w n)
 raked-below (tip d) n m b h = omega arith
 raked-below (one d c) n m b h =
     one-below d (tipOf c) (raked c n) (n + length (rakes c)) m (omega arith) (raked-below c n _ (b .1) (omega arith))
@@ -91,7 +91,7 @@ raked-below (two o l r) n m b h =
     (raked-below l n _ (b .0) (omega arith)) (raked-below r k _ (below-mono r n k (omega arith) (b .1)) (omega arith))
     (omega (arith, length-append (rakes l) (rakes r ++ rt), length-append (rakes r) rt))
 
-pub compressed-below : (w : Work) (n m : ℕ) → Below n w → n + length (compresses w) ≤ m → Below m (compressed w n)
+compressed-below : (w : Work) (n m : ℕ) → Below n w → n + length (compresses w) ≤ m → Below m (compressed w n)
 compressed-below (tip d) n m b h = omega arith
 compressed-below (one u (tip d)) n m b h = omega arith
 compressed-below (one u (one d c)) n m b h = (
@@ -105,12 +105,12 @@ compressed-below (two o l r) n m b h =
       compressed-below r _ m (below-mono r n _ (omega arith) (b .1)) (omega arith),
     )
 
-pub round-below : (w : Work) (n : ℕ) → Below n w → Below (n + length (roundMakes w n)) (roundLeaves w n)
+round-below : (w : Work) (n : ℕ) → Below n w → Below (n + length (roundMakes w n)) (roundLeaves w n)
 round-below w n b =
     compressed-below (raked w n) (n + length (rakes w)) _ (raked-below w n _ b (omega arith))
     (omega (arith, length-append (rakes w) (compresses (raked w n))))
 
-pub planted-below : (f : Formula) (n m : ℕ) → n + leaves f ≤ m → Below m (planted f n)
+planted-below : (f : Formula) (n m : ℕ) → n + leaves f ≤ m → Below m (planted f n)
 planted-below (leaf s) n m h = omega arith
 planted-below (node o l r) n m h = (planted-below l n m (omega arith), planted-below r _ m (omega arith))
 
@@ -132,10 +132,6 @@ module _ (P : ℕ → Rec → Type 0) (ok : Kinds P) where
       rw (dwarf-all f)
       (each-append P (leafRecs f) _ 0 (leaves-each f 0)
       (rw (← (length-leafRecs f), zero-add) (made-each (enough f) (planted f 0) (leaves f) (planted-below f 0 _ (omega arith)))))
-
--- what is worked out for the dwarf tree is what the rule gives its records
-pub dwarf-good : (by : List ℕ → Rec → ℕ) → Kinds (Steady by) → (f : Formula) → Good by (worked by [] (dwarf f)) 0 (dwarf f)
-dwarf-good by ok f = worked-good by (dwarf f) [] 0 refl (dwarf-each (Steady by) ok f)
 
 -- Children have smaller numbers.
 children-below : Kinds ChildrenBelow

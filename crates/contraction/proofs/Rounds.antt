@@ -36,7 +36,7 @@ fewer (one d c) n k h = omega (arith, four-fifths (one d c) n tt)
 fewer (two o l r) n k h = omega (arith, four-fifths (two o l r) n tt)
 
 -- a single leaf is the last node made
-abbrev pub Top : ℕ → Work → Type 0
+abbrev Top : ℕ → Work → Type 0
 Top n (tip d) = suc d ≡ n
 Top n (one d c) = Unit {0}
 Top n (two o l r) = Unit {0}

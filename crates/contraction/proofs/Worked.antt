@@ -67,7 +67,7 @@ length-worked by (r ∷ rs) xs =
     omega (arith, length-worked by rs (xs ++ (by xs r ∷ [])), length-append xs (by xs r ∷ []))
 
 -- for a loop: the records in two parts, and one record more
-pub worked-append : (by : List ℕ → Rec → ℕ) (rs qs : List Rec) (xs : List ℕ) → worked by xs (rs ++ qs) ≡ worked by (worked by xs rs) qs
+worked-append : (by : List ℕ → Rec → ℕ) (rs qs : List Rec) (xs : List ℕ) → worked by xs (rs ++ qs) ≡ worked by (worked by xs rs) qs
 worked-append by [] qs xs = refl
 worked-append by (r ∷ rs) qs xs = worked-append by rs qs (xs ++ (by xs r ∷ []))
 

@@ -2,4 +2,4 @@ pub mod Records
 pub mod Rounds
 pub mod Height
 pub mod Terms
-pub mod Steps
+pub mod Entries

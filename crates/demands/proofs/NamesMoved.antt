@@ -18,7 +18,7 @@ use Rattle.job_move.specs.Moving.{moved}
 use Rattle.job_move.specs.Journey.{movedIn}
 use Rattle.job_move.proofs.Journey.{Agree, past-agree, moved-agree, reading-moves}
 use Rattle.job_name.specs.Naming.{naming, Stand, fieldIn, standOf, placing}
-use Rattle.job_name.specs.Steps.{lengthGiven, fittedAmong}
+use Rattle.job_name.specs.Within.{lengthGiven, fittedAmong}
 use Rattle.job_name.proofs.Placing.{asked-place, own-all}
 use Rattle.job_names.specs.Names.{numbersBelow, placingAll, givingAll, namingAll}
 use Rattle.job_names.proofs.Giving.{asked-all}

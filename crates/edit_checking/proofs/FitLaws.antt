@@ -12,7 +12,7 @@ use borrow.Author.Tests.{le-leb, lt-leb}
 use Rattle.formula.specs.Formula.{firstOperation}
 use Rattle.formula.specs.Codes.{isOperation}
 use Rattle.edit_checking.specs.Fits.{operatesAt, inTurn, fits, firstUnfit}
-use Rattle.edit_checking.specs.Steps.{Equal}
+use Rattle.edit_checking.specs.Asked.{Equal}
 
 -- a position past the codes, and one among them
 module _ (codes : List ℕ) (n p : ℕ) {i : ℕ} (at : i ≡ p) where

@@ -1,2 +1,2 @@
 pub mod Fits
-pub mod Steps
+pub mod Asked

@@ -3,7 +3,7 @@ ghost use mathlib.Core.Path.{_≡_};
 ghost use lib.ListN.{take};
 ghost use Rattle.formula.specs.Codes.{isOperation};
 ghost use Rattle.edit_checking.specs.Fits.{operatesAt, inTurn, fits as fitsIn, firstUnfit};
-ghost use Rattle.edit_checking.specs.Steps.{Equal, Coded};
+ghost use Rattle.edit_checking.specs.Asked.{Equal, Coded};
 
 // A position as an index.
 fn wide(x: u16) -> usize

@@ -16,8 +16,8 @@ use Rattle.formula.specs.States.{outside}
 use Rattle.formula.proofs.Codes.{index-opAt}
 use Rattle.contraction.specs.Records.{number, Rec, isLeaf, over, listed}
 use Rattle.contraction.specs.Rounds.{dwarf}
-use Rattle.contraction.specs.Steps.{kindAt, recAt, recs}
-use Rattle.contraction.proofs.Steps.{kindAt-leaf, kindAt-E, kindAt-left, kindAt-right, kindAt-S, kindAt-C, recs-more}
+use Rattle.contraction.specs.Entries.{kindAt, recAt, recs}
+use Rattle.contraction.proofs.EntryLaws.{kindAt-leaf, kindAt-E, kindAt-left, kindAt-right, kindAt-S, kindAt-C, recs-more}
 use Rattle.edits.specs.Edits.{only, edited}
 use Rattle.edits.specs.Changes.{noRec, rekind, withOp}
 use Rattle.edits.proofs.Edits.{edited-dwarf, edited-nodes, node-inside, children-reop}
@@ -25,12 +25,12 @@ use Rattle.edits.proofs.Codes.{over-remade}
 use Rattle.edits.proofs.Spots.{leaves-remade}
 use Rattle.labels.specs.Labels.{label, isOf}
 use Rattle.labels.specs.Arrays.{Holds}
-use Rattle.labels.specs.Steps.{seek, Shaped, Parents, Chains}
+use Rattle.labels.specs.Linked.{seek, Shaped, Parents, Chains}
 use Rattle.labels.proofs.Rules.{label-local}
 use Rattle.labels.proofs.Held.{held-records, held-shaped}
 use Rattle.labels.proofs.Fills.{seek-here, seek-past, seek-none}
 use Rattle.toggle_passes.specs.Reworking.{steps, reworked, rework}
-use Rattle.toggle_passes.specs.Steps.{Alone, Climbs}
+use Rattle.toggle_passes.specs.Upwards.{Alone, Climbs}
 use Rattle.toggle_passes.proofs.Upwards.{plus}
 use Rattle.edit_labels.specs.Editing.{edit}
 use Rattle.edit_labels.specs.Edited.{Rekinded, NodeOf, Editable, EditDone}

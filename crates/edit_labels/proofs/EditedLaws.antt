@@ -132,7 +132,7 @@ works-inner (R side o) e = refl
 works-inner S e = refl
 works-inner C e = refl
 
-pub operates-inner : (r : Rec) → operates r ≡ true → isLeaf (r .kind) ≡ false
+operates-inner : (r : Rec) → operates r ≡ true → isLeaf (r .kind) ≡ false
 operates-inner r e = works-inner (r .kind) e
 
 -- Each label is that of a build of the sheet as edited, with the same shapes inside.
@@ -258,6 +258,3 @@ length-sweep e old (r ∷ rs) j ls = go (eqb j e || changed old ls (children r))
         → length (sweep e old (r ∷ rs) j ls .labels) ≡ length ls
     go true q ih = rw (sweep-here e old r rs j ls q) (ih (set ls j (reworked ls r)) ∙ length-set ls j (reworked ls r))
     go false q ih = rw (sweep-skip e old r rs j ls q) (ih ls)
-
-pub length-edit : (rs : List Rec) (e : ℕ) (ls : List ℕ) → length (edit rs e ls .labels) ≡ length ls
-length-edit rs e ls = length-sweep e ls rs 0 ls

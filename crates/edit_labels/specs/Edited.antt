@@ -6,11 +6,11 @@ use lib.ListN.{length, take}
 use Rattle.formula.specs.Formula.{opAt, Formula}
 use Rattle.contraction.specs.Records.{number}
 use Rattle.contraction.specs.Rounds.{dwarf}
-use Rattle.contraction.specs.Steps.{kindAt}
+use Rattle.contraction.specs.Entries.{kindAt}
 use Rattle.edits.specs.Edits.{edited, nodeAt}
 use Rattle.edits.specs.Changes.{operations, rekind}
 use Rattle.labels.specs.Arrays.{Holds}
-use Rattle.labels.specs.Steps.{Rules, Parents}
+use Rattle.labels.specs.Linked.{Rules, Parents}
 use Rattle.toggle_passes.specs.Reworking.{steps}
 use Rattle.edit_labels.specs.Editing.{edit}
 

@@ -13,9 +13,9 @@ use Rattle.formula.specs.Formula.{Formula, inside}
 use Rattle.formula.specs.States.{toggledBy}
 use Rattle.contraction.specs.Rounds.{dwarf}
 use Rattle.contraction.specs.Height.{last}
-use Rattle.contraction.specs.Steps.{recs}
+use Rattle.contraction.specs.Entries.{recs}
 use Rattle.labels.specs.Labels.{bit, labels}
-use Rattle.labels.specs.Steps.{Chains}
+use Rattle.labels.specs.Linked.{Chains}
 use Rattle.labels.proofs.Root.{root-label}
 use Rattle.labels.proofs.Held.{held-records, held-shaped}
 use Rattle.toggle_passes.specs.Reworking.{Steps, steps}
@@ -25,10 +25,10 @@ use Rattle.toggle_run.specs.Ran.{ToggleRoom}
 use Rattle.edit_labels.proofs.ArrayLaws.{chains-kept}
 use Rattle.edit_moments.specs.Edits.{editedBy, editCounts}
 use Rattle.edit_moments.specs.Listed.{Rises}
-use Rattle.edit_moments.specs.Steps.{Desk, desk, waiting, Plan, At, Running, running, Standing, ActsDone, acts-done}
+use Rattle.edit_moments.specs.Waiting.{Desk, desk, waiting, Plan, At, Running, running, Standing, ActsDone, acts-done}
 use Rattle.edit_moments.proofs.Lists.{waiting-here, waiting-none, by-later}
 use Rattle.edit_mix.specs.Edits.{rootsAfter, countsAfter}
-use Rattle.edit_mix.specs.Steps.{plan, Begun, begun, CanToggle, ToggleDone, CanTurn, can-turn, TurnHere, Told, TurnDone, turn-done, MixLeft, MixDone}
+use Rattle.edit_mix.specs.TurnAbout.{plan, Begun, begun, CanToggle, ToggleDone, CanTurn, can-turn, TurnHere, Told, TurnDone, turn-done, MixLeft, MixDone}
 
 -- ---- one toggle, where every edit that waits is of a later moment
 module _ {d : Desk} {f : Formula} {toggles lent : List ℕ} {i k : ℕ} {ks ls counts : List ℕ} (a : At d (plan f toggles lent) i k ks ls counts)

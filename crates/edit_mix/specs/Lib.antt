@@ -1,2 +1,2 @@
 pub mod Edits
-pub mod Steps
+pub mod TurnAbout

@@ -1,6 +1,6 @@
 // Edits and toggles on a dwarf tree in arrays: the edits of a moment, then the next toggle, turn about.
-ghost use Rattle.edit_moments.specs.Steps.{desk, Standing};
-ghost use Rattle.edit_mix.specs.Steps.{CanToggle, ToggleDone, CanTurn, TurnHere, TurnDone, MixDone};
+ghost use Rattle.edit_moments.specs.Waiting.{desk, Standing};
+ghost use Rattle.edit_mix.specs.TurnAbout.{CanToggle, ToggleDone, CanTurn, TurnHere, TurnDone, MixDone};
 
 // Toggle i of the list, with its root and its count.
 fn toggle_one(

@@ -22,7 +22,7 @@ use Rattle.edit_labels.specs.Edited.{NodeOf, Editable, EditLeft, EditDone}
 use Rattle.edit_labels.proofs.EditedLaws.{edit-labels}
 use Rattle.edit_moments.specs.Edits.{Edit, after, editedBy, editCounts}
 use Rattle.edit_moments.specs.Listed.{Rises}
-use Rattle.edit_moments.specs.Steps.{Desk, desk, waiting, Plan, At, Running, running, CanAct, can-act, OneDone, Standing, ActsDone, acts-done}
+use Rattle.edit_moments.specs.Waiting.{Desk, desk, waiting, Plan, At, Running, running, CanAct, can-act, OneDone, Standing, ActsDone, acts-done}
 use Rattle.edit_moments.proofs.Lists.{editAt, waiting-here, waiting-none, kept-operations, position-small, by-now}
 
 -- ---- one edit

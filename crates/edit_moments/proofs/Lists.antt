@@ -15,7 +15,7 @@ use Rattle.edits.proofs.Codes.{above-none}
 use Rattle.edits.proofs.Again.{operations-edited}
 use Rattle.edit_moments.specs.Edits.{Edit, editsOf, after, editedBy}
 use Rattle.edit_moments.specs.Listed.{Operations, Rises, Listed}
-use Rattle.edit_moments.specs.Steps.{Desk, waiting}
+use Rattle.edit_moments.specs.Waiting.{Desk, waiting}
 
 -- ---- edit k of three lists
 abbrev pub editAt : List ℕ → List ℕ → List ℕ → ℕ → Edit

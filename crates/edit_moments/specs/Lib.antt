@@ -1,3 +1,3 @@
 pub mod Edits
 pub mod Listed
-pub mod Steps
+pub mod Waiting

@@ -1,5 +1,5 @@
 // The edits of one moment, one after another, on a dwarf tree in arrays, each with its count.
-ghost use Rattle.edit_moments.specs.Steps.{desk, CanAct, OneDone, Running, Standing, ActsDone};
+ghost use Rattle.edit_moments.specs.Waiting.{desk, CanAct, OneDone, Running, Standing, ActsDone};
 
 // Edit k of the lists, with its count.
 fn act_one(

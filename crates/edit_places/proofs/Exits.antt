@@ -6,10 +6,10 @@ use mathlib.Core.List.{List}
 use lib.Dec.{ltb, eqb}
 use borrow.Author.Tests.{lt-ltb, le-ltb, ltb-true, ltb-false, eqb-true, eqb-false}
 use lib.ListN.{getD, set}
-use Rattle.contraction.specs.Steps.{kindAt}
-use Rattle.contraction.proofs.Steps.{kindAt-leaf, kindAt-E, kindAt-left, kindAt-right, kindAt-S, kindAt-C}
+use Rattle.contraction.specs.Entries.{kindAt}
+use Rattle.contraction.proofs.EntryLaws.{kindAt-leaf, kindAt-E, kindAt-left, kindAt-right, kindAt-S, kindAt-C}
 use Rattle.edits.specs.Spots.{works}
-use Rattle.edit_places.specs.Steps.{met, view, joinedStarts, joinedUps, spotOf, entered}
+use Rattle.edit_places.specs.Standing.{met, view, joinedStarts, joinedUps, spotOf, entered}
 
 -- the kinds of E and R
 pub works-leaf : (k : ℕ) → k ≡ 0 → false ≡ works (kindAt k)

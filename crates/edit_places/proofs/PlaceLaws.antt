@@ -17,17 +17,17 @@ use Rattle.edits.specs.Edits.{nodeAt}
 use Rattle.edits.specs.Changes.{noRec, operations}
 use Rattle.edits.specs.Spots.{works, spot, operates}
 use Rattle.contraction.proofs.Worked.{Good}
-use Rattle.contraction.proofs.Steps.{kindAt-number}
+use Rattle.contraction.proofs.EntryLaws.{kindAt-number}
 use Rattle.contraction.proofs.Rounds.{allMade, dwarf-all, length-leafRecs}
 use Rattle.edits.proofs.Spots.{Placed}
 use Rattle.edits.proofs.Single.{dwarf-standing, count}
 use Rattle.edits.proofs.Edits.{node-placed, node-none, none-stand}
 use Rattle.edits.proofs.Codes.{operation-code}
 use Rattle.labels.specs.Arrays.{Holds}
-use Rattle.contraction.specs.Steps.{kindAt, recAt}
+use Rattle.contraction.specs.Entries.{kindAt, recAt}
 use Rattle.labels.proofs.Held.{held-shaped}
 use Rattle.edit_places.specs.Places.{Buildable, Places, PlacesFilled}
-use Rattle.edit_places.specs.Steps.{Scanned, ScanDone, spotOf, Falls, StandTo, worksAt, lastOf, entered, EnteredTo}
+use Rattle.edit_places.specs.Standing.{Scanned, ScanDone, spotOf, Falls, StandTo, worksAt, lastOf, entered, EnteredTo}
 use Rattle.edit_places.proofs.ScanLaws.{leaves-agree}
 
 -- ---- where the nodes stand
@@ -174,7 +174,7 @@ good-points by xs (r ∷ rs) n h = (
 field : (part : Rec → ℕ) → part noRec ≡ 0 → (rs : List Rec) (xs : List ℕ) (n i : ℕ) → take n xs ≡ map part rs → i < n → getD xs i 0 ≡ part (getD rs i noRec)
 field part z rs xs n i e h = sym (getD-take n xs i 0 h) ∙ ap (λ l. getD l i 0) e ∙ ap (getD (map part rs) i) (sym z) ∙ List·getD-map part rs i noRec
 
-pub first-over : (r : Rec) → isLeaf (r .kind) ≡ false → over (r .first) r ≡ true
+first-over : (r : Rec) → isLeaf (r .kind) ≡ false → over (r .first) r ≡ true
 first-over r n = go (r .kind) n
   where
     same : eqb (r .first) (r .first) ≡ true

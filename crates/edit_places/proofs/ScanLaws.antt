@@ -11,10 +11,10 @@ use Rattle.formula.specs.Formula.{Op, union, intersection, difference, exclusiv
 use Rattle.edits.specs.Edits.{size}
 use Rattle.edits.specs.Spots.{own, Ups, LeafSpots}
 use Rattle.edits.proofs.Codes.{length-postfix}
-use Rattle.edit_places.specs.Steps.{Scan, leafMet, operationMet, met, view, zeros, begin, Scanned, ScanDone}
+use Rattle.edit_places.specs.Standing.{Scan, leafMet, operationMet, met, view, zeros, begin, Scanned, ScanDone}
 
 -- ---- positions
-pub own-size : (f : Formula) (p : ℕ) → suc (own p f) ≡ p + size f
+own-size : (f : Formula) (p : ℕ) → suc (own p f) ≡ p + size f
 own-size (leaf s) p = omega arith
 own-size (node o l r) p = omega arith
 
@@ -22,7 +22,7 @@ size-pos : (f : Formula) → 1 ≤ size f
 size-pos (leaf s) = omega arith
 size-pos (node o l r) = omega arith
 
-pub leaves-size : (f : Formula) → leaves f ≤ size f
+leaves-size : (f : Formula) → leaves f ≤ size f
 leaves-size (leaf s) = omega arith
 leaves-size (node o l r) = omega (arith, leaves-size l, leaves-size r)
 

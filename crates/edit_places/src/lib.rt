@@ -2,10 +2,10 @@
 ghost use mathlib.Core.Path.{_≡_};
 ghost use Prim.Native.Nat.{_+_, _-_, _<_, _≤_};
 ghost use lib.ListN.{length, getD, set};
-ghost use Rattle.contraction.specs.Steps.{kindAt};
+ghost use Rattle.contraction.specs.Entries.{kindAt};
 ghost use Rattle.edits.specs.Spots.{works};
 ghost use Rattle.edit_places.specs.Places.{Buildable, PlacesFilled};
-ghost use Rattle.edit_places.specs.Steps.{met, view, joinedStarts, joinedUps, ScanDone, spotOf, Falls, StandTo, entered, EnteredTo};
+ghost use Rattle.edit_places.specs.Standing.{met, view, joinedStarts, joinedUps, ScanDone, spotOf, Falls, StandTo, entered, EnteredTo};
 
 // Entry i, 0 where there is none.
 fn read(list: &[u16; 3072], i: u16) -> u16

@@ -15,16 +15,16 @@ use Rattle.labels.specs.Labels.{labels}
 use Rattle.labels.specs.Arrays.{Tree}
 use Rattle.labels.proofs.Held.{held-records}
 use Rattle.toggles.proofs.Runs.{none-done}
-use Rattle.toggle_run.specs.Steps.{Tables}
+use Rattle.toggle_run.specs.Tables.{Tables}
 use Rattle.edits.proofs.Codes.{is-operation}
 use Rattle.edit_places.specs.Places.{Built, Buildable, PlacesFilled}
 use Rattle.edit_moments.specs.Edits.{Edit, editsOf, after, editCounts}
 use Rattle.edit_moments.specs.Listed.{Operations}
-use Rattle.edit_moments.specs.Steps.{desk, At}
+use Rattle.edit_moments.specs.Waiting.{desk, At}
 use Rattle.edit_mix.specs.Edits.{rootsAfter, countsAfter}
-use Rattle.edit_mix.specs.Steps.{plan, begun, can-turn}
+use Rattle.edit_mix.specs.TurnAbout.{plan, begun, can-turn}
 use Rattle.edit_run.specs.Ran.{EditFits, EditRoom, edit-room, EditedRuns}
-use Rattle.edit_run.specs.Steps.{CanRun, RunDone, RunFits, Runnable, RunsOf}
+use Rattle.edit_run.specs.Tabled.{CanRun, RunDone, RunFits, Runnable, RunsOf}
 
 -- ---- lengths
 pub length-roots : (f : Formula) (es : List Edit) (done ss : List ℕ) → length (rootsAfter f es done ss) ≡ length ss

@@ -1,7 +1,7 @@
 // A toggle run with edits on a dwarf tree, on lent lists: places and tables filled, edits and toggles turn about, the labels at the end.
-ghost use Rattle.edit_moments.specs.Steps.{desk};
+ghost use Rattle.edit_moments.specs.Waiting.{desk};
 ghost use Rattle.edit_run.specs.Ran.{EditRoom, EditedRuns};
-ghost use Rattle.edit_run.specs.Steps.{CanRun, RunDone, Runnable, RunsOf};
+ghost use Rattle.edit_run.specs.Tabled.{CanRun, RunDone, Runnable, RunsOf};
 
 // The run from its tables on: edits and toggles turn about, and the labels that they leave are given.
 fn run_filled(

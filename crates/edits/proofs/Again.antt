@@ -86,7 +86,7 @@ module _ (ups es : List ℕ) (g : ℕ → Op → Op) where
       (sym (operates-fixed (dwarf f) 0 i) ∙ ap (λ rs. operates (getD rs i noRec)) (sym d) ∙ b .works) (b .stands)
 
 -- An operation keeps its node, whatever was edited before.
-pub node-edited : (f : Formula) (p q : ℕ) (o : Op) → operations q 0 f ≡ 1 → nodeAt (edited p o f) q ≡ nodeAt f q
+node-edited : (f : Formula) (p q : ℕ) (o : Op) → operations q 0 f ≡ 1 → nodeAt (edited p o f) q ≡ nodeAt f q
 node-edited f p q o e = node-remade (upsOf 0 0 f) (spots f) (only p o) f q (spots-placed f) e
 
 pub operations-edited : (f : Formula) (p q : ℕ) (o : Op) → operations q 0 (edited p o f) ≡ operations q 0 f

@@ -104,9 +104,6 @@ operation-code (node o l r) v p i = go (where-is (size l) (size r) i) (operation
 pub is-operation : (f : Formula) → Over 256 f → (p : ℕ) → firstOperation ≤ getD (postfix f) p 0 → operations p 0 f ≡ 1
 is-operation f v p h = ap (λ q. operations q 0 f) (sym (zero-add p)) ∙ operation-code f v 0 p ∙ ap count (le-leb firstOperation (getD (postfix f) p 0) h)
 
-pub no-operation : (f : Formula) → Over 256 f → (p : ℕ) → getD (postfix f) p 0 < firstOperation → operations p 0 f ≡ 0
-no-operation f v p h = ap (λ q. operations q 0 f) (sym (zero-add p)) ∙ operation-code f v 0 p ∙ ap count (lt-leb firstOperation (getD (postfix f) p 0) h)
-
 -- An edit puts its code at its position, and leaves every other code as it is.
 set-append-right : (xs ys : List ℕ) (i v : ℕ) → set (xs ++ ys) (length xs + i) v ≡ xs ++ set ys i v
 set-append-right [] ys i v = ap (λ k. set ys k v) (zero-add i)
@@ -156,7 +153,7 @@ size-remade g (leaf s) p = refl
 size-remade g (node o l r) p = ap suc (ap₂ _+_ (size-remade g l p) (size-remade g r (p + size l)))
 
 -- One operation at most stands at a position.
-pub at-most-one-operation : (f : Formula) (p q : ℕ) → operations q p f ≤ 1
+at-most-one-operation : (f : Formula) (p q : ℕ) → operations q p f ≤ 1
 at-most-one-operation (leaf s) p q = omega arith
 at-most-one-operation (node o l r) p q =
     go (ltb q (p + size l)) refl (eqb q (p + (size l + size r))) refl (at-most-one-operation l p q) (at-most-one-operation r (p + size l) q)

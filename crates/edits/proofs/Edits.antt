@@ -204,7 +204,7 @@ none-remade (node x l r) p q o e = go (eqb q (p + (size l + size r))) refl (none
     go true z u v = absurd (omega (arith, (rw z at e)))
     go false z u v = rw (z, u (omega arith), v (omega arith))
 
-pub edited-none : (f : Formula) (p : ℕ) (o : Op) → operations p 0 f ≡ 0 → edited p o f ≡ f
+edited-none : (f : Formula) (p : ℕ) (o : Op) → operations p 0 f ≡ 0 → edited p o f ≡ f
 edited-none f p o e = none-remade f 0 p o e
 
 pub node-none : (f : Formula) (p : ℕ) → operations p 0 f ≡ 0 → nodeAt f p ≡ absent

@@ -39,18 +39,18 @@ module _ (xs : List ℕ) where
     reads-same ys (suc n) (λ i l. ap (λ k. getD xs k 0) (omega arith) ∙ h (suc i) (omega arith)),
   )
 
-pub length-upsOf : (f : Formula) (top p : ℕ) → length (upsOf top p f) ≡ size f
+length-upsOf : (f : Formula) (top p : ℕ) → length (upsOf top p f) ≡ size f
 length-upsOf (leaf s) top p = refl
 length-upsOf (node o l r) top p =
     let m = p + (size l + size r) in
     let z = upsOf m (p + size l) r in
     omega (arith, length-append (upsOf m p l) (z ++ (top ∷ [])), length-append z (top ∷ []), length-upsOf l m p, length-upsOf r m (p + size l))
 
-pub length-leafSpots : (f : Formula) (p : ℕ) → length (leafSpots p f) ≡ leaves f
+length-leafSpots : (f : Formula) (p : ℕ) → length (leafSpots p f) ≡ leaves f
 length-leafSpots (leaf s) p = refl
 length-leafSpots (node o l r) p = omega (arith, length-append (leafSpots p l) (leafSpots (p + size l) r), length-leafSpots l p, length-leafSpots r (p + size l))
 
-pub ups-read : (xs : List ℕ) (f : Formula) (top p : ℕ) → Reads xs p (upsOf top p f) → Ups xs p f × (getD xs (own p f) 0 ≡ top)
+ups-read : (xs : List ℕ) (f : Formula) (top p : ℕ) → Reads xs p (upsOf top p f) → Ups xs p f × (getD xs (own p f) 0 ≡ top)
 ups-read xs (leaf s) top p h = (tt, h .0)
 ups-read xs (node o l r) top p h =
     let m = p + (size l + size r) in
@@ -63,7 +63,7 @@ ups-read xs (node o l r) top p h =
     let c : Reads xs m (top ∷ []) = rw e at (reads-right xs rs (top ∷ []) (p + size l) h₁) in
     ((a .1, b .1, a .0, b .0), c .0)
 
-pub leaves-read : (xs : List ℕ) (f : Formula) (p n : ℕ) → Reads xs n (leafSpots p f) → LeafSpots xs p n f
+leaves-read : (xs : List ℕ) (f : Formula) (p n : ℕ) → Reads xs n (leafSpots p f) → LeafSpots xs p n f
 leaves-read xs (leaf s) p n h = h .0
 leaves-read xs (node o l r) p n h = (
   leaves-read xs l p n (reads-left xs (leafSpots p l) (leafSpots (p + size l) r) n h),

@@ -43,10 +43,6 @@ unfolding after
 after-append [] us state t = refl
 after-append (s ∷ ss) us state t = after-append ss us (flipped s state) t
 
--- two lists with the same oddness of every shape lead to the same states
-pub after-same-odd : (ss us : List ℕ) (state : State) (t : ℕ) → toggledBy ss t ≡ toggledBy us t → after state ss t ≡ after state us t
-after-same-odd ss us state t e = after-changed ss state t ∙ ap (λ a. changed a (state t)) e ∙ sym (after-changed us state t)
-
 -- ---- one toggle
 
 pub flipped-here : (s : ℕ) (state : State) → flipped s state s ≡ not (state s)
@@ -60,7 +56,7 @@ unfolding after
 after-snoc state ss s t = after-append ss (s ∷ []) state t
 
 -- a shape's state is decided by its own state before
-pub after-at : (p q : State) (ss : List ℕ) (t : ℕ) → p t ≡ q t → after p ss t ≡ after q ss t
+after-at : (p q : State) (ss : List ℕ) (t : ℕ) → p t ≡ q t → after p ss t ≡ after q ss t
 unfolding after
 after-at p q [] t e = e
 after-at p q (s ∷ ss) t e = after-at (flipped s p) (flipped s q) ss t (ap (λ (b : Bool). cond (eqb t s) (not b) b) e)

@@ -21,7 +21,7 @@ use Rattle.job_run.proofs.RunLaws.{run-refused, run-unfit, stands, holds}
 use Rattle.order_mixing.specs.Order.{mixes}
 use Rattle.job_both.specs.Sharing.{sharing, serving}
 use Rattle.job_both.specs.Shared.{Lists, lists, Shared}
-use Rattle.job_both.specs.Steps.{bothRefused, bothUnfit, mixing, Mixed}
+use Rattle.job_both.specs.OnTree.{bothRefused, bothUnfit, mixing, Mixed}
 use Rattle.job_both.specs.declared.BothAnswer.{BothAnswer}
 
 -- ---- Where the sheet is accepted

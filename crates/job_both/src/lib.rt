@@ -9,7 +9,7 @@ ghost use Rattle.formula.specs.Formula.{Formula};
 ghost use Rattle.sheet.specs.Sheet.{sheetsOf};
 ghost use Rattle.labels.specs.Arrays.{Tree, Holds};
 ghost use Rattle.job_both.specs.Shared.{lists, Shared};
-ghost use Rattle.job_both.specs.Steps.{bothRefused, bothUnfit, Mixed};
+ghost use Rattle.job_both.specs.OnTree.{bothRefused, bothUnfit, Mixed};
 
 // What each foundry is answered.
 pub struct BothAnswer {

@@ -27,7 +27,7 @@ use Rattle.job_run.specs.declared.RunAnswer.the-variants as run
 use Rattle.edits.proofs.Edits.{edited-nodes}
 use Rattle.formula.specs.Codes.{isOperation}
 use Rattle.edit_checking.specs.Fits.{operatesAt, inTurn, fits, firstUnfit}
-use Rattle.edit_checking.specs.Steps.{Coded}
+use Rattle.edit_checking.specs.Asked.{Coded}
 use Rattle.edit_checking.proofs.FitLaws.{unfit-most}
 use Rattle.edit_places.specs.Places.{Built}
 use Rattle.edit_moments.specs.Edits.{Edit, editsOf, after, editedBy}
@@ -38,9 +38,9 @@ use Rattle.job_edit.specs.declared.Checked.{Checked}
 use Rattle.job_edit.specs.declared.Checked.the-variants as checked
 use Rattle.job_edit.specs.Editing.{Lists, lists, lending, editing, runningEdited}
 use Rattle.job_edit.specs.Edited.{Edited}
-use Rattle.job_edit.specs.Steps.{Prepares, prepares, Refuses, Passes, Checks, Taken, Takes, takes, LentOn, JudgedOn}
+use Rattle.job_edit.specs.Taken.{Prepares, prepares, Refuses, Passes, Checks, Taken, Takes, takes, LentOn, JudgedOn}
 
-pub edit-refused : (o : Outcome Answers) (lent : Lists) (number place : ℕ) → o ≡ refused number place → Edited o lent (run.Refused number place) lent
+edit-refused : (o : Outcome Answers) (lent : Lists) (number place : ℕ) → o ≡ refused number place → Edited o lent (run.Refused number place) lent
 edit-refused o lent number place is =
     record { answer = rw is; lists = record { roots-list = rw is; counts-list = rw is; labels-list = rw is; edit-counts-list = rw is } }
 

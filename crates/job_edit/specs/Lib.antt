@@ -1,3 +1,3 @@
 pub mod Editing
 pub mod Edited
-pub mod Steps
+pub mod Taken

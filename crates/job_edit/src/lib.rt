@@ -5,8 +5,8 @@ use tree_dwarf::Figures;
 ghost use Rattle.sheet.specs.Sheet.{sheetsOf};
 ghost use Rattle.job_edit.specs.Editing.{lists, runningEdited};
 ghost use Rattle.job_edit.specs.Edited.{Edited};
-ghost use Rattle.edit_checking.specs.Steps.{Coded};
-ghost use Rattle.job_edit.specs.Steps.{Prepares, Checks, Takes, LentOn, JudgedOn};
+ghost use Rattle.edit_checking.specs.Asked.{Coded};
+ghost use Rattle.job_edit.specs.Taken.{Prepares, Checks, Takes, LentOn, JudgedOn};
 
 // Toggles and edits that are taken, or the refusal.
 enum Checked {

@@ -12,7 +12,7 @@ use borrow.Author.Tests.{lt-ltb, le-ltb, ltb-false, eq-eqb, ne-eqb}
 use Rattle.formula.specs.Formula.{exclusive, code, Formula, leaf, node, postfix, prefix}
 use Rattle.sheet.specs.Sheet.{codesIn}
 use Rattle.job_move.specs.Moving.{hasExclusive, beforeExclusive}
-use Rattle.job_move.specs.Steps.{firstOne}
+use Rattle.job_move.specs.Putting.{firstOne}
 
 -- ---- it is among codes exactly if not all of them stand before it
 

@@ -13,7 +13,7 @@ use Rattle.sheet.proofs.Names.{walk-on}
 use Rattle.sheet_laying.specs.Bytes.{codeBytes}
 use Rattle.sheet_laying.proofs.Putting.{length-codeBytes}
 use Rattle.job_move.specs.Moving.{other, moved}
-use Rattle.job_move.specs.Steps.{Puttable, PutIn, Held, Movable, MovedTo}
+use Rattle.job_move.specs.Putting.{Puttable, PutIn, Held, Movable, MovedTo}
 
 -- two bytes a code
 pub codes-long : (p : List ℕ) → length p % 2 ≡ 0 → 2 * length (codesOf p) ≡ length p

@@ -17,7 +17,7 @@ use Rattle.accepting.specs.declared.Acceptance.the-variants as acceptance
 use Rattle.accepting.proofs.Accepted.{accepted-given, accepted-refused, accepted-unfit}
 use Rattle.job_move.specs.Moving.{moving}
 use Rattle.job_move.specs.Moved.{Moved}
-use Rattle.job_move.specs.Steps.{Held, Holding, UsedAt, Movable, MovedTo}
+use Rattle.job_move.specs.Putting.{Held, Holding, UsedAt, Movable, MovedTo}
 use Rattle.job_move.specs.declared.MoveAnswer.the-variants as answer
 use Rattle.job_move.proofs.Giving.{moved-long}
 

@@ -10,7 +10,7 @@ use Rattle.formula.specs.Formula.{Formula, postfix, prefix}
 use Rattle.formula.proofs.Laws.{length-prefix}
 use Rattle.sheet_laying.specs.Bytes.{codeBytes}
 use Rattle.sheet_laying.specs.Laid.{Ends, Laying, Laid}
-use Rattle.job_move.specs.Steps.{Stand, Puttable, PutIn}
+use Rattle.job_move.specs.Putting.{Stand, Puttable, PutIn}
 
 stand-long : (codes : List ℕ) (n : ℕ) (f : Formula) → Stand codes n f → length (postfix f) ≡ n
 stand-long codes n f s = ap length (sym (s .are)) ∙ length-take-le n codes (omega (arith, s .few, s .sized))

@@ -8,7 +8,7 @@ use lib.Seq.{length-take-le}
 use borrow.Author.Tests.{eq-eqb, ne-eqb}
 use Rattle.sheet.specs.Sheet.{Sheet}
 use Rattle.job_move.specs.Moving.{hasExclusive, beforeExclusive, codesOfSheet, outOfUse}
-use Rattle.job_move.specs.Steps.{Held, Holding, UsedAt}
+use Rattle.job_move.specs.Putting.{Held, Holding, UsedAt}
 use Rattle.job_move.proofs.Exclusive.{has-none, has-some, before-most}
 use Rattle.job_move.proofs.Giving.{first-is, enough}
 

@@ -1,4 +1,4 @@
 pub mod Moving
 pub mod Moved
 pub mod Journey
-pub mod Steps
+pub mod Putting

@@ -6,7 +6,7 @@ ghost use lib.ListN.{length, take};
 ghost use Rattle.sheet.specs.Sheet.{sheetsOf};
 ghost use Rattle.job_move.specs.Moving.{beforeExclusive, moving};
 ghost use Rattle.job_move.specs.Moved.{Moved as Promise};
-ghost use Rattle.job_move.specs.Steps.{Puttable, PutIn, firstOne, Holding, UsedAt, Movable, MovedTo};
+ghost use Rattle.job_move.specs.Putting.{Puttable, PutIn, firstOne, Holding, UsedAt, Movable, MovedTo};
 
 // What the move answers: the length of the sheet, which is given; `Unfit` is a refusal of the fittings sheet.
 pub enum MoveAnswer {

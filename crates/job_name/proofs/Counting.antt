@@ -7,7 +7,7 @@ use lib.ListN.{length}
 use Rattle.sheet.specs.Sheet.{pastAt}
 use Rattle.sheet.specs.Walk.{walkEnd}
 use Rattle.sheet.proofs.Names.{walk-on}
-use Rattle.job_name.specs.Steps.{Whole}
+use Rattle.job_name.specs.Within.{Whole}
 
 pub record Counting (f : List ℕ) (m at n : ℕ) : Type 0 where
   pub left : ℕ

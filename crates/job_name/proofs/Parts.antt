@@ -17,7 +17,7 @@ use Rattle.sheet.proofs.Guaranteed.{own-guaranteed, fitted}
 use Rattle.sheet.proofs.Names.{GoodNames-none, walkEnd-more}
 use Rattle.job_name.specs.Naming.{naming, Stand, stand, fieldIn, standOf, placing, bytesOf}
 use Rattle.job_name.specs.Named.{placedOf, bytesGiven}
-use Rattle.job_name.specs.Steps.{Within, StandsIn, partOf}
+use Rattle.job_name.specs.Within.{Within, StandsIn, partOf}
 use Rattle.job_name.specs.declared.NameAnswer.{NameAnswer}
 use Rattle.job_name.specs.declared.NameAnswer.the-variants as answer
 use Rattle.job_name.proofs.Walking.{walk-rises}

@@ -20,7 +20,7 @@ use Rattle.sheet_reading.specs.declared.ReadAnswer.the-variants as read
 use Rattle.sheet_reading.proofs.Settled.{read-refusal, read-unfit}
 use Rattle.sheet_reading.proofs.Told.{read-known}
 use Rattle.job_name.specs.Naming.{Stand, fittedIn, standOf, placing}
-use Rattle.job_name.specs.Steps.{Held, placedIn, lengthGiven, fittedNumber, fittedAmong, Whole, ReadAs}
+use Rattle.job_name.specs.Within.{Held, placedIn, lengthGiven, fittedNumber, fittedAmong, Whole, ReadAs}
 
 -- ---- what is asked after the sheets are read, of the number of fittings and of what the sheets hold
 

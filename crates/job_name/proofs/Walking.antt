@@ -11,7 +11,7 @@ use Rattle.sheet.specs.Sheet.{pastAt}
 use Rattle.sheet.specs.Walk.{walkEnd}
 use Rattle.sheet.proofs.Names.{walk-on}
 use Rattle.job_name.specs.Naming.{stand}
-use Rattle.job_name.specs.Steps.{Held, placedIn}
+use Rattle.job_name.specs.Within.{Held, placedIn}
 
 pub walk-inside : (s : List ℕ) (at n : ℕ) → 0 < n → walkEnd s at n ≤ length s → pastAt s at ≤ length s
 unfolding walkEnd

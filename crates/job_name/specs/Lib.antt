@@ -1,3 +1,3 @@
 pub mod Naming
 pub mod Named
-pub mod Steps
+pub mod Within

@@ -7,7 +7,7 @@ ghost use Rattle.sheet.specs.Sheet.{sheetsOf};
 ghost use Rattle.sheet.specs.Walk.{walkEnd};
 ghost use Rattle.job_name.specs.Naming.{naming, placing};
 ghost use Rattle.job_name.specs.Named.{placedOf, bytesGiven};
-ghost use Rattle.job_name.specs.Steps.{Held, placedIn, fittedNumber, Whole, ReadAs, StandsIn, partOf};
+ghost use Rattle.job_name.specs.Within.{Held, placedIn, fittedNumber, Whole, ReadAs, StandsIn, partOf};
 
 // Where a shape's name stands: its first offset and the one past its end, in the fittings sheet or in the customer's; or a refusal,
 // `Unfit` of the fittings sheet.

@@ -12,7 +12,7 @@ use Rattle.outcome.specs.Outcome.{given, refused}
 use Rattle.outcome.proofs.Questions.{bind-given, given-same}
 use Rattle.sheet.specs.Sheet.{Sheets, Sheet, reading}
 use Rattle.job_name.specs.Naming.{Stand, stand, standOf, placing}
-use Rattle.job_name.specs.Steps.{fittedAmong}
+use Rattle.job_name.specs.Within.{fittedAmong}
 use Rattle.job_name.proofs.Placing.{asked-place}
 use Rattle.job_names.specs.Names.{numbersBelow, placingAll}
 use Rattle.job_names.proofs.Listing.{numbers-length}

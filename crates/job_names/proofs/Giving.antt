@@ -11,11 +11,11 @@ use Rattle.sheet_reading.specs.declared.ReadAnswer.{ReadAnswer}
 use Rattle.sheet_reading.specs.declared.ReadAnswer.the-variants as read
 use Rattle.sheet_reading.proofs.Settled.{read-refusal, read-unfit}
 use Rattle.job_name.specs.Naming.{Stand, standOf}
-use Rattle.job_name.specs.Steps.{fittedAmong, ReadAs}
+use Rattle.job_name.specs.Within.{fittedAmong, ReadAs}
 use Rattle.job_name.proofs.Placing.{asked-after}
 use Rattle.job_names.specs.Names.{numbersBelow, placingAll, givingAll, namingAll}
 use Rattle.job_names.specs.NamedAll.{NameLists, NamedAll}
-use Rattle.job_names.specs.Steps.{standing}
+use Rattle.job_names.specs.Standing.{standing}
 use Rattle.job_names.specs.declared.NamesAnswer.the-variants as answer
 use Rattle.job_names.proofs.Listing.{numbers-length}
 

@@ -15,18 +15,18 @@ use Rattle.sheet.specs.Sheet.{beside, sheetsOf, pastAt}
 use Rattle.sheet.specs.Walk.{walkEnd}
 use Rattle.sheet.proofs.Names.{walkEnd-more}
 use Rattle.job_name.specs.Naming.{Stand, fieldIn, standOf}
-use Rattle.job_name.specs.Steps.{fittedNumber}
+use Rattle.job_name.specs.Within.{fittedNumber}
 use Rattle.job_name.proofs.Walking.{walk-rises}
 use Rattle.job_names.specs.Names.{numbersBelow}
 use Rattle.job_names.specs.NamedAll.{sheetIn, firstIn, pastIn, NameLists}
-use Rattle.job_names.specs.Steps.{fieldsIn, standing, Room}
+use Rattle.job_names.specs.Standing.{fieldsIn, standing, Room}
 
 pub numbers-length : (n : ℕ) → length (numbersBelow n) ≡ n
 unfolding numbersBelow
 numbers-length zero = refl
 numbers-length (suc n) = omega (arith, length-append (numbersBelow n) (n ∷ []), numbers-length n)
 
-pub fields-length : (which : ℕ) (s : List ℕ) (n : ℕ) → length (fieldsIn which s n) ≡ n
+fields-length : (which : ℕ) (s : List ℕ) (n : ℕ) → length (fieldsIn which s n) ≡ n
 unfolding fieldsIn
 fields-length which s n = length-map (numbersBelow n) (fieldIn which s) ∙ numbers-length n
 

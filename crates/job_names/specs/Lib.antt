@@ -1,3 +1,3 @@
 pub mod Names
 pub mod NamedAll
-pub mod Steps
+pub mod Standing

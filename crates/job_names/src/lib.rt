@@ -6,10 +6,10 @@ ghost use lib.ListN.{length};
 ghost use Rattle.outcome.specs.Outcome.{given};
 ghost use Rattle.sheet.specs.Sheet.{sheetsOf};
 ghost use Rattle.sheet.specs.Walk.{walkEnd};
-ghost use Rattle.job_name.specs.Steps.{Held, ReadAs};
+ghost use Rattle.job_name.specs.Within.{Held, ReadAs};
 ghost use Rattle.job_names.specs.Names.{namingAll};
 ghost use Rattle.job_names.specs.NamedAll.{NameLists, NamedAll as Promise};
-ghost use Rattle.job_names.specs.Steps.{fieldsIn, standing, Room};
+ghost use Rattle.job_names.specs.Standing.{fieldsIn, standing, Room};
 
 // What asking for all names answers; `Unfit` is a refusal of the fittings sheet.
 pub enum NamesAnswer {

@@ -23,7 +23,7 @@ use Rattle.labels.proofs.Rules.{label-local}
 pub below-steady : (state : State) (n : ℕ) (r : Rec) → ChildrenBelow n r → Steady (label state) n r
 below-steady state n r b xs ys h = label-local state r xs ys (λ c e. h c (over-below r n c b e))
 
-pub each-steady : (state : State) (rs : List Rec) (n : ℕ) → Each ChildrenBelow n rs → Each (Steady (label state)) n rs
+each-steady : (state : State) (rs : List Rec) (n : ℕ) → Each ChildrenBelow n rs → Each (Steady (label state)) n rs
 each-steady state [] n b = tt
 each-steady state (r ∷ rs) n b = (below-steady state n r (b .0), each-steady state rs (suc n) (b .1))
 

@@ -13,11 +13,11 @@ use lib.Seq.{getD-set-same, getD-set-other, getD-take, take-suc-set}
 use borrow.Author.Tests.{eqb-true, eqb-false, eq-eqb, ne-eqb}
 use Rattle.formula.specs.States.{outside}
 use Rattle.contraction.specs.Records.{Rec, absent, children, listed, over}
-use Rattle.contraction.specs.Steps.{entries, recAt, recs}
+use Rattle.contraction.specs.Entries.{entries, recAt, recs}
 use Rattle.contraction.proofs.Worked.{worked-snoc}
-use Rattle.contraction.proofs.Steps.{recs-more, recs-next}
+use Rattle.contraction.proofs.EntryLaws.{recs-more, recs-next}
 use Rattle.labels.specs.Labels.{label, labels, isOf}
-use Rattle.labels.specs.Steps.{seek, Shaped, adopted, Parents, Chains}
+use Rattle.labels.specs.Linked.{seek, Shaped, adopted, Parents, Chains}
 use Rattle.labels.proofs.Rules.{label-local}
 
 -- `seek` at one record more

@@ -18,10 +18,10 @@ use Rattle.contraction.proofs.Over.{over-below, over-refs}
 use Rattle.contraction.proofs.Leaves.{IsLeaf, NoLeaf, leafRecs-leaf, made-none}
 use Rattle.contraction.proofs.Size.{dwarf-few}
 use Rattle.labels.specs.Arrays.{Holds}
-use Rattle.contraction.specs.Steps.{entries, kindAt, recAt, recs}
+use Rattle.contraction.specs.Entries.{entries, kindAt, recAt, recs}
 use Rattle.contraction.specs.Terms.{Each, ChildrenBelow, uses}
-use Rattle.contraction.proofs.Steps.{record-entry}
-use Rattle.labels.specs.Steps.{Shaped}
+use Rattle.contraction.proofs.EntryLaws.{record-entry}
+use Rattle.labels.specs.Linked.{Shaped}
 
 -- record i of a list, where there is one
 abbrev blank : Rec
@@ -130,20 +130,3 @@ module _ (ks fs ss : List ℕ) (leaves nodes : ℕ) (f : Formula) (h : Holds ks 
             used-once (dwarf f) c i k (at-most-one c f) (omega (arith, h .nodes-are)) (omega (arith, h .nodes-are))
             (sym (ap (over c) (rec-at ks fs ss leaves nodes f h i l)) ∙ o) (sym (ap (over c) (rec-at ks fs ss leaves nodes f h k m)) ∙ p);
       }
-
--- every formula within the limits is held by its own records
-pub dwarf-held : (f : Formula) → leavesOf f ≤ 1024 → Over 256 f
-    → Holds (kindsOf (dwarf f)) (firstsOf (dwarf f)) (secondsOf (dwarf f)) (leavesOf f) (length (dwarf f)) f
-dwarf-held f few named =
-    record {
-      leaves-are = refl;
-      nodes-are = refl;
-      few = few;
-      named = named;
-      kinds-are = whole (λ (r : Rec). number (r .kind));
-      firsts-are = whole (λ (r : Rec). r .first);
-      seconds-are = whole (λ (r : Rec). r .second);
-    }
-  where
-    whole : (part : Rec → ℕ) → take (length (dwarf f)) (map part (dwarf f)) ≡ map part (dwarf f)
-    whole part = take-all (length (dwarf f)) (map part (dwarf f)) (omega (arith, length-map (dwarf f) part))

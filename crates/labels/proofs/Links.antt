@@ -9,10 +9,10 @@ use lib.Dec.{eqb}
 use borrow.Author.Tests.{eqb-true, eqb-false, eq-eqb, ne-eqb}
 use lib.ListN.{getD}
 use Rattle.contraction.specs.Records.{Rec, over}
-use Rattle.contraction.specs.Steps.{entries, recAt, recs}
-use Rattle.contraction.proofs.Steps.{recs-more}
+use Rattle.contraction.specs.Entries.{entries, recAt, recs}
+use Rattle.contraction.proofs.EntryLaws.{recs-more}
 use Rattle.labels.specs.Labels.{isOf}
-use Rattle.labels.specs.Steps.{seek, Linked, Ready}
+use Rattle.labels.specs.Linked.{seek, Linked, Ready}
 use Rattle.labels.proofs.Fills.{seek-here, seek-past, seek-none}
 
 -- by a test's two answers

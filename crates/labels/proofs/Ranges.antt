@@ -12,10 +12,10 @@ use Rattle.formula.specs.Formula.{Op, exclusive, meaning, opAt}
 use Rattle.formula.specs.States.{outside}
 use Rattle.formula.proofs.Laws.{opAt-exclusive}
 use Rattle.contraction.specs.Records.{Side, left, right, children}
-use Rattle.contraction.specs.Steps.{entry, kindAt, recOf, recAt}
-use Rattle.contraction.proofs.Steps.{kindAt-leaf, kindAt-E, kindAt-left, kindAt-right, kindAt-S, kindAt-C, below-none, below-E, below-R, below-rest}
+use Rattle.contraction.specs.Entries.{entry, kindAt, recOf, recAt}
+use Rattle.contraction.proofs.EntryLaws.{kindAt-leaf, kindAt-E, kindAt-left, kindAt-right, kindAt-S, kindAt-C, below-none, below-E, below-R, below-rest}
 use Rattle.labels.specs.Labels.{bit, on, pair, pick, applied, raked, rule, label}
-use Rattle.labels.specs.Steps.{adopted}
+use Rattle.labels.specs.Linked.{adopted}
 
 pub on-test : (x : ℕ) → not (eqb x 0) ≡ on x
 on-test zero = refl

@@ -16,7 +16,7 @@ on-bit true = refl
 on-bit false = refl
 
 -- a pair made of what f gives at 1 and at 0 is f
-pub pick-pair : (f : Bool → Bool) (v : Bool) → pick (pair (f true) (f false)) v ≡ f v
+pick-pair : (f : Bool → Bool) (v : Bool) → pick (pair (f true) (f false)) v ≡ f v
 pick-pair f v = go (f true) (f false) v refl refl
   where
     go : (a b v : Bool) → f true ≡ a → f false ≡ b → pick (pair a b) v ≡ f v

@@ -8,9 +8,9 @@ use lib.Dec.{eqb}
 use lib.ListN.{length, getD, set, replicate, length-set, length-replicate}
 use lib.Seq.{getD-set-same, getD-set-other}
 use borrow.Author.Tests.{eqb-true, eqb-false}
-use Rattle.contraction.specs.Steps.{kindAt}
+use Rattle.contraction.specs.Entries.{kindAt}
 use Rattle.labels.specs.Labels.{rule}
-use Rattle.labels.specs.Steps.{Rules}
+use Rattle.labels.specs.Linked.{Rules}
 
 -- the first i entries are worked out
 pub record RulesTo (i : ℕ) (rs : List ℕ) : Type 0 where

@@ -1,4 +1,4 @@
 pub mod Labels
 pub mod Columns
 pub mod Arrays
-pub mod Steps
+pub mod Linked

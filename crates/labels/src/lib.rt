@@ -8,8 +8,8 @@ ghost use Rattle.formula.specs.Formula.{meaning as meaningOf, opAt};
 ghost use Rattle.formula.specs.States.{outside};
 ghost use Rattle.contraction.specs.Records.{left, right, children};
 ghost use Rattle.labels.specs.Labels.{bit as bitOf, on as isOn, pair as pairOf, pick as pickOf, raked, rule, label as labelOf, labels as afresh};
-ghost use Rattle.contraction.specs.Steps.{entry, kindAt, recOf, recAt, recs};
-ghost use Rattle.labels.specs.Steps.{Rules, Shaped, adopted, Parents, Chains};
+ghost use Rattle.contraction.specs.Entries.{entry, kindAt, recOf, recAt, recs};
+ghost use Rattle.labels.specs.Linked.{Rules, Shaped, adopted, Parents, Chains};
 
 fn bit(b: bool) -> u8
     ensures { λ r. ⌜ (r ≡ bitOf b) × (r ≤ 1) ⌝ }

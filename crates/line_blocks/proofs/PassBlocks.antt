@@ -11,12 +11,12 @@ use lib.IntN.{ℤ}
 use lib.ListN.{length, getD, length-drop}
 use Rattle.lines.specs.Lines.{LineLists, lineLists, rowCount}
 use Rattle.line_strips.specs.Strips.{wide, columns, cell, planned}
-use Rattle.line_strips.specs.Steps.{Fillable}
+use Rattle.line_strips.specs.Filling.{Fillable}
 use Rattle.line_bits.proofs.Digits.{shift-bit}
-use Rattle.line_words.specs.Steps.{Evaluable}
+use Rattle.line_words.specs.Evaluating.{Evaluable}
 use Rattle.line_words.specs.declared.Arranged.{Arranged}
 use Rattle.line_columns.specs.Planned.{leftAt, BlockPlanned}
-use Rattle.line_columns.specs.Steps.{Plannable, CanPlan}
+use Rattle.line_columns.specs.Planning.{Plannable, CanPlan}
 use Rattle.line_columns.specs.declared.Ended.{Ended}
 use Rattle.line_columns.proofs.CursorLaws.{judged-plannable}
 use Rattle.line_blocks.specs.Blocks.{CanSweep, EventsMade, Sized, leftOf, Going, BlockAsk, BlockEnds, BlockMade}

@@ -20,7 +20,7 @@ use Rattle.line_checking.specs.declared.Verdict.the-variants as verdicts
 use Rattle.line_strips.specs.Strips.{wide}
 use Rattle.line_words.specs.Stretches.{Workable, StandFor}
 use Rattle.line_words.specs.declared.Arranged.{Arranged}
-use Rattle.line_columns.specs.Steps.{Plannable, WholeRows, NextInside}
+use Rattle.line_columns.specs.Planning.{Plannable, WholeRows, NextInside}
 use Rattle.line_columns.specs.declared.Cursor.{Cursor}
 use Rattle.line_columns.proofs.CursorLaws.{judged-plannable, cursor-first, first-left, cursor-some, cursor-over, air-first}
 use Rattle.line_blocks.specs.Blocks.{Taken, Standing, leftOf, PassingAt, Going, BlockAsk, SaidOf, Begun, CanPass, FewCodes, GoodLists}

@@ -4,8 +4,8 @@ use native.Mathlib.Omega.{arith}
 use mathlib.Core.Path.{sym, _∙_}
 use mathlib.Core.Bool.{Bool}
 use mathlib.Core.List.{List}
-use Rattle.line_strips.specs.Steps.{Fillable, Fills}
-use Rattle.line_words.specs.Steps.{Evaluable, Evaluated}
+use Rattle.line_strips.specs.Filling.{Fillable, Fills}
+use Rattle.line_words.specs.Evaluating.{Evaluable, Evaluated}
 use Rattle.line_words.specs.declared.Arranged.{Arranged}
 use Rattle.line_blocks.specs.Blocks.{RowMade}
 

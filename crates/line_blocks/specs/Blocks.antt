@@ -14,18 +14,18 @@ use Rattle.lines.specs.Columns.{Column}
 use Rattle.lines.specs.Marked.{Passed}
 use Rattle.line_checking.specs.Verdicts.{InAir}
 use Rattle.line_strips.specs.Strips.{wide, columns, cell, planned, turnsAt, lastAt, Filled, SaidAlone}
-use Rattle.line_strips.specs.Steps.{Entered}
+use Rattle.line_strips.specs.Filling.{Entered}
 use Rattle.line_words.specs.Stretches.{StandFor}
-use Rattle.line_words.specs.Steps.{Evaluable, Root}
+use Rattle.line_words.specs.Evaluating.{Evaluable, Root}
 use Rattle.line_words.specs.declared.Arranged.{Arranged}
 use Rattle.line_columns.specs.Planned.{leftAt, PlanSized}
-use Rattle.line_columns.specs.Steps.{AtCursor, NextInside, PlanMade}
+use Rattle.line_columns.specs.Planning.{AtCursor, NextInside, PlanMade}
 use Rattle.line_columns.specs.declared.Ended.{Ended}
 use Rattle.line_events.specs.Events.{endsIn}
-use Rattle.line_events.specs.Steps.{Listed}
-use Rattle.line_sweeping.specs.Steps.{ColumnThere}
+use Rattle.line_events.specs.Noted.{Listed}
+use Rattle.line_sweeping.specs.Sweeping.{ColumnThere}
 use Rattle.line_turns.specs.Turns.{Held, held, eventEdge, eventLine, wallsBy, openBy, isOpen}
-use Rattle.line_turns.specs.Steps.{EventHeld}
+use Rattle.line_turns.specs.Spots.{EventHeld}
 use Rattle.line_blocks.specs.declared.Pass.{Pass}
 use Rattle.line_blocks.specs.declared.Block.{Block}
 

@@ -6,9 +6,9 @@ ghost use Prim.Native.Nat.{_-_, _*_};
 ghost use lib.ListN.{length};
 ghost use Rattle.lines.specs.Lines.{lineLists, rowCount};
 ghost use Rattle.line_strips.specs.Strips.{wide, columns, cell};
-ghost use Rattle.line_strips.specs.Steps.{Fillable};
-ghost use Rattle.line_words.specs.Steps.{Evaluable};
-ghost use Rattle.line_columns.specs.Steps.{WholeRows, NextInside};
+ghost use Rattle.line_strips.specs.Filling.{Fillable};
+ghost use Rattle.line_words.specs.Evaluating.{Evaluable};
+ghost use Rattle.line_columns.specs.Planning.{WholeRows, NextInside};
 ghost use Rattle.line_blocks.specs.Blocks.{RowMade, CanSweep, EventsMade, Sized, BlockAsk, BlockEnds, BlockMade, SaidOf, Begun};
 
 const W: usize = line_strips::W;

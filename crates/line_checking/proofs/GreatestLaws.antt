@@ -9,7 +9,7 @@ use mathlib.Core.Logic.{_⊎_, inl, inr}
 use borrow.Author.Tests.{ltb-true, ltb-false}
 use lib.Dec.{ltb}
 use lib.ListN.{length, getD}
-use Rattle.line_checking.specs.Steps.{Greatest}
+use Rattle.line_checking.specs.Items.{Greatest}
 
 of-two : (a b : ℕ) → (max a b ≡ a) ⊎ (max a b ≡ b)
 of-two a b = by (ltb a b) refl

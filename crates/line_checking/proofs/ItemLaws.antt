@@ -13,8 +13,8 @@ use lib.IntN.{ℤ, pos}
 use lib.ListN.{getD, length}
 use lib.Signed.{ltZ, leZ}
 use Rattle.lines.specs.Lines.{Crossing, low, high, falls, strays}
-use Rattle.lines.specs.Steps.{item}
-use Rattle.line_checking.specs.Steps.{prior, fallsAt, atMark, wrongAt, StrayAt, NoneStray}
+use Rattle.lines.specs.AtIndex.{item}
+use Rattle.line_checking.specs.Items.{prior, fallsAt, atMark, wrongAt, StrayAt, NoneStray}
 
 pub mark-low : (p : ℤ) (r : Bool) → r ≡ leZ p low → r ≡ true → true ≡ atMark p
 mark-low p r e t = rw (sym e ∙ t)

@@ -11,11 +11,11 @@ use lib.IntN.{ℤ}
 use lib.ListN.{getD, length}
 use Rattle.outcome.specs.Outcome.{Outcome, given, refused, _>>_, need}
 use Rattle.lines.specs.Lines.{strays, ordered}
-use Rattle.lines.specs.Steps.{item}
+use Rattle.lines.specs.AtIndex.{item}
 use Rattle.lines.proofs.Items.{drop-item, drop-all}
 use Rattle.line_checking.specs.declared.Verdict.the-variants.{Fine, Refused}
 use Rattle.line_checking.specs.Verdicts.{ItemsJudged}
-use Rattle.line_checking.specs.Steps.{fallsAt, wrongAt, orderedFrom, Alike, NoneStray, AllFine, Greatest}
+use Rattle.line_checking.specs.Items.{fallsAt, wrongAt, orderedFrom, Alike, NoneStray, AllFine, Greatest}
 use Rattle.line_checking.proofs.ItemLaws.{strays-by, falls-any, falls-line}
 
 -- three questions in turn

@@ -1,2 +1,2 @@
 pub mod Verdicts
-pub mod Steps
+pub mod Items

@@ -7,7 +7,7 @@ ghost use lib.ListN.{getD, length};
 ghost use lib.Signed.{ltZ, leZ};
 ghost use Rattle.lines.specs.Lines.{lineLists, roomy};
 ghost use Rattle.line_checking.specs.Verdicts.{verdict, RowsJudged, ItemsJudged, Judged};
-ghost use Rattle.line_checking.specs.Steps.{fallsAt, atMark, wrongAt, Alike, Later, StrayAt, NoneStray, AllFine, Greatest};
+ghost use Rattle.line_checking.specs.Items.{fallsAt, atMark, wrongAt, Alike, Later, StrayAt, NoneStray, AllFine, Greatest};
 
 pub enum Verdict {
     // whether every line starts in air

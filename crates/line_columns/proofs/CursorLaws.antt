@@ -16,7 +16,7 @@ use Rattle.lines.proofs.Items.{judged-ascending}
 use Rattle.lines.proofs.ColumnLists.{columns-length}
 use Rattle.line_checking.specs.Verdicts.{InAir}
 use Rattle.line_columns.specs.Planned.{leftAt}
-use Rattle.line_columns.specs.Steps.{Plannable, AtCursor, NextInside}
+use Rattle.line_columns.specs.Planning.{Plannable, AtCursor, NextInside}
 use Rattle.line_columns.proofs.Lefts.{start, shape, count, starts, more, some-starts, skipped, none-left}
 
 pub judged-plannable : (names : ℕ) (c : LineLists) → 0 < names → names ≤ 256 → judged names c ≡ given tt → Plannable names c

@@ -13,13 +13,13 @@ use lib.Signed.{ltZ, leZ}
 use Rattle.formula.specs.States.{State}
 use Rattle.lines.specs.Lines.{LineLists, Crossing, entries, rowCount, startState, low, high, shapeAt}
 use Rattle.lines.specs.Columns.{startColumn, crossingColumn, anyInside, startsFrom, columnsOf, lastColumn, endsColumns}
-use Rattle.lines.specs.Steps.{item, groupEndsAt}
+use Rattle.lines.specs.AtIndex.{item, groupEndsAt}
 use Rattle.lines.proofs.Keys.{no→lt}
 use Rattle.lines.proofs.Items.{drop-item, drop-all}
 use Rattle.lines.proofs.ColumnLists.{Beyond, starts-in, starts-out, starts-beyond}
 use Rattle.line_columns.specs.Planned.{leftAt}
 use Rattle.line_runs.specs.Runs.{overAt}
-use Rattle.line_columns.specs.Steps.{Plannable, AtCursor, NextInside}
+use Rattle.line_columns.specs.Planning.{Plannable, AtCursor, NextInside}
 use Rattle.line_columns.proofs.Heads.{LineOver, GroupOver, NotBefore, head-crossing, head-start, head-none, last-ahead, ends-ahead}
 
 module _ (names : ℕ) (c : LineLists) (ok : Plannable names c) where

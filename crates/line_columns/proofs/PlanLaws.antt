@@ -12,11 +12,11 @@ use lib.Seq.{drop-drop}
 use Rattle.lines.specs.Lines.{LineLists, lineLists, entries, rowCount, startState, shapeAt}
 use Rattle.lines.specs.Columns.{Column, startColumn, crossingColumn}
 use Rattle.lines.specs.Marked.{mark, markAt}
-use Rattle.lines.specs.Steps.{item, groupEndsAt}
+use Rattle.lines.specs.AtIndex.{item, groupEndsAt}
 use Rattle.line_strips.specs.Strips.{Plan, lastAt, columns, cell}
 use Rattle.line_columns.specs.Planned.{leftAt, startHeld, crossingHeld, heldAt, HeldWithin, PlanSized, BlockPlanned}
 use Rattle.line_runs.specs.Runs.{overAt}
-use Rattle.line_columns.specs.Steps.{Plannable, AtCursor, NextInside, WholeRows, StartsNext, Planning, PlanningOf, CanPlan, WordNext, WordPlanned, PlanMade}
+use Rattle.line_columns.specs.Planning.{Plannable, AtCursor, NextInside, WholeRows, StartsNext, Planning, PlanningOf, CanPlan, WordNext, WordPlanned, PlanMade}
 use Rattle.line_columns.proofs.Lefts.{crossing-first, crossing-last, crossing-ends, start-first, start-last, start-ends, none-left}
 
 -- a plan's first n columns stay

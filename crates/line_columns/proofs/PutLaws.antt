@@ -10,7 +10,7 @@ use lib.ListN.{getD, length, set, length-set}
 use lib.Seq.{getD-set-same, getD-set-other}
 use Rattle.line_strips.specs.Strips.{columns}
 use Rattle.line_runs.specs.Runs.{overAt}
-use Rattle.line_columns.specs.Steps.{NextInside, StartsNext, LastPut, ColumnPut, StartReady, StartPut, CrossingReady, CrossingPut}
+use Rattle.line_columns.specs.Planning.{NextInside, StartsNext, LastPut, ColumnPut, StartReady, StartPut, CrossingReady, CrossingPut}
 
 module _ (ls : List ℕ) (count i q : ℕ) where
   pub starts-rows : count ≤ q → StartsNext ls count i q false

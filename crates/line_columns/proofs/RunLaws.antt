@@ -13,11 +13,11 @@ use lib.Signed.{leZ}
 use Rattle.lines.specs.Lines.{LineLists, lineLists, entries, rowCount, startState, shapeAt}
 use Rattle.lines.specs.Columns.{crossingColumn}
 use Rattle.lines.specs.Marked.{mark, markAt}
-use Rattle.lines.specs.Steps.{item}
+use Rattle.lines.specs.AtIndex.{item}
 use Rattle.line_strips.specs.Strips.{Plan, planned, columns, lastAt, Alone, SaidAlone}
 use Rattle.line_columns.specs.Planned.{leftAt, heldAt, PlanSized, BlockPlanned}
 use Rattle.line_runs.specs.Runs.{RunMarked, Numbered, CutTo}
-use Rattle.line_columns.specs.Steps.{Plannable, AtCursor, CanPlan, PlanMade, RunsOn}
+use Rattle.line_columns.specs.Planning.{Plannable, AtCursor, CanPlan, PlanMade, RunsOn}
 use Rattle.line_columns.proofs.Lefts.{crossing-first, crossing-last, crossing-ends}
 use Rattle.line_runs.proofs.EndLaws.{over-end}
 use Rattle.line_columns.proofs.PlanLaws.{held-crossing, rest-of, one-more}

@@ -12,7 +12,7 @@ use Rattle.line_strips.specs.Strips.{planned, wide, columns}
 use Rattle.line_bits.proofs.Digits.{bit-none}
 use Rattle.line_columns.specs.Planned.{PlanSized}
 use Rattle.line_runs.specs.Runs.{overAt, turnsAway}
-use Rattle.line_columns.specs.Steps.{StartsNext, ColumnPut, StartReady, StartPut, CrossingPut, UntilReady, UntilPut, CrossingsReady, CrossingsPut, WordNext, WordPlanning, WordPlanned}
+use Rattle.line_columns.specs.Planning.{StartsNext, ColumnPut, StartReady, StartPut, CrossingPut, UntilReady, UntilPut, CrossingsReady, CrossingsPut, WordNext, WordPlanning, WordPlanned}
 use Rattle.line_runs.proofs.EndLaws.{turned-away}
 use Rattle.line_columns.proofs.LastLaws.{cell-without, cell-same, cell-here}
 use Rattle.line_columns.proofs.PlanLaws.{Kept, Put, each-kept, each-start, each-crossing}

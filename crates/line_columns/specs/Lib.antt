@@ -1,2 +1,2 @@
 pub mod Planned
-pub mod Steps
+pub mod Planning

@@ -8,7 +8,7 @@ use lib.ListN.{getD, length, drop}
 use Rattle.lines.specs.Lines.{LineLists, entries, rowCount, startState, shapeAt}
 use Rattle.lines.specs.Columns.{Column, startColumn, crossingColumn, startsFrom, columnsOf}
 use Rattle.lines.specs.Marked.{Marked, markAt}
-use Rattle.lines.specs.Steps.{item, groupEndsAt}
+use Rattle.lines.specs.AtIndex.{item, groupEndsAt}
 use Rattle.line_strips.specs.Strips.{Plan, lastAt, wide, columns}
 
 -- the columns left at a cursor: of the crossings from i on, and of the lines from q on with a shape inside at their start

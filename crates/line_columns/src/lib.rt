@@ -6,7 +6,7 @@ ghost use lib.ListN.{length};
 ghost use Rattle.lines.specs.Lines.{startState};
 ghost use Rattle.lines.specs.Columns.{anyInside};
 ghost use Rattle.line_strips.specs.Strips.{columns, planned, SaidAlone};
-ghost use Rattle.line_columns.specs.Steps.{NextInside, WholeRows, RowThere, Occupied, StartsNext, LastPut, StartReady, StartPut, CrossingReady, CrossingPut, UntilReady, UntilPut, CrossingsReady, CrossingsPut, CanPlan, WordNext, WordPlanned, PlanMade, RunsOn};
+ghost use Rattle.line_columns.specs.Planning.{NextInside, WholeRows, RowThere, Occupied, StartsNext, LastPut, StartReady, StartPut, CrossingReady, CrossingPut, UntilReady, UntilPut, CrossingsReady, CrossingsPut, CanPlan, WordNext, WordPlanned, PlanMade, RunsOn};
 
 const W: usize = line_strips::W;
 

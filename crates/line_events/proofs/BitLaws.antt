@@ -7,7 +7,7 @@ use mathlib.Core.Bool.{Bool, true, false, not, _&&_}
 use lib.Bits.{bitAnd, bitOr, bitXor}
 use Rattle.formula.specs.Formula.{exclusive, meaning}
 use Rattle.line_bits.specs.Words.{digit, bit}
-use Rattle.line_events.specs.Steps.{oneIf, GoesOn, Before, FirstOn, BitOf}
+use Rattle.line_events.specs.Noted.{oneIf, GoesOn, Before, FirstOn, BitOf}
 use Rattle.line_bits.proofs.Digits.{bit-and, bit-or, bit-xor, bit-ones, bit-none, bit-first, bit-moved, bit-shift, bit-past, shift-bit, or-none}
 
 pub goes-on : (w y : ℕ) → GoesOn w y (bitAnd w (bitXor w y))

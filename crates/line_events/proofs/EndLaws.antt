@@ -10,8 +10,8 @@ use lib.Dec.{eqb}
 use lib.IntN.{ℤ, pos}
 use lib.ListN.{length, getD}
 use lib.Signed.{ltZ}
-use Rattle.lines.specs.Steps.{groupEndsAt}
-use Rattle.line_events.specs.Steps.{oneIf, risesAt, AllHold}
+use Rattle.lines.specs.AtIndex.{groupEndsAt}
+use Rattle.line_events.specs.Noted.{oneIf, risesAt, AllHold}
 use Rattle.line_strips.proofs.Stores.{same?}
 
 both-one : (p q : Bool) → bitAnd (oneIf p) (oneIf (not q)) ≡ oneIf (not (not p || q))

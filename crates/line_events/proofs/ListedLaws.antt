@@ -9,7 +9,7 @@ use lib.ListN.{length, getD, take, length-append}
 use lib.Seq.{getD-take, length-take-le}
 use Rattle.line_strips.specs.Strips.{columns}
 use Rattle.line_events.specs.Events.{changesAt, opensAt, eventsAt, metalNext, metalAfter, eventsAfter}
-use Rattle.line_events.specs.Steps.{Listed}
+use Rattle.line_events.specs.Noted.{Listed}
 
 -- of the first n columns: a change at one where all has acted, or what goes on past one
 pub record EventOf (ends : ℕ → Bool) (n e : ℕ) : Type 0 where

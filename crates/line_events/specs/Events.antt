@@ -5,7 +5,7 @@ use mathlib.Core.List.{List, [], _∷_, _++_}
 use lib.Dec.{eqb}
 use lib.IntN.{ℤ}
 use lib.ListN.{getD}
-use Rattle.lines.specs.Steps.{groupEndsAt}
+use Rattle.lines.specs.AtIndex.{groupEndsAt}
 use Rattle.line_strips.specs.Strips.{columns}
 
 -- All that stands at the position of column j has acted, where the block's first crossing is a: a line's start stands alone.

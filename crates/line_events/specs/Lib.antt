@@ -1,2 +1,2 @@
 pub mod Events
-pub mod Steps
+pub mod Noted

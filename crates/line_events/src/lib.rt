@@ -5,10 +5,10 @@ ghost use mathlib.Core.List.{_++_};
 ghost use Prim.Native.Nat.{_+_, _*_, _≤_, _<_};
 ghost use lib.Dec.{eqb};
 ghost use lib.ListN.{length};
-ghost use Rattle.lines.specs.Steps.{groupEndsAt};
+ghost use Rattle.lines.specs.AtIndex.{groupEndsAt};
 ghost use Rattle.line_bits.specs.Words.{bit};
 ghost use Rattle.line_strips.specs.Strips.{wide, columns};
-ghost use Rattle.line_events.specs.Steps.{NoteRoom, oneIf, risesAt, AllHold, GoesOn, Before, FirstOn, BitOf, someIf, markedEvents, RoomFrom, SweptAlone, Noted, WordPart};
+ghost use Rattle.line_events.specs.Noted.{NoteRoom, oneIf, risesAt, AllHold, GoesOn, Before, FirstOn, BitOf, someIf, markedEvents, RoomFrom, SweptAlone, Noted, WordPart};
 
 const COLUMNS: usize = line_strips::COLUMNS;
 

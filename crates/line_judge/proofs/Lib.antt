@@ -1,4 +1,1 @@
-mod CompareLaws
-mod WeighLaws
-mod StepLaws
 mod JudgeLaws

@@ -16,13 +16,13 @@ use Rattle.line_judging.specs.Eating.{SameLength, entryAt, EntryThere, A
 use Rattle.line_judging.specs.declared.Eaten.the-variants.{Whole, Wrong}
 use Rattle.line_judging.proofs.Opinions.{opinion-none, opinion-lack, opinion-more, opinion-on, opinion-off}
 
-length-theirs : (ls : List ℕ) (ps qs : List ℤ) → length ps ≡ length ls → length qs ≡ length ls → length (entries ls ps qs) ≡ length ls
+pub length-theirs : (ls : List ℕ) (ps qs : List ℤ) → length ps ≡ length ls → length qs ≡ length ls → length (entries ls ps qs) ≡ length ls
 length-theirs [] ps qs e f = refl
 length-theirs (l ∷ ls) [] qs e f = e
 length-theirs (l ∷ ls) (p ∷ ps) [] e f = f
 length-theirs (l ∷ ls) (p ∷ ps) (q ∷ qs) e f = ap suc (length-theirs ls ps qs (omega arith) (omega arith))
 
-left : (ls : List ℕ) (ps qs : List ℤ) (j : ℕ) → length ps ≡ length ls → length qs ≡ length ls → j < length ls → drop j (entries ls ps qs) ≡ entryAt (theirLists ls ps qs) j ∷ drop (suc j) (entries ls ps qs)
+pub left : (ls : List ℕ) (ps qs : List ℤ) (j : ℕ) → length ps ≡ length ls → length qs ≡ length ls → j < length ls → drop j (entries ls ps qs) ≡ entryAt (theirLists ls ps qs) j ∷ drop (suc j) (entries ls ps qs)
 left [] ps qs j e f h = absurd (not-suc-le-zero h)
 left (l ∷ ls) [] qs j e f h = let z : ⊥ = omega arith in absurd z
 left (l ∷ ls) (p ∷ ps) [] j e f h = let z : ⊥ = omega arith in absurd z
@@ -63,7 +63,7 @@ module _ (t : TheirLists) (i : ℕ) (v : Entry) where
   going-none = record { rest = λ vs. refl }
 
   module _ (sl : SameLength t) (j : ℕ) (u : Entry) (g : Going t i v j u) where
-    pub eat-end : length (t .lines) ≤ j → Ate t i v (Wrong j)
+    pub eat-end : length (t .lines) ≤ j → Ate t i (v ∷ []) (Wrong j)
     eat-end h = record { to = λ vs. g .rest vs ∙ ap (opinionFrom j (u ∷ vs)) (drop-of-length-le (theirs t) {i = j} (omega (arith, length-theirs (t .lines) (t .starts) (t .ends) (sl .starts) (sl .ends)))) ∙ opinion-lack j u vs }
 
     module _ (h : j < length (t .lines)) (f : Bool) (fit : f ≡ fits u (entryAt t j)) where
@@ -73,14 +73,14 @@ module _ (t : TheirLists) (i : ℕ) (v : Entry) where
       pub entry-there : EntryThere t j
       entry-there = record { line = h; start = omega (arith, sl .starts); end = omega (arith, sl .ends) }
 
-      pub eat-wrong : f ≡ false → Ate t i v (Wrong j)
+      pub eat-wrong : f ≡ false → Ate t i (v ∷ []) (Wrong j)
       eat-wrong q = record { to = λ vs. g .rest vs ∙ ap (opinionFrom j (u ∷ vs)) here ∙ opinion-off j u (entryAt t j) vs (drop (suc j) (theirs t)) (sym fit ∙ q) }
 
       on : f ≡ true → (vs : List Entry) → opinionFrom i (v ∷ vs) (drop i (theirs t)) ≡ opinionFrom (j + 1) (beyond u (entryAt t j) vs) (drop (j + 1) (theirs t))
       on q vs = g .rest vs ∙ ap (opinionFrom j (u ∷ vs)) here ∙ opinion-on j u (entryAt t j) vs (drop (suc j) (theirs t)) (sym fit ∙ q) ∙ rw (add-one j)
 
       module _ (q : f ≡ true) (b e : ℤ) (is-b : b ≡ getD (t .ends) j (pos 0)) (is-e : e ≡ u .end) (x : Bool) (to-end : x ≡ leZ e b) where
-        pub eat-whole : x ≡ true → Ate t i v (Whole (j + 1))
+        pub eat-whole : x ≡ true → Ate t i (v ∷ []) (Whole (j + 1))
         eat-whole k = record { to = λ vs. on q vs ∙ rw (← is-b, ← is-e, sym to-end ∙ k) }
 
         pub eat-part : (l : ℕ) → l ≡ u .line → x ≡ false → Going t i v (j + 1) (record { line = l; start = b; end = e })

@@ -1,3 +1,4 @@
 pub mod Opinions
 pub mod EatLaws
 pub mod Numbered
+pub mod AllLaws

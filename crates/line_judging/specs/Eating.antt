@@ -1,7 +1,7 @@
 -- Their list gone through wall by wall: what is needed next, and how far their entries give it.
-use Prim.Native.Nat.{ℕ, _<_}
+use Prim.Native.Nat.{ℕ, _<_, _≤_}
 use mathlib.Core.Path.{_≡_}
-use mathlib.Core.List.{List, _∷_}
+use mathlib.Core.List.{List, _++_}
 use lib.IntN.{pos}
 use lib.ListN.{drop, getD, length}
 use Rattle.line_judging.specs.Judging.{Entry, TheirLists, theirs, wrongAt, opinionFrom}
@@ -26,10 +26,15 @@ pub record EntryThere (t : TheirLists) (j : ℕ) : Type 0 where
   pub start : j < length (t .starts)
   pub end : j < length (t .ends)
 
--- one wall of ours, v, compared from their entry j on: it is whole before entry k, or no right list has entry k; whatever walls vs follow
-abbrev pub AteTo : TheirLists → ℕ → Entry → Eaten → List Entry → Type 0
-AteTo t j v (Whole k) vs = opinionFrom j (v ∷ vs) (drop j (theirs t)) ≡ opinionFrom k vs (drop k (theirs t))
-AteTo t j v (Wrong k) vs = opinionFrom j (v ∷ vs) (drop j (theirs t)) ≡ wrongAt k
+-- some walls of ours compared from their entry j on: they are whole before entry k, or no right list has entry k; whatever walls vs follow
+abbrev pub AteTo : TheirLists → ℕ → List Entry → Eaten → List Entry → Type 0
+AteTo t j ours (Whole k) vs = opinionFrom j (ours ++ vs) (drop j (theirs t)) ≡ opinionFrom k vs (drop k (theirs t))
+AteTo t j ours (Wrong k) vs = opinionFrom j (ours ++ vs) (drop j (theirs t)) ≡ wrongAt k
 
-pub record Ate (t : TheirLists) (j : ℕ) (v : Entry) (r : Eaten) : Type 0 where
-  pub to : (vs : List Entry) → AteTo t j v r vs
+pub record Ate (t : TheirLists) (j : ℕ) (ours : List Entry) (r : Eaten) : Type 0 where
+  pub to : (vs : List Entry) → AteTo t j ours r vs
+
+-- n walls of ours, in lists of one length
+pub record Ours (ours : TheirLists) (n : ℕ) : Type 0 where
+  pub same : SameLength ours
+  pub there : n ≤ length (ours .lines)

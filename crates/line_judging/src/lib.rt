@@ -1,11 +1,12 @@
 // Their wall list against one wall of ours after another.
 ghost use mathlib.Core.Path.{_≡_};
+ghost use mathlib.Core.List.{[], _∷_};
 ghost use Prim.Native.Nat.{_<_};
 ghost use lib.IntN.{pos};
-ghost use lib.ListN.{getD, length};
+ghost use lib.ListN.{getD, length, take};
 ghost use lib.Signed.{leZ};
-ghost use Rattle.line_judging.specs.Judging.{theirLists, samePlace, fits};
-ghost use Rattle.line_judging.specs.Eating.{SameLength, entryAt, needed, EntryThere, Ate};
+ghost use Rattle.line_judging.specs.Judging.{theirLists, theirs, samePlace, fits};
+ghost use Rattle.line_judging.specs.Eating.{SameLength, entryAt, needed, EntryThere, Ours, Ate};
 
 // Where a wall begins or ends: a signed number of a slice is compared in no other way.
 pub struct Place {
@@ -72,7 +73,7 @@ fn fits_at(lines: &[u32], starts: &[i32], ends: &[i32], j: usize, v: Need) -> bo
 // One wall of ours against their entries from `first` on.
 pub fn eat(lines: &[u32], starts: &[i32], ends: &[i32], first: usize, wall: Need) -> Eaten
     requires { ⌜ SameLength (theirLists (now lines) (now starts) (now ends)) ⌝ }
-    ensures { λ r. ⌜ Ate (theirLists (now (lines .entry)) (now (starts .entry)) (now (ends .entry))) first (needed wall) r ⌝ }
+    ensures { λ r. ⌜ Ate (theirLists (now (lines .entry)) (now (starts .entry)) (now (ends .entry))) first (needed wall ∷ []) r ⌝ }
 {
     let mut j = first;
     let mut v = wall;
@@ -95,4 +96,44 @@ pub fn eat(lines: &[u32], starts: &[i32], ends: &[i32], first: usize, wall: Need
         return Eaten::Wrong(j);
     }
     Eaten::Wrong(j)
+}
+
+// The first n walls of ours, in three lists as theirs, against their entries from `first` on.
+pub fn eat_all(
+    lines: &[u32],
+    starts: &[i32],
+    ends: &[i32],
+    first: usize,
+    ours: &[u32],
+    from: &[i32],
+    to: &[i32],
+    n: usize,
+) -> Eaten
+    requires { ⌜ SameLength (theirLists (now lines) (now starts) (now ends)) × Ours (theirLists (now ours) (now from) (now to)) n ⌝ }
+    ensures { λ r. ⌜ Ate (theirLists (now (lines .entry)) (now (starts .entry)) (now (ends .entry))) first (take n (theirs (theirLists (now (ours .entry)) (now (from .entry)) (now (to .entry))))) r ⌝ }
+{
+    let mut j = first;
+    let mut k: usize = 0;
+    while k < n {
+        let a = spot(from, k);
+        let b = spot(to, k);
+        let l = ours[k];
+        let wall = Need {
+            line: l,
+            from: a,
+            to: b,
+        };
+        let eaten = eat(lines, starts, ends, j, wall);
+        match eaten {
+            Eaten::Whole(next) => {
+                j = next;
+                k += 1;
+                continue;
+            }
+            Eaten::Wrong(index) => {
+                return Eaten::Wrong(index);
+            }
+        }
+    }
+    Eaten::Whole(j)
 }

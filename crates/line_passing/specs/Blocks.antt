@@ -1,22 +1,13 @@
 -- What writing the walls keeps from the first block to the last.
 use Prim.Native.Nat.{ℕ}
 use mathlib.Core.Path.{_≡_}
-use mathlib.Core.Bool.{false}
 use mathlib.Core.List.{List}
 use lib.ListN.{take}
 use Rattle.formula.specs.Formula.{Formula, postfix, Over}
 use Rattle.lines.specs.Lines.{LineLists, AnswerLists, walls}
 use Rattle.line_words.specs.Stretches.{StandFor}
 use Rattle.line_words.specs.declared.Arranged.{Arranged}
-use Rattle.line_blocks.specs.Blocks.{Begun}
-use Rattle.line_writing.specs.Steps.{Written}
-use Rattle.line_writing.specs.declared.Progress.{Progress}
-
--- a pass that has done nothing
-pub record NothingDone (names : ℕ) (rows : List ℕ) (p : Progress) : Type 0 where
-  pub begun : Begun names rows (p .pass)
-  pub air : p .run .metal ≡ false
-  pub none : p .run .count ≡ 0
+use Rattle.line_writing.specs.Writing.{Written}
 
 -- the walls of whatever formula the stretches stand for
 pub record WallsWritten (stretches links : List ℕ) (arranged : Arranged) (names : ℕ) (c : LineLists) (lent : AnswerLists) (k : ℕ) (after : AnswerLists) : Type 0 where

@@ -1,31 +1,15 @@
 // The pass over all blocks with its walls written, for a formula in an array of codes.
 ghost use Rattle.lines.specs.Lines.{lineLists, answerLists};
-ghost use Rattle.line_columns.specs.Steps.{WholeRows};
-ghost use Rattle.line_blocks.specs.Blocks.{SaidOf, CanPass, FewCodes, GoodLists};
-ghost use Rattle.line_writing.specs.Steps.{Roomy};
+ghost use Rattle.line_blocks.specs.Blocks.{CanPass, FewCodes, GoodLists};
+ghost use Rattle.line_writing.specs.Writing.{Roomy};
 ghost use Rattle.line_writing.specs.Blocks.{roomFor};
-ghost use Rattle.line_passing.specs.Blocks.{NothingDone, WallsWritten, WallsGiven};
+ghost use Rattle.line_passing.specs.Blocks.{WallsWritten, WallsGiven};
 
 const W: usize = line_strips::W;
 
 const COLUMNS: usize = line_strips::COLUMNS;
 
 const EVENTS: usize = line_events::EVENTS;
-
-fn begin(rows: &[u8], names: usize, count: usize, air: bool) -> line_writing::Progress
-    requires { ⌜ WholeRows names (now rows) count × SaidOf air (now rows) ⌝ }
-    ensures { λ r. ⌜ NothingDone names (now (rows .entry)) r ⌝ }
-{
-    let pass = line_blocks::begin(rows, names, count, air);
-    line_writing::Progress {
-        pass,
-        run: line_writing::Course {
-            metal: false,
-            from: line_turns::Spot { at: 0, shape: 0 },
-            count: 0,
-        },
-    }
-}
 
 // The walls of accepted lists, block by block; how many.
 fn blocks(
@@ -53,7 +37,7 @@ fn blocks(
     let mut starts = [0u32; COLUMNS];
     let mut lasts = [0u64; W];
     let mut events = [0u16; EVENTS];
-    let mut p = begin(rows, names, count, air);
+    let mut p = line_writing::begin(rows, names, count, air);
     while line_blocks::is_left(p.pass, line.len(), count) {
         p = line_writing::step(
             stretches,

@@ -18,7 +18,7 @@ use Rattle.formula.specs.Flips.{after}
 use Rattle.formula.proofs.States.{after-changedBy, after-append}
 use Rattle.lines.specs.Lines.{LineLists, lineLists, Crossing, crossings, bits, ordered, judged, crossed, shortOf, asFarAs, stateBefore, stateAt, lowestFrom, shapeAt}
 use Rattle.lines.specs.Right.{LowestChanged}
-use Rattle.lines.specs.Steps.{item, groupEndsAt, Ascending}
+use Rattle.lines.specs.AtIndex.{item, groupEndsAt, Ascending}
 use Rattle.lines.proofs.Keys.{yes-leK, ltZ-not, lt→no, lt→le, leZ-self, lt-le, le-lt}
 use Rattle.lines.proofs.Items.{judged-ascending}
 use Rattle.lines.proofs.Lowest.{lowest-is}

@@ -11,7 +11,7 @@ use lib.Signed.{ltZ}
 use Rattle.formula.specs.States.{State, flipped}
 use Rattle.formula.specs.Flips.{after}
 use Rattle.lines.specs.Lines.{lineLists, crossings, shapeAt}
-use Rattle.lines.specs.Steps.{groupEndsAt, Ascending}
+use Rattle.lines.specs.AtIndex.{groupEndsAt, Ascending}
 
 -- a byte a shape: 0 is outside
 abbrev pub stateOf : List ℕ → State

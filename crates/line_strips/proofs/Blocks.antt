@@ -8,7 +8,7 @@ use lib.ListN.{length}
 use Rattle.formula.specs.States.{State}
 use Rattle.lines.specs.Lines.{LineLists}
 use Rattle.line_strips.specs.Strips.{wide, columns, cell, on, planned, turnsAt, leaving, Filled}
-use Rattle.line_strips.specs.Steps.{Fillable, turnsOf, InWord, Laid, Apart, Blank, Right, Lays, Opens, Begins, Starts, Advances, Fills}
+use Rattle.line_strips.specs.Filling.{Fillable, turnsOf, InWord, Laid, Apart, Blank, Right, Lays, Opens, Begins, Starts, Advances, Fills}
 use Rattle.line_strips.proofs.Stores.{same?}
 
 blank-apart : (names k : ℕ) (ws ws′ : List ℕ) (m : ℕ) → Apart names k ws ws′ → Blank names m ws → m ≤ 64 * (k + 1) → Blank names (64 * (k + 1)) ws′

@@ -12,7 +12,7 @@ use Rattle.lines.specs.Columns.{only}
 use Rattle.line_bits.specs.Words.{bit}
 use Rattle.line_strips.specs.Strips.{wide, cell, on, entering, leaving}
 use Rattle.line_bits.specs.Bits.{none, One, Moved, Inner, Span, Spans}
-use Rattle.line_strips.specs.Steps.{Legible, turnsOf, Flips, SpanTurned, SpanFlips, Laid, Lays, LaysSome, Layable, Named, LaysRun, Bytes}
+use Rattle.line_strips.specs.Filling.{Legible, turnsOf, Flips, SpanTurned, SpanFlips, Laid, Lays, LaysSome, Layable, Named, LaysRun, Bytes}
 use Rattle.line_bits.proofs.Spans.{none-from, one-small}
 use Rattle.line_strips.proofs.Stores.{same?, apart-none, apart-more}
 use Rattle.line_strips.proofs.Turns.{legible-less, legible-next, row-there, row-bytes, start-turns, crossing-there, crossing-named, crossing-turns}
@@ -35,7 +35,7 @@ cell-word lasts k b h =
     rw (e, d)
 
 -- none in a word is none among the columns
-pub none-word : (lasts : List ℕ) (k j d : ℕ) → j + d ≤ 64 → none (bit (getD lasts k 0)) j d ≡ none (cell lasts) (64 * k + j) d
+none-word : (lasts : List ℕ) (k j d : ℕ) → j + d ≤ 64 → none (bit (getD lasts k 0)) j d ≡ none (cell lasts) (64 * k + j) d
 none-word lasts k j d h = none-from (bit (getD lasts k 0)) (cell lasts) (64 * k) j d (λ x l m. sym (cell-word lasts k x (omega arith)))
 
 pub span-column : (lasts : List ℕ) (k j m b : ℕ) → Span (getD lasts k 0) j m → j ≤ b → b < 64 → bit m b ≡ none (cell lasts) (64 * k + j) (b - j)

@@ -11,7 +11,7 @@ use Rattle.formula.specs.States.{State}
 use Rattle.line_bits.specs.Words.{bit}
 use Rattle.line_strips.specs.Strips.{wide, columns, cell, on, entering}
 use Rattle.line_bits.specs.Bits.{none, Inner, Span, Spans, Since, Masked}
-use Rattle.line_strips.specs.Steps.{Apart, Flips, Blank, Right, Within, Replayed, Carried, Row, Opened, Opens, Begins}
+use Rattle.line_strips.specs.Filling.{Apart, Flips, Blank, Right, Within, Replayed, Carried, Row, Opened, Opens, Begins}
 use Rattle.line_bits.proofs.Digits.{shift-bit}
 use Rattle.line_bits.proofs.Spans.{one-first}
 use Rattle.line_strips.proofs.Stores.{same?, on-word, store-here, store-other, off-word, apart-none, apart-more}

@@ -14,7 +14,7 @@ use Rattle.lines.specs.Columns.{only}
 use Rattle.line_bits.specs.Words.{bit}
 use Rattle.line_bits.specs.Bits.{Lowest, Others, Binary, Woven}
 use Rattle.line_strips.specs.Strips.{wide, turnsAt}
-use Rattle.line_strips.specs.Steps.{Turnable, Legible, Fillable, turnsOf, insideTo, Bytes, Flips, GoesOn, InWord, Layable}
+use Rattle.line_strips.specs.Filling.{Turnable, Legible, Fillable, turnsOf, insideTo, Bytes, Flips, GoesOn, InWord, Layable}
 use Rattle.line_bits.proofs.Digits.{bit-times, bit-none}
 use Rattle.line_strips.proofs.Stores.{flips-none, flips-same, flips-more}
 
@@ -167,7 +167,7 @@ pub rowed-end : (row : List ℕ) (k m s : ℕ) (ws ws₁ ws₂ : List ℕ) → R
 rowed-end row k m s ws ws₁ ws₂ r g = g .is ws (r .flips)
 
 -- ---- a line's start
-pub row-bytes-long : (names b : ℕ) (rows : List ℕ) → b + names ≤ length rows → length (take names (drop b rows)) ≡ names
+row-bytes-long : (names b : ℕ) (rows : List ℕ) → b + names ≤ length rows → length (take names (drop b rows)) ≡ names
 row-bytes-long names b rows h = omega (arith, length-take names (drop b rows), length-drop b rows)
 
 start-inside : (names l : ℕ) (rows : List ℕ) (s : ℕ) → s < names → startState names rows l s ≡ insideTo (take names (drop (l * names) rows)) names s

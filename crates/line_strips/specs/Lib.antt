@@ -1,2 +1,2 @@
 pub mod Strips
-pub mod Steps
+pub mod Filling

@@ -9,12 +9,12 @@ use mir.Syntax.{w64}
 use mir.Val.{Fits}
 use lib.IntN.{ℤ}
 use lib.ListN.{length, getD}
-use Rattle.lines.specs.Steps.{groupEndsAt}
+use Rattle.lines.specs.AtIndex.{groupEndsAt}
 use Rattle.line_strips.specs.Strips.{cell, columns, SaidAlone}
 use Rattle.line_events.specs.Events.{endsIn}
-use Rattle.line_events.specs.Steps.{WordPart, AllHold, SweptAlone}
+use Rattle.line_events.specs.Noted.{WordPart, AllHold, SweptAlone}
 use Rattle.line_events.specs.declared.Found.{Found}
-use Rattle.line_sweeping.specs.Steps.{Sweepable, Swept}
+use Rattle.line_sweeping.specs.Sweeping.{Sweepable, Swept}
 use Rattle.line_sweeping.proofs.BitLaws.{cell-word}
 
 pub said-less : {ls cols : List ℕ} {a n : ℕ} {told : Bool} (e : ℕ) → SaidAlone ls cols a n told → e ≤ n → SaidAlone ls cols a e told

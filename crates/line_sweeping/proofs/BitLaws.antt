@@ -11,7 +11,7 @@ use lib.ListN.{getD}
 use Rattle.formula.specs.Formula.{exclusive, meaning}
 use Rattle.line_bits.specs.Words.{digit, bit}
 use Rattle.line_strips.specs.Strips.{cell}
-use Rattle.line_sweeping.specs.Steps.{Quiet, NextNoisy}
+use Rattle.line_sweeping.specs.Sweeping.{Quiet, NextNoisy}
 use Rattle.line_bits.proofs.Digits.{bit-and, bit-or, bit-xor, bit-ones}
 use Rattle.line_bits.proofs.Digits.{bit-shift}
 use Rattle.line_bits.proofs.LowestLaws.{trailing-digit}

@@ -8,9 +8,9 @@ use borrow.Author.Tests.{eq-eqb, ne-eqb}
 use lib.IntN.{ℤ, pos}
 use lib.ListN.{length, getD}
 use lib.Signed.{ltZ}
-use Rattle.lines.specs.Steps.{groupEndsAt}
+use Rattle.lines.specs.AtIndex.{groupEndsAt}
 use Rattle.line_events.specs.Events.{endsIn}
-use Rattle.line_sweeping.specs.Steps.{ColumnThere}
+use Rattle.line_sweeping.specs.Sweeping.{ColumnThere}
 
 module _ (ls : List ℕ) (ps : List ℤ) (i : ℕ) where
   pub ends-list : i + 1 ≡ length ls → true ≡ groupEndsAt ls ps i

@@ -5,12 +5,12 @@ ghost use mathlib.Core.Bool.{not, Bool·beq};
 ghost use Prim.Native.Nat.{ℕ, _+_, _*_, _/_, _^_, _≤_, _<_};
 ghost use lib.Count.{trailingZeros};
 ghost use lib.ListN.{length};
-ghost use Rattle.lines.specs.Steps.{groupEndsAt};
+ghost use Rattle.lines.specs.AtIndex.{groupEndsAt};
 ghost use Rattle.line_bits.specs.Words.{bit};
 ghost use Rattle.line_strips.specs.Strips.{columns, cell, SaidAlone};
 ghost use Rattle.line_events.specs.Events.{endsIn};
-ghost use Rattle.line_events.specs.Steps.{NoteRoom, WordPart, Listed};
-ghost use Rattle.line_sweeping.specs.Steps.{NextNoisy, ColumnThere, EventNoted, EventRoom, Reached, Changed, Left, Stepped, Sweepable, Swept};
+ghost use Rattle.line_events.specs.Noted.{NoteRoom, WordPart, Listed};
+ghost use Rattle.line_sweeping.specs.Sweeping.{NextNoisy, ColumnThere, EventNoted, EventRoom, Reached, Changed, Left, Stepped, Sweepable, Swept};
 
 const W: usize = line_strips::W;
 

@@ -9,7 +9,7 @@ use Rattle.lines.specs.Lines.{low, high}
 use Rattle.line_strips.specs.Strips.{columns}
 use Rattle.line_shapes.specs.Groups.{GroupEnd}
 use Rattle.line_turns.specs.Turns.{Held, held, columnLine, columnOf, eventLine}
-use Rattle.line_turns.specs.Steps.{ColumnHeld, ChangeHeld, EventHeld, CrossingSpot, ColumnSpot, EventSpot}
+use Rattle.line_turns.specs.Spots.{ColumnHeld, ChangeHeld, EventHeld, CrossingSpot, ColumnSpot, EventSpot}
 use Rattle.line_turns.specs.declared.Spot.{Spot}
 
 module _ (ls : List ℕ) (ps : List ℤ) (ss : List ℕ) (a : ℕ) (cols : List ℕ) (j : ℕ) where

@@ -11,7 +11,7 @@ use lib.ListN.{length, take, getD}
 use lib.Seq.{take-suc}
 use Rattle.lines.specs.Lines.{Wall, Edge}
 use Rattle.line_turns.specs.Turns.{held, columnOf, ending, beginning, wallsBy, openBy, isOpen}
-use Rattle.line_turns.specs.Steps.{openFrom, ColumnHeld, EventHeld}
+use Rattle.line_turns.specs.Spots.{openFrom, ColumnHeld, EventHeld}
 use Rattle.line_turns.specs.declared.Spot.{Spot}
 
 module _ (edge : ℕ → Edge) (line : ℕ → ℕ) where

@@ -6,7 +6,7 @@ ghost use lib.ListN.{length, getD};
 ghost use Rattle.line_strips.specs.Strips.{columns};
 ghost use Rattle.line_shapes.specs.Groups.{GroupEnd};
 ghost use Rattle.line_turns.specs.Turns.{held, columnOf, columnLine, eventLine};
-ghost use Rattle.line_turns.specs.Steps.{ColumnHeld, ChangeHeld, EventHeld, CrossingSpot, ColumnSpot, EventSpot};
+ghost use Rattle.line_turns.specs.Spots.{ColumnHeld, ChangeHeld, EventHeld, CrossingSpot, ColumnSpot, EventSpot};
 
 const COLUMNS: usize = line_strips::COLUMNS;
 

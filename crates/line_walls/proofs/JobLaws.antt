@@ -17,7 +17,7 @@ use Rattle.line_checking.specs.declared.Verdict.{Verdict}
 use Rattle.line_checking.specs.declared.Verdict.the-variants as verdicts
 use Rattle.line_blocks.specs.Blocks.{GoodLists}
 use Rattle.line_blocks.proofs.PassLaws.{verdict-told}
-use Rattle.line_writing.specs.Steps.{Roomy, Written}
+use Rattle.line_writing.specs.Writing.{Roomy, Written}
 use Rattle.line_passing.specs.Blocks.{WallsGiven}
 use Rattle.line_walls.specs.Answers.{LinesAnswered, JobDone}
 use Rattle.line_walls.specs.declared.LinesAnswer.the-variants.{Walls, Refused}

@@ -7,7 +7,7 @@ use lib.ListN.{length, drop, set, length-map, length-drop, length-append}
 use lib.Seq.{sets, sets-eq, length-sets, drop-drop, take-at, drop-at}
 use Rattle.outcome.specs.Lent.{filled}
 use Rattle.lines.specs.Lines.{AnswerLists, Wall}
-use Rattle.line_writing.specs.Steps.{Put, SameLengths, Roomy, Written}
+use Rattle.line_writing.specs.Writing.{Put, SameLengths, Roomy, Written}
 
 -- ---- one list
 
@@ -87,6 +87,16 @@ room-same s h r =
       ends = omega (arith, s .ends, r .ends);
       startShapes = omega (arith, s .startShapes, r .startShapes);
       endShapes = omega (arith, s .endShapes, r .endShapes);
+    }
+
+pub room-back : {n : ℕ} {lent after : AnswerLists} → SameLengths lent after → Roomy n after → Roomy n lent
+room-back s r =
+    record {
+      lines = rw (s .lines) at (r .lines);
+      starts = rw (s .starts) at (r .starts);
+      ends = rw (s .ends) at (r .ends);
+      startShapes = rw (s .startShapes) at (r .startShapes);
+      endShapes = rw (s .endShapes) at (r .endShapes);
     }
 
 pub written-none : {lent : AnswerLists} → Written [] lent 0 lent

@@ -1,26 +1,26 @@
--- The pass, a block on: the room for its walls, and what is written after it.
-use Prim.Native.Nat.{ℕ, _+_, _-_, _/_, _≤_}
+-- The pass, a block on: the room for its walls, and what is put.
+use Prim.Native.Nat.{ℕ, _+_, _/_, _≤_}
 use native.Mathlib.Omega.{arith}
 use mathlib.Core.Path.{_≡_, _∙_}
+use mathlib.Core.Bool.{Bool, true, false, cond}
 use mathlib.Core.List.{List, _++_}
 use mathlib.Core.Option.{Option}
 use lib.IntN.{ℤ}
 use lib.ListN.{length, take, length-append}
 use lib.Seq.{length-take-le}
-use Rattle.formula.specs.Formula.{Formula, postfix, Over}
 use Rattle.lines.specs.Lines.{LineLists, lineLists, startState, AnswerLists, Wall, Edge}
-use Rattle.line_words.specs.Stretches.{StandFor}
+use Rattle.line_strips.specs.Strips.{columns}
 use Rattle.line_words.specs.declared.Arranged.{Arranged}
-use Rattle.line_turns.specs.Turns.{held, wallsBy, openBy}
+use Rattle.line_turns.specs.Turns.{held, wallsBy}
 use Rattle.line_turns.proofs.TurnLaws.{walls-count, open-metal}
-use Rattle.line_blocks.specs.Blocks.{heldIn, edgeIn, lineIn, PassingAt, BlockMade}
+use Rattle.line_blocks.specs.Blocks.{heldIn, edgeIn, lineIn, BlockMade}
 use Rattle.line_blocks.specs.declared.Block.{Block}
 use Rattle.line_blocks.proofs.PassLaws.{passing-room}
-use Rattle.line_writing.specs.Steps.{openOf, openCount, wallCount, Delivering, Delivered}
-use Rattle.line_writing.specs.Blocks.{roomFor, PassOf, Writing, StepAsk, StepDone}
+use Rattle.line_writing.specs.Writing.{openOf, openCount, Delivering, Delivered}
+use Rattle.line_writing.specs.Blocks.{roomFor, StepAsk, StepDone}
 use Rattle.line_writing.specs.declared.Course.{Course}
 use Rattle.line_writing.specs.declared.Progress.{Progress}
-use Rattle.line_writing.proofs.ListLaws.{same-none, same-more, room-same, written-more}
+use Rattle.line_writing.proofs.ListLaws.{same-none, room-same}
 
 module _ {stretches links : List ℕ} {arranged : Arranged} {names : ℕ} {c : LineLists} {words : List ℕ} (p : Progress) {words′ cols starts lasts events : List ℕ} {b : Block}
     (made : BlockMade stretches links arranged names c words (p .pass) (p .run .metal) words′ cols starts lasts events b) where
@@ -35,43 +35,37 @@ module _ {stretches links : List ℕ} {arranged : Arranged} {names : ℕ} {c : L
       let long : length (take (b .events) events) ≡ b .events = length-take-le (b .events) events (omega (arith, made .few, made .sized .events-sized)) in
       walls-count (edgeIn names c (p .pass) cols) (lineIn c (p .pass) cols starts) from (take (b .events) events) ∙ rw (long, open-metal (p .run .metal) (p .run .from))
 
-  module _ {lent now : AnswerLists} (w : Writing stretches links arranged names c lent words p now) (f : Formula) (st : StandFor (postfix f) stretches links arranged) (o : Over names f) where
-    abbrev pass : PassOf f names c words p lent now
-    pass = w .passed f st o
-
-    beyond : PassingAt f names c (b .next) words′ (openBy (edgeIn names c (p .pass) cols) from (take (b .events) events)) (pass .done ++ new)
-    beyond = made .passes f st o from (pass .done) (open-metal (p .run .metal) (p .run .from)) (pass .passing)
-
-    counted : wallCount (p .run) (b .events) ≤ roomFor names c
-    counted = omega (arith, passing-room (made .going) f _ (pass .done ++ new) beyond, length-append (pass .done) new, pass .written .count, new-count)
-
-    pass-on : {r : Course} {after : AnswerLists} → Delivered (heldIn c (p .pass) cols) starts events (b .events) (p .run) now r after → PassOf f names c words′ (record { pass = b .next; run = r }) lent after
-    pass-on {r} {after} d =
-        let g = d .made (startState names (c .rows)) in
-        let most : r .count ≤ roomFor names c = omega (arith, g .count, new-count, counted) in
-        record {
-          done = pass .done ++ new;
-          passing = rw (g .opens) beyond;
-          written = written-more (pass .written) (g .count) (room-same same-none most (w .room)) (g .put);
-        }
+  -- no more than columns, since every other event ends a wall
+  few : length new ≤ columns
+  few = omega (arith, new-count, made .few, open-one (p .run .metal))
+    where
+      open-one : (t : Bool) → cond t 1 0 ≤ 1
+      open-one true = omega arith
+      open-one false = omega arith
 
   delivering : {now : AnswerLists} → StepAsk stretches links arranged names c words p now → Delivering (heldIn c (p .pass) cols) starts events (b .events) (p .run) now
   delivering ask =
-      let w = ask .writing in
-      let s = w .going .standing in
+      let s = ask .ask .going .standing in
+      let all : length (ask .found ++ new) ≤ roomFor names c = passing-room (made .going) (s .formula) _ (ask .found ++ new) (made .passes (s .formula) (s .stands) (s .over) from (ask .found) (open-metal (p .run .metal) (p .run .from)) (ask .passing)) in
       record {
         starts-sized = made .sized .plan .starts;
         sized = made .sized .events-sized;
         few = made .few;
         each = made .each;
-        room = room-same (w .same) (counted w (s .formula) (s .stands) (s .over)) (w .room);
+        room = room-same same-none (omega (arith, new-count)) (ask .room (length new) few (omega (arith, length-append (ask .found) new)));
       }
 
   pub step-done : {now after : AnswerLists} {r : Course} → Delivered (heldIn c (p .pass) cols) starts events (b .events) (p .run) now r after
       → StepDone stretches links arranged names c words p now words′ cols starts lasts events (record { pass = b .next; run = r }) after
-  step-done {now} {after} {r} d =
+  step-done d =
+      let g = d .made (startState names (c .rows)) in
       record {
-        writing = λ lent w. record { going = made .going; room = w .room; same = same-more (w .same) (d .same); passed = λ f st o. pass-on w f st o d };
+        new = new;
+        put = g .put;
+        count = g .count;
+        room = d .room;
+        passes = λ f st o done q. rw (g .opens) (made .passes f st o from done (open-metal (p .run .metal) (p .run .from)) q);
+        going = made .going;
         long = made .long;
         sized = made .sized;
         fewer = made .fewer;

@@ -11,10 +11,10 @@ use Rattle.formula.specs.States.{State}
 use Rattle.lines.specs.Lines.{AnswerLists, Wall, Edge}
 use Rattle.line_strips.specs.Strips.{columns}
 use Rattle.line_turns.specs.Turns.{Held, held, columnOf, eventLine, eventEdge, ending, wallsBy}
-use Rattle.line_turns.specs.Steps.{edgeOf, openFrom, ColumnHeld, EventHeld, EventSpot}
+use Rattle.line_turns.specs.Spots.{edgeOf, openFrom, ColumnHeld, EventHeld, EventSpot}
 use Rattle.line_turns.specs.declared.Spot.{Spot}
 use Rattle.line_turns.proofs.TurnLaws.{walls-next, open-next, event-column}
-use Rattle.line_writing.specs.Steps.{openOf, openCount, Put, Roomy, Finishes, Turning, Turned, wallCount, Delivering, Made, Delivered}
+use Rattle.line_writing.specs.Writing.{openOf, openCount, Put, Roomy, Finishes, Turning, Turned, wallCount, Delivering, Made, Delivered}
 use Rattle.line_writing.specs.declared.Course.{Course}
 use Rattle.line_writing.proofs.ListLaws.{put-none, put-more, put-same, same-none, same-more, room-same}
 
@@ -73,7 +73,7 @@ pub record Along (b : Held) (starts events : List ℕ) (m : ℕ) (r₀ : Course)
 pub along-start : {b : Held} {starts events : List ℕ} {m : ℕ} {r : Course} {lent : AnswerLists} → Delivering b starts events m r lent → Along b starts events m r lent 0 r lent
 along-start {m = m} {r = r} d =
     let z : m - 0 ≡ m = omega arith in
-    record { ok = d; within = omega arith; left = rw z; done = record { same = same-none; made = λ start. record { put = put-none; count = omega arith; opens = refl } } }
+    record { ok = d; within = omega arith; left = rw z; done = record { same = same-none; room = room-same same-none (omega arith) (d .room); made = λ start. record { put = put-none; count = omega arith; opens = refl } } }
 
 module _ {b : Held} {starts events : List ℕ} {m : ℕ} {r₀ : Course} {lent : AnswerLists} {k : ℕ} {r : Course} {now : AnswerLists} (v : Along b starts events m r₀ lent k r now) where
   pub along-end : m ≤ k → Delivered b starts events m r₀ lent r now
@@ -105,10 +105,13 @@ module _ {b : Held} {starts events : List ℕ} {m : ℕ} {r₀ : Course} {lent :
         record {
           ok = v .ok;
           within = omega arith;
-          left = omega (arith, v .left, t .count, t .turns);
-          done = record { same = same-more (v .done .same) (t .same); made = λ start. made start };
+          left = left;
+          done = record { same = same-more (v .done .same) (t .same); room = room-same same-none (omega (arith, left)) (v .ok .room); made = λ start. made start };
         }
       where
+        left : wallCount r′ (m - (k + 1)) ≡ wallCount r₀ m
+        left = omega (arith, v .left, t .count, t .turns)
+
         made : (start : ℕ → State) → Made start b starts (take (k + 1) events) r₀ lent r′ after
         made start =
             let edge : ℕ → Edge = eventEdge start b in

@@ -1,11 +1,12 @@
-// The pass with its walls written, a block on: events become walls, and one function, handed a finished wall, writes it.
+// The pass, a block on: events become walls, and one function, handed a finished wall, puts it into five lists. Whose lists they are is the caller's.
 ghost use mathlib.Core.Path.{_≡_};
 ghost use Prim.Native.Nat.{_+_};
 ghost use Rattle.lines.specs.Lines.{lineLists, rowCount, answerLists};
+ghost use Rattle.line_columns.specs.Planning.{WholeRows};
 ghost use Rattle.line_turns.specs.Turns.{held};
-ghost use Rattle.line_blocks.specs.Blocks.{Sized};
-ghost use Rattle.line_writing.specs.Blocks.{StepAsk, StepDone};
-ghost use Rattle.line_writing.specs.Steps.{Roomy, Finishes, Turning, Turned, Delivering, Delivered};
+ghost use Rattle.line_blocks.specs.Blocks.{Sized, SaidOf};
+ghost use Rattle.line_writing.specs.Blocks.{StepAsk, StepDone, NothingDone};
+ghost use Rattle.line_writing.specs.Writing.{Roomy, Finishes, Turning, Turned, Delivering, Delivered};
 
 const W: usize = line_strips::W;
 
@@ -19,7 +20,7 @@ struct Finished {
     to: line_turns::Spot,
 }
 
-// Whether there is metal and where it began, and the number of walls written.
+// Whether there is metal and where it began, and the number of walls put.
 pub struct Course {
     pub metal: bool,
     pub from: line_turns::Spot,
@@ -102,7 +103,7 @@ fn turn(
 }
 
 // The walls that a block's first m events finish.
-pub fn deliver(
+fn deliver(
     events: &[u16; EVENTS],
     m: usize,
     line: &[u32],
@@ -212,5 +213,20 @@ pub fn step(
     Progress {
         pass: next,
         run: after,
+    }
+}
+
+pub fn begin(rows: &[u8], names: usize, count: usize, air: bool) -> Progress
+    requires { ⌜ WholeRows names (now rows) count × SaidOf air (now rows) ⌝ }
+    ensures { λ r. ⌜ NothingDone names (now (rows .entry)) r ⌝ }
+{
+    let pass = line_blocks::begin(rows, names, count, air);
+    Progress {
+        pass,
+        run: Course {
+            metal: false,
+            from: line_turns::Spot { at: 0, shape: 0 },
+            count: 0,
+        },
     }
 }

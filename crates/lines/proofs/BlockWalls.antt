@@ -15,7 +15,7 @@ use Rattle.lines.proofs.ColumnLines.{column-last, column-on}
 
 -- ---- one column
 
-pub column-step : (solid : State → Bool) (state : State) (from : Option Edge) (x : Column) (xs : List Column)
+column-step : (solid : State → Bool) (state : State) (from : Option Edge) (x : Column) (xs : List Column)
     → columnWalls solid state from (x ∷ xs)
     ≡ finished (solid (turned (x .turns) state)) from (mark (x ∷ xs)) ++ columnWalls solid (stateNext state (mark (x ∷ xs))) (openNext (solid (turned (x .turns) state)) from (mark (x ∷ xs))) xs
 column-step solid state from x xs = by (lastColumn x xs) refl
@@ -35,7 +35,7 @@ column-step solid state from x xs = by (lastColumn x xs) refl
     by false e = column-on solid state from x xs e ∙ rw (e, append-nil ended)
 
 -- at most one wall is finished by each column
-pub finished-one : (metal : Bool) (from : Option Edge) (m : Marked) → length (finished metal from m) ≤ 1
+finished-one : (metal : Bool) (from : Option Edge) (m : Marked) → length (finished metal from m) ≤ 1
 finished-one metal from m = by (m .ends) metal from (m .last)
   where
     by : (ends metal : Bool) (from : Option Edge) (last : Bool)

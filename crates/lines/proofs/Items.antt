@@ -12,7 +12,7 @@ use lib.IntN.{ℤ, pos}
 use lib.ListN.{length, drop, getD, drop-of-length-le}
 use Rattle.outcome.specs.Outcome.{given}
 use Rattle.lines.specs.Lines.{LineLists, rowCount, Crossing, crossings, strays, judged}
-use Rattle.lines.specs.Steps.{item, Ascending}
+use Rattle.lines.specs.AtIndex.{item, Ascending}
 use Rattle.lines.proofs.Keys.{leK, eq-leK, le-trans, leZ-self}
 use Rattle.lines.proofs.Crossings.{Each, Sorted}
 use Rattle.lines.proofs.Judgement.{judged-positions, judged-shapes, judged-accepted}
@@ -35,18 +35,8 @@ drop-item (l ∷ ls) (p ∷ ps) (s ∷ ss) (suc i) e f h = drop-item ls ps ss i 
 pub drop-all : (ls : List ℕ) (ps : List ℤ) (ss : List ℕ) (i : ℕ) → length ps ≡ length ls → length ss ≡ length ls → length ls ≤ i → drop i (crossings ls ps ss) ≡ []
 drop-all ls ps ss i e f h = drop-of-length-le (crossings ls ps ss) {i = i} (omega (arith, length-crossings ls ps ss e f))
 
--- what is left after i: nothing, or the next and what follows it
-pub after-item : {X : Type 0} (ls : List ℕ) (ps : List ℤ) (ss : List ℕ) (i : ℕ) → length ps ≡ length ls → length ss ≡ length ls → i < length ls
-    → (F : List Crossing → X)
-    → cond (eqb (i + 1) (length ls)) (F []) (F (item ls ps ss (i + 1) ∷ drop (suc (suc i)) (crossings ls ps ss))) ≡ F (drop (suc i) (crossings ls ps ss))
-after-item ls ps ss i e f h F = go (eqb (i + 1) (length ls)) refl
-  where
-    go : (b : Bool) → eqb (i + 1) (length ls) ≡ b → cond b (F []) (F (item ls ps ss (i + 1) ∷ drop (suc (suc i)) (crossings ls ps ss))) ≡ F (drop (suc i) (crossings ls ps ss))
-    go true q = ap F (sym (drop-all ls ps ss (suc i) e f (omega (arith, eqb-true (i + 1) (length ls) q))))
-    go false q = rw (drop-item ls ps ss (suc i) e f (omega (arith, eqb-false (i + 1) (length ls) q)), add-one i)
-
 -- what holds of each entry
-pub each-item : (P : Crossing → Type 0) (ls : List ℕ) (ps : List ℤ) (ss : List ℕ) → length ps ≡ length ls → length ss ≡ length ls
+each-item : (P : Crossing → Type 0) (ls : List ℕ) (ps : List ℤ) (ss : List ℕ) → length ps ≡ length ls → length ss ≡ length ls
     → Each P (crossings ls ps ss) → (i : ℕ) → i < length ls → P (item ls ps ss i)
 each-item P [] ps ss e f all i h = absurd (not-suc-le-zero h)
 each-item P (l ∷ ls) [] ss e f all i h = let z : ⊥ = omega arith in absurd z
@@ -55,7 +45,7 @@ each-item P (l ∷ ls) (p ∷ ps) (s ∷ ss) e f all zero h = all .0
 each-item P (l ∷ ls) (p ∷ ps) (s ∷ ss) e f all (suc i) h = each-item P ls ps ss (omega arith) (omega arith) (all .1) i (le-of-suc-le-suc h)
 
 -- sorted entries rise from one index to any later one
-pub sorted-items : (ls : List ℕ) (ps : List ℤ) (ss : List ℕ) → length ps ≡ length ls → length ss ≡ length ls → Sorted (crossings ls ps ss) → (i j : ℕ) → i ≤ j → j < length ls
+sorted-items : (ls : List ℕ) (ps : List ℤ) (ss : List ℕ) → length ps ≡ length ls → length ss ≡ length ls → Sorted (crossings ls ps ss) → (i j : ℕ) → i ≤ j → j < length ls
     → leK (getD ls i 0) (getD ps i (pos 0)) (getD ls j 0) (getD ps j (pos 0)) ≡ true
 sorted-items [] ps ss e f so i j h k = absurd (not-suc-le-zero k)
 sorted-items (l ∷ ls) [] ss e f so i j h k = let z : ⊥ = omega arith in absurd z

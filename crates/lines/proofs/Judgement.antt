@@ -15,7 +15,7 @@ use Rattle.lines.specs.Lines.{LineLists, rowCount, Crossing, entries, fa
 use Rattle.lines.proofs.Keys.{lt-leK, eq-leK, not-lt→}
 use Rattle.lines.proofs.Crossings.{Named, Kept, Follows, Later, Sorted}
 
-pub refused-given {ℓ} : {X : Type ℓ} {A : Type 0} (n p : ℕ) (a : A) → _≡_ {A = Outcome A} (refused n p) (given a) → X
+refused-given {ℓ} : {X : Type ℓ} {A : Type 0} (n p : ℕ) (a : A) → _≡_ {A = Outcome A} (refused n p) (given a) → X
 refused-given n p a q = let z : _≡_ {A = ℕ} 0 1 = cc in let w : ⊥ = omega arith in absurd w
 
 pub both : {A : Type 0} (v : Outcome (Unit {0})) (w : Outcome A) (a : A) → (v >> w) ≡ given a → (v ≡ given tt) × (w ≡ given a)
@@ -27,13 +27,13 @@ pub and-yes : (a b : Bool) → (a && b) ≡ true → (a ≡ true) × (b ≡ true
 and-yes true b e = (refl, e)
 and-yes false b e = absurd (false≢true e)
 
-pub not-yes : (b : Bool) → not b ≡ true → b ≡ false
+not-yes : (b : Bool) → not b ≡ true → b ≡ false
 not-yes true e = absurd (false≢true e)
 not-yes false e = refl
 
 -- ---- the crossings
 
-pub rises-to : (x y : Crossing) → falls (some x) y ≡ false → Later x y
+rises-to : (x y : Crossing) → falls (some x) y ≡ false → Later x y
 rises-to x y e = by (ltb (y .line) (x .line)) refl (eqb (y .line) (x .line)) refl
   where
     by : (a : Bool) → ltb (y .line) (x .line) ≡ a → (b : Bool) → eqb (y .line) (x .line) ≡ b → Later x y
@@ -90,7 +90,7 @@ pub record WholeRows (names : ℕ) (rows : List ℕ) : Type 0 where
   pub few : rowCount names rows ≤ 4294967296
   pub bytes : (j : ℕ) → getD rows j 0 ≤ 1
 
-pub rowed-gives : (names : ℕ) (rows : List ℕ) → rowed names rows ≡ given tt → WholeRows names rows
+rowed-gives : (names : ℕ) (rows : List ℕ) → rowed names rows ≡ given tt → WholeRows names rows
 rowed-gives names rows e =
     let a = and-yes (eqb (length rows % names) 0) (leb (rowCount names rows) 4294967296 && bits rows) (need-yes _ 14 0 e) in
     let b = and-yes (leb (rowCount names rows) 4294967296) (bits rows) (a .1) in

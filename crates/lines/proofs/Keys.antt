@@ -113,7 +113,7 @@ yes-leK l p m q e = go (ltb l m) refl (eqb l m) refl
     go false u true v = inr (eqb-true l m v, rw (u, v) at e)
     go false u false v = absurd (false≢true (rw (u, v) at e))
 
-pub no-leK : (l : ℕ) (p : ℤ) (m : ℕ) (q : ℤ) → leK l p m q ≡ false → (m < l) ⊎ ((l ≡ m) × (leZ p q ≡ false))
+no-leK : (l : ℕ) (p : ℤ) (m : ℕ) (q : ℤ) → leK l p m q ≡ false → (m < l) ⊎ ((l ≡ m) × (leZ p q ≡ false))
 no-leK l p m q e = go (ltb l m) refl (eqb l m) refl
   where
     go : (a : Bool) → ltb l m ≡ a → (b : Bool) → eqb l m ≡ b → (m < l) ⊎ ((l ≡ m) × (leZ p q ≡ false))

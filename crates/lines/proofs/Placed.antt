@@ -48,7 +48,7 @@ line-placed rows l (x ∷ xs) so ke = by (onLine l x) refl (line-placed rows l x
 
 -- ---- the states beyond those crossings of the line that lie at p or before it
 
-abbrev pub upTo : ℤ → Crossing → Bool
+abbrev upTo : ℤ → Crossing → Bool
 upTo p x = leZ (x .at) p
 
 abbrev pub along : ℤ → State → List Crossing → State

@@ -25,7 +25,7 @@ stretches [] = []
 stretches (w ∷ ws) = stretch w ∷ stretches ws
 
 -- one shape is at a position
-pub bounds-only : (start : ℕ → State) (xs : List Crossing) (l : ℕ) (p : ℤ) (s t : ℕ) → Bounds start xs l p s → Bounds start xs l p t → s ≡ t
+bounds-only : (start : ℕ → State) (xs : List Crossing) (l : ℕ) (p : ℤ) (s t : ℕ) → Bounds start xs l p s → Bounds start xs l p t → s ≡ t
 bounds-only start xs l p s t a b = by (leZ p low || leZ high p) refl
   where
     by : (m : Bool) → (leZ p low || leZ high p) ≡ m → s ≡ t

@@ -90,7 +90,7 @@ pub all-from : (xs : List Crossing) → OnFrom 0 xs
 all-from [] = tt
 all-from (x ∷ xs) = (omega arith, all-from xs)
 
-pub bare-beyond : (names : ℕ) (rows : List ℕ) (l s : ℕ) → names ≤ s → startState names rows l s ≡ false
+bare-beyond : (names : ℕ) (rows : List ℕ) (l s : ℕ) → names ≤ s → startState names rows l s ≡ false
 bare-beyond names rows l s h = rw (le-ltb s names h)
 
 pub walls-columns : (f : Formula) (names : ℕ) (c : LineLists) → judged names c ≡ given tt → walls f names c ≡ columnWalls (inside f) outside none (allColumns names c)

@@ -2,6 +2,6 @@ pub mod Lines
 pub mod Right
 pub mod Edges
 pub mod Given
-pub mod Steps
+pub mod AtIndex
 pub mod Columns
 pub mod Marked

@@ -22,7 +22,7 @@ unfolding digit
 bit-zero zero = refl
 bit-zero (suc c) = bit-zero c
 
-pub bit-small : (w c : ℕ) → digit w c < 2
+bit-small : (w c : ℕ) → digit w c < 2
 unfolding digit
 bit-small w zero = omega arith
 bit-small w (suc c) = bit-small (w / 2) c
@@ -124,14 +124,14 @@ zeros-even : (k n : ℕ) → n % 2 ≡ 0 → trailingZeros (suc k) n ≡ suc (tr
 unfolding trailingZeros
 zeros-even k n e = rw e
 
-pub zeros-low : (k n c : ℕ) → c < trailingZeros k n → digit n c ≡ 0
+zeros-low : (k n c : ℕ) → c < trailingZeros k n → digit n c ≡ 0
 unfolding digit
 zeros-low zero n c h = absurd (omega (arith, trailing-le 0 n))
 zeros-low (suc k) n zero h = same? (n % 2) 0 (λ e. e) (λ o. absurd (omega (arith, zeros-odd k n o)))
 zeros-low (suc k) n (suc c) h =
     same? (n % 2) 0 (λ e. zeros-low k (n / 2) c (omega (arith, zeros-even k n e))) (λ o. absurd (omega (arith, zeros-odd k n o)))
 
-pub zeros-here : (k n : ℕ) → trailingZeros k n < k → digit n (trailingZeros k n) ≡ 1
+zeros-here : (k n : ℕ) → trailingZeros k n < k → digit n (trailingZeros k n) ≡ 1
 unfolding digit
 zeros-here zero n h = absurd (omega arith)
 zeros-here (suc k) n h =
@@ -139,7 +139,7 @@ zeros-here (suc k) n h =
     (λ e. rw (zeros-even k n e) (zeros-here k (n / 2) (omega (arith, zeros-even k n e))))
     (λ o. rw (zeros-odd k n o) (omega arith))
 
-pub zeros-some : (k n : ℕ) → n < 2 ^ k → (n ≡ 0 → ⊥) → trailingZeros k n < k
+zeros-some : (k n : ℕ) → n < 2 ^ k → (n ≡ 0 → ⊥) → trailingZeros k n < k
 zeros-some zero n h o = absurd (omega arith)
 zeros-some (suc k) n h o =
     same? (n % 2) 0

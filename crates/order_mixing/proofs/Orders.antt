@@ -10,7 +10,7 @@ use borrow.Author.Tests.{eq-eqb, ne-eqb, le-leb, lt-leb}
 use lib.ListN.{length, getD, take}
 use lib.Seq.{take-suc, take-all}
 use Rattle.order_mixing.specs.Order.{named, turns, mixes}
-use Rattle.order_mixing.specs.Steps.{Counting}
+use Rattle.order_mixing.specs.Turns.{Counting}
 
 -- one turn more
 turns-here : (n x : ℕ) (xs : List ℕ) → eqb x n ≡ true → turns n (x ∷ xs) ≡ suc (turns n xs)

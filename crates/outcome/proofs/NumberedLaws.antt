@@ -14,7 +14,7 @@ pub refused-numbered : {A : Type 0} (k p : ℕ) → 0 < k → Numbered {A = A} (
 refused-numbered k p some =
     record { above-0 = λ number place e. let same : k ≡ number = cc in omega arith; unfit-above-0 = λ number place e. let z : _≡_ {A = ℕ} 0 1 = cc in absurd (omega arith) }
 
-pub unfit-numbered : {A : Type 0} (k p : ℕ) → 0 < k → Numbered {A = A} (unfit k p)
+unfit-numbered : {A : Type 0} (k p : ℕ) → 0 < k → Numbered {A = A} (unfit k p)
 unfit-numbered k p some =
     record { above-0 = λ number place e. let z : _≡_ {A = ℕ} 0 1 = cc in absurd (omega arith); unfit-above-0 = λ number place e. let same : k ≡ number = cc in omega arith }
 

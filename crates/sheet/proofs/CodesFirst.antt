@@ -124,12 +124,8 @@ following [] n tag at (suc k) fs h = let z : _≡_ {A = ℕ} 0 1 = cc in absurd 
 following (c ∷ cs) n tag at zero fs h = let z : _≡_ {A = ℕ} 0 1 = cc in absurd (omega arith)
 following (c ∷ cs) n tag at (suc k) fs h = by-code n tag at c cs k fs h (λ j gs. following cs n tag (at + 2) j gs) (ltb c n) refl
 
--- An operation always has the two formulas that it joins.
-pub two-follow : (n tag at k : ℕ) (cs : List ℕ) (fs : List Formula) → allFirst n tag at cs (suc (suc k)) ≡ given fs → 2 ≤ length fs
-two-follow n tag at k cs fs h = omega (arith, following cs n tag at (suc (suc k)) fs h .many)
-
 -- Codes judged good are those of the formula that they give, over the names.
-pub formulaFirst-prefix : (n tag first : ℕ) (cs : List ℕ) (f : Formula) → formulaFirst n tag first cs ≡ given f → (prefix f ≡ cs) × Over n f
+formulaFirst-prefix : (n tag first : ℕ) (cs : List ℕ) (f : Formula) → formulaFirst n tag first cs ≡ given f → (prefix f ≡ cs) × Over n f
 unfolding formulaFirst
 formulaFirst-prefix n tag first cs f h =
     let b = bind-given (allFirst n tag first cs 1) (onlyOne tag) f h in

@@ -56,7 +56,7 @@ same-self (x ∷ xs) = rw (eq-eqb x x refl) (same-self xs)
 
 -- ---- taken: a name that is not taken is none of the names
 
-pub taken-unlike : (ns : List (List ℕ)) (x : List ℕ) → taken ns x ≡ false → (k : ℕ) → k < length ns → getD ns k [] ≡ x → ⊥
+taken-unlike : (ns : List (List ℕ)) (x : List ℕ) → taken ns x ≡ false → (k : ℕ) → k < length ns → getD ns k [] ≡ x → ⊥
 unfolding taken
 taken-unlike [] x h k l e = omega arith
 taken-unlike (y ∷ ys) x h zero l e =

@@ -16,7 +16,7 @@ use Rattle.formula.specs.Formula.{Op, Formula, leaf, node, leaves}
 use Rattle.formula.specs.Codes.{isOperation, opOf, operation}
 use Rattle.formula.proofs.Codes.{operation-low, operation-high, operation-yes}
 use Rattle.sheet.specs.Sheet.{twoAt, codesOf, joined, allCodes, onlyOne, formulaOf}
-use Rattle.sheet_codes.specs.Steps.{countedLeaves}
+use Rattle.sheet_codes.specs.Operands.{countedLeaves}
 
 -- ---- countedLeaves: operands by their number, leaves by their sum
 

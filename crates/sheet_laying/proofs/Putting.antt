@@ -14,7 +14,7 @@ unfolding codeBytes
 length-codeBytes [] = refl
 length-codeBytes (c ∷ cs) = omega (arith, length-codeBytes cs)
 
-pub codeBytes-append : (xs ys : List ℕ) → codeBytes (xs ++ ys) ≡ codeBytes xs ++ codeBytes ys
+codeBytes-append : (xs ys : List ℕ) → codeBytes (xs ++ ys) ≡ codeBytes xs ++ codeBytes ys
 unfolding codeBytes
 codeBytes-append [] ys = refl
 codeBytes-append (x ∷ xs) ys = ap (λ (b : List ℕ). x / 256 ∷ x % 256 ∷ b) (codeBytes-append xs ys)

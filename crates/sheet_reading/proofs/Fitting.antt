@@ -18,7 +18,7 @@ use Rattle.sheet_fields.specs.declared.Field.the-variants as field
 use Rattle.sheet_fields.specs.declared.Head.{Head}
 use Rattle.sheet_fields.specs.declared.Head.the-variants as head
 use Rattle.sheet_reading.specs.Reading.{Numbers, told}
-use Rattle.sheet_reading.specs.Steps.{toldOwn, fittingsOf, FittingsRead, FittingsGiven, FittingsAre}
+use Rattle.sheet_reading.specs.Told.{toldOwn, fittingsOf, FittingsRead, FittingsGiven, FittingsAre}
 use Rattle.sheet_reading.specs.declared.Fittings.{Fittings}
 use Rattle.sheet_reading.specs.declared.Fittings.the-variants as fits
 use Rattle.outcome.proofs.Questions.{given-same, part-given, part-refused}

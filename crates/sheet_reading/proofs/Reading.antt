@@ -12,7 +12,7 @@ use Rattle.sheet.specs.Sheet as paper
 use Rattle.sheet.specs.Sheet.{Sheet, Setting, nameField, formulaField, endField, twoAt, between, fieldAt, onward, fields, header, own}
 use Rattle.sheet.specs.Walk.{walkEnd, walkNames, fittedBy}
 use Rattle.sheet_reading.specs.Reading.{Numbers, numbers, numbersOf}
-use Rattle.sheet_reading.specs.Steps.{toldOwn, toldFrom, toldEnd, FittingsRead}
+use Rattle.sheet_reading.specs.Told.{toldOwn, toldFrom, toldEnd, FittingsRead}
 use Rattle.sheet_fields.specs.Fields.{Seen, name, formula, finish, seen, fieldOf, headOf}
 use Rattle.sheet_names.specs.Keys.{keyOf, NamesRead}
 use Rattle.sheet_fields.specs.declared.Field.{Field}

@@ -9,7 +9,7 @@ ghost use Rattle.sheet.specs.Sheet.{sheetsOf, fittingFields, fittingNames};
 ghost use Rattle.sheet.specs.Walk.{walkNames, fittedBy};
 ghost use Rattle.sheet_names.specs.Keys.{NamesRead};
 ghost use Rattle.sheet_reading.specs.Reading.{told, answerOf};
-ghost use Rattle.sheet_reading.specs.Steps.{toldOwn, toldFrom, toldEnd, fittingsOf, FittingsRead, FittingsAre};
+ghost use Rattle.sheet_reading.specs.Told.{toldOwn, toldFrom, toldEnd, fittingsOf, FittingsRead, FittingsAre};
 
 // What reading the sheets answers; `Unfit` is a refusal of the fittings sheet.
 pub enum ReadAnswer {

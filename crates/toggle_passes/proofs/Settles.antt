@@ -12,14 +12,14 @@ use borrow.Author.Tests.{eqb-true, eqb-false, eq-eqb, ne-eqb, lt-ltb, le-ltb, lt
 use lib.ListN.{length, getD, set, take, length-set}
 use lib.Seq.{set-getD}
 use Rattle.contraction.specs.Records.{over}
-use Rattle.contraction.specs.Steps.{recAt, recs}
+use Rattle.contraction.specs.Entries.{recAt, recs}
 use Rattle.marks.specs.declared.Marks.{Marks}
 use Rattle.marks.specs.Marks.{marked, all, Rising, Removed, Same, Empty, Put, Taken, Opened, Lowest}
 use Rattle.marks.proofs.Sets.{lowest-in, lowest-small, lowest-first}
-use Rattle.labels.specs.Steps.{Linked}
+use Rattle.labels.specs.Linked.{Linked}
 use Rattle.labels.proofs.Links.{cases, parent-is, parent-after}
 use Rattle.toggle_passes.specs.Reworking.{steps, reworked, rework}
-use Rattle.toggle_passes.specs.Steps.{Due, Within, Ripe, Settled}
+use Rattle.toggle_passes.specs.Upwards.{Due, Within, Ripe, Settled}
 use Rattle.toggle_passes.proofs.Upwards.{Pass, pass-work, pass-until, pass-end}
 
 -- the node above the one in hand is not below the word in hand

@@ -11,14 +11,14 @@ use lib.ListN.{length, getD, set, take, length-set}
 use lib.Seq.{getD-set-same, getD-set-other, getD-take, take-set-lt, set-getD}
 use Rattle.formula.specs.States.{outside}
 use Rattle.contraction.specs.Records.{Rec, children, listed, over}
-use Rattle.contraction.specs.Steps.{entries, recAt, recs}
-use Rattle.contraction.proofs.Steps.{recs-more}
+use Rattle.contraction.specs.Entries.{entries, recAt, recs}
+use Rattle.contraction.proofs.EntryLaws.{recs-more}
 use Rattle.labels.specs.Labels.{label}
-use Rattle.labels.specs.Steps.{Shaped, Linked}
+use Rattle.labels.specs.Linked.{Shaped, Linked}
 use Rattle.labels.proofs.Rules.{label-local}
 use Rattle.labels.proofs.Links.{cases, parent-is, parent-after}
 use Rattle.toggle_passes.specs.Reworking.{Steps, steps, changed, reworked, rework}
-use Rattle.toggle_passes.specs.Steps.{Alone}
+use Rattle.toggle_passes.specs.Upwards.{Alone}
 use Rattle.toggle_passes.proofs.Reworking.{rework-skip, rework-here}
 
 recs-none : (ks fs ss : List ℕ) (i : ℕ) → recs ks fs ss i 0 ≡ []
@@ -45,7 +45,7 @@ changed-local old xs ys (c ∷ cs) h =
     rw (here, changed-local old xs ys cs (λ d l. h d (later (eqb d c) (listed d cs) l)))
 
 -- where one label alone has changed, it is that of a child
-pub changed-alone : (nodes : ℕ) (old ls : List ℕ) (c : ℕ) → Alone nodes old ls c → (cs : List ℕ) → ((d : ℕ) → listed d cs ≡ true → d < nodes) → changed old ls cs ≡ listed c cs
+changed-alone : (nodes : ℕ) (old ls : List ℕ) (c : ℕ) → Alone nodes old ls c → (cs : List ℕ) → ((d : ℕ) → listed d cs ≡ true → d < nodes) → changed old ls cs ≡ listed c cs
 changed-alone nodes old ls c a [] h = refl
 changed-alone nodes old ls c a (d ∷ ds) h = rw (changed-alone nodes old ls c a ds (λ e l. h e (later (eqb e d) (listed e ds) l))) (go (eqb c d) refl)
   where

@@ -1,2 +1,2 @@
 pub mod Reworking
-pub mod Steps
+pub mod Upwards

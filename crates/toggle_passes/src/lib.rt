@@ -3,11 +3,11 @@ ghost use mathlib.Core.Path.{_≡_};
 ghost use mathlib.Core.List.{List};
 ghost use Prim.Native.Nat.{ℕ, suc, _-_, _≤_};
 ghost use lib.ListN.{length, take};
-ghost use Rattle.contraction.specs.Steps.{recs};
+ghost use Rattle.contraction.specs.Entries.{recs};
 ghost use Rattle.marks.specs.Marks.{all};
-ghost use Rattle.labels.specs.Steps.{Rules};
+ghost use Rattle.labels.specs.Linked.{Rules};
 ghost use Rattle.toggle_passes.specs.Reworking.{steps, rework};
-ghost use Rattle.toggle_passes.specs.Steps.{Alone, Due, Climbs, Ripe, Settles, Settled};
+ghost use Rattle.toggle_passes.specs.Upwards.{Alone, Due, Climbs, Ripe, Settles, Settled};
 use marks::Marks;
 
 // The nodes reworked above one node whose label alone has changed: straight up, until a label comes out as it was. How many they are.

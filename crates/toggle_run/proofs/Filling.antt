@@ -14,7 +14,7 @@ use Rattle.toggle_passes.specs.Reworking.{steps}
 use Rattle.toggles.specs.Toggles.{answers, toggle, toggleEach}
 use Rattle.toggles.proofs.Runs.{length-roots, length-counts}
 use Rattle.toggle_run.specs.Ran.{ToggleRoom}
-use Rattle.toggle_run.specs.Steps.{RunDone}
+use Rattle.toggle_run.specs.Tables.{RunDone}
 
 filled-more : (xs old : List ℕ) (x i : ℕ) → length xs ≡ i → i < length old → set (filled xs old) i x ≡ filled (xs ++ (x ∷ [])) old
 filled-more xs old x i e h =

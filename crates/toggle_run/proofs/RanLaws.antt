@@ -14,14 +14,14 @@ use Rattle.formula.specs.Formula.{Formula}
 use Rattle.formula.specs.States.{outside}
 use Rattle.labels.specs.Labels.{labels}
 use Rattle.labels.specs.Arrays.{Holds, Tree}
-use Rattle.contraction.specs.Steps.{recs}
-use Rattle.labels.specs.Steps.{Rules, Shaped, Parents, Chains, Ready}
+use Rattle.contraction.specs.Entries.{recs}
+use Rattle.labels.specs.Linked.{Rules, Shaped, Parents, Chains, Ready}
 use Rattle.labels.proofs.Held.{held-records, held-shaped}
 use Rattle.toggles.specs.Toggles.{toggleEach, toggleRun}
 use Rattle.toggles.specs.Named.{firstWrong}
 use Rattle.toggles.proofs.Runs.{run-roots, run-labels}
 use Rattle.toggle_run.specs.Ran.{RunRoom, TreeRun}
-use Rattle.toggle_run.specs.Steps.{Tables, RunDone}
+use Rattle.toggle_run.specs.Tables.{Tables, RunDone}
 
 -- the first i shape numbers are below the number of names
 pub data Seeking (names : ℕ) (ss : List ℕ) (i : ℕ) : Type 0 where

@@ -4,12 +4,12 @@ ghost use Prim.Native.Nat.{_<_, _≤_};
 ghost use lib.ListN.{length, take};
 ghost use Rattle.formula.specs.Formula.{Formula};
 ghost use Rattle.contraction.specs.Height.{last};
-ghost use Rattle.contraction.specs.Steps.{recs};
+ghost use Rattle.contraction.specs.Entries.{recs};
 ghost use Rattle.outcome.specs.Lent.{filled};
 ghost use Rattle.labels.specs.Arrays.{Holds, Tree};
-ghost use Rattle.labels.specs.Steps.{Rules, Ready};
+ghost use Rattle.labels.specs.Linked.{Rules, Ready};
 ghost use Rattle.toggles.specs.Named.{firstWrong};
-ghost use Rattle.toggle_run.specs.Steps.{Tables, RunDone};
+ghost use Rattle.toggle_run.specs.Tables.{Tables, RunDone};
 ghost use Rattle.toggle_run.specs.Ran.{ToggleRoom, RunRoom, TreeRun};
 
 // The label of the root, which is the last node.

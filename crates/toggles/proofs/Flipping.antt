@@ -10,20 +10,20 @@ use borrow.Author.Tests.{eqb-true, eqb-false, eq-eqb, ne-eqb, lt-ltb, le-ltb, lt
 use lib.ListN.{length, getD, set, take, replicate, length-set}
 use lib.Seq.{getD-take, getD-set-same, getD-set-other, take-set-lt}
 use Rattle.contraction.specs.Records.{Rec, isLeaf, children, listed, over}
-use Rattle.contraction.specs.Steps.{kindAt, recAt, recs}
-use Rattle.contraction.proofs.Steps.{recs-more}
+use Rattle.contraction.specs.Entries.{kindAt, recAt, recs}
+use Rattle.contraction.proofs.EntryLaws.{recs-more}
 use Rattle.marks.specs.declared.Marks.{Marks}
 use Rattle.marks.specs.Marks.{marked, all, Rising, Put}
 use Rattle.marks.proofs.Sets.{rising-none, empty-none}
 use Rattle.labels.specs.Labels.{isOf}
-use Rattle.labels.specs.Steps.{seek, Shaped, Linked, Ready}
+use Rattle.labels.specs.Linked.{seek, Shaped, Linked, Ready}
 use Rattle.labels.proofs.Links.{cases, found, jump, done, parent-is, parent-over}
 use Rattle.toggle_passes.specs.Reworking.{steps, changed, rework}
-use Rattle.toggle_passes.specs.Steps.{Alone, Due, Within}
+use Rattle.toggle_passes.specs.Upwards.{Alone, Due, Within}
 use Rattle.toggle_passes.proofs.Reworking.{rework-skip, leaf-none}
 use Rattle.toggle_passes.proofs.Upwards.{changed-set}
 use Rattle.toggles.specs.Toggles.{flip, flipLeaves, toggle}
-use Rattle.toggles.specs.Steps.{Bare, AddedNode, Flipped}
+use Rattle.toggles.specs.Flipping.{Bare, AddedNode, Flipped}
 
 -- a node marked, where there is one
 pub node-marked : {ws ws′ : List ℕ} {m m′ : Marks} {p nodes : ℕ} → p < nodes → m .at ≡ 0 → Put ws m p ws′ m′ → AddedNode nodes p ws m ws′ m′
@@ -44,7 +44,7 @@ flip-here : (s : ℕ) (r : Rec) (rs : List Rec) (i : ℕ) (ls : List ℕ) → is
 flip-here s r rs i ls e = rw e
 
 -- the other bit is another
-pub flip-other : (x : ℕ) → eqb (flip x) x ≡ false
+flip-other : (x : ℕ) → eqb (flip x) x ≡ false
 flip-other zero = refl
 flip-other (suc x) = ne-eqb 0 (suc x) (λ e. omega arith)
 

@@ -1,4 +1,4 @@
 pub mod Toggles
 pub mod Demand
 pub mod Named
-pub mod Steps
+pub mod Flipping

@@ -2,12 +2,12 @@
 ghost use mathlib.Core.Path.{_≡_};
 ghost use Prim.Native.Nat.{_<_, _≤_};
 ghost use lib.ListN.{length, take};
-ghost use Rattle.contraction.specs.Steps.{recs};
+ghost use Rattle.contraction.specs.Entries.{recs};
 ghost use Rattle.marks.specs.Marks.{Rising};
-ghost use Rattle.labels.specs.Steps.{Ready};
+ghost use Rattle.labels.specs.Linked.{Ready};
 ghost use Rattle.toggle_passes.specs.Reworking.{steps};
 ghost use Rattle.toggles.specs.Toggles.{flip as flipOf, toggle as toggleOf};
-ghost use Rattle.toggles.specs.Steps.{Bare, AddedNode, Toggles, Flipped};
+ghost use Rattle.toggles.specs.Flipping.{Bare, AddedNode, Toggles, Flipped};
 use marks::Marks;
 
 // The other bit.

@@ -7,10 +7,10 @@ use mathlib.Core.List.{List, [], _∷_, _++_}
 use borrow.Author.Tests.{eq-eqb, ne-eqb}
 use lib.ListN.{length, getD}
 use lib.Seq.{slice-empty, slice-cons}
-use Rattle.contraction.specs.Steps.{entry, entries}
+use Rattle.contraction.specs.Entries.{entry, entries}
 use Rattle.tree_tokens.specs.Tokens.{Token, bare, single, double, decode, toks, Sized}
 use Rattle.tree_tokens.proofs.TokensLaws.{decode-bare, decode-single, decode-double, decode-new, present-none, present-some}
-use Rattle.tree_compress.specs.Steps.{chainLength, Pairing, puts, pairs, pairToken, pairTokens, rest, RestIn, Counted, pairingIn, pairingStart, PairingStep, CompressedTo}
+use Rattle.tree_compress.specs.Pairing.{chainLength, Pairing, puts, pairs, pairToken, pairTokens, rest, RestIn, Counted, pairingIn, pairingStart, PairingStep, CompressedTo}
 use Rattle.tree_compress.specs.declared.PairingMarks.{PairingMarks}
 use Rattle.tree_compress.proofs.Trees.{compressed-tree, compressed-records}
 

@@ -9,11 +9,11 @@ use borrow.Author.Tests.{eq-eqb, ne-eqb}
 use lib.ListN.{length, length-append}
 use Rattle.formula.specs.Formula.{Op, index}
 use Rattle.contraction.specs.Records.{C-rec}
-use Rattle.contraction.specs.Steps.{Entry, entryOf}
-use Rattle.contraction.proofs.Steps.{entries-append}
+use Rattle.contraction.specs.Entries.{Entry, entryOf}
+use Rattle.contraction.proofs.EntryLaws.{entries-append}
 use Rattle.contraction.specs.Rounds.{Work, tip, one, two, compresses, compressed}
 use Rattle.tree_tokens.specs.Tokens.{Token, single, double, flat}
-use Rattle.tree_compress.specs.Steps.{chainLength, Pairing, pairTokens}
+use Rattle.tree_compress.specs.Pairing.{chainLength, Pairing, pairTokens}
 
 -- a chain that ends here is followed by an even number of its own nodes
 abbrev Even : Work → List Token → Type 0

@@ -5,7 +5,7 @@ ghost use mathlib.Core.List.{List};
 ghost use Prim.Native.Nat.{ℕ, _+_, _-_, _≤_, _<_};
 ghost use lib.ListN.{length};
 ghost use Rattle.tree_tokens.specs.Tokens.{decode, Sized};
-ghost use Rattle.tree_compress.specs.Steps.{chainLength, puts, pairs, pairToken, rest, RestIn, Counted, pairingIn, PairingRoom, PairingStep, CompressedTo};
+ghost use Rattle.tree_compress.specs.Pairing.{chainLength, puts, pairs, pairToken, rest, RestIn, Counted, pairingIn, PairingRoom, PairingStep, CompressedTo};
 
 // The lower node of a pair, or 65535, and how far the tokens out and the records are filled.
 struct PairingMarks {

@@ -12,11 +12,11 @@ use Rattle.contraction.specs.Records.{number, Rec}
 use Rattle.contraction.specs.Rounds.{nodes, made, rounds, planted, leafRecs, enough, dwarf}
 use Rattle.contraction.specs.Height.{height}
 use Rattle.contraction.proofs.Rounds.{length-leafRecs}
-use Rattle.contraction.specs.Steps.{Entry, entryAt, entries, entryOf, recOf, recs}
+use Rattle.contraction.specs.Entries.{Entry, entryAt, entries, entryOf, recOf, recs}
 use Rattle.tree_tokens.specs.Tokens.{Shelves, Leaves}
-use Rattle.contraction.proofs.Steps.{records-entries, entries-append, entries-next, length-entries}
+use Rattle.contraction.proofs.EntryLaws.{records-entries, entries-append, entries-next, length-entries}
 use Rattle.tree_dwarf.specs.Dwarfed.{Plans, Planned, Dwarfed}
-use Rattle.tree_dwarf.specs.Steps.{PlantedTo, Rooted, Contracted, ContractedTo, Bounded}
+use Rattle.tree_dwarf.specs.Building.{PlantedTo, Rooted, Contracted, ContractedTo, Bounded}
 use Rattle.tree_dwarf.specs.declared.Figures.{Figures}
 use Rattle.tree_dwarf.proofs.RoundLaws.{leaves-next}
 
@@ -25,11 +25,8 @@ over-more : (f : Formula) (n m : ℕ) → n ≤ m → Over n f → Over m f
 over-more (leaf s) n m h o = omega arith
 over-more (node p l r) n m h o = (over-more l n m h (o .0), over-more r n m h (o .1))
 
-pub plans-postfix : (f : Formula) (names : ℕ) → Over names f → names ≤ 256 → (rest : List ℕ) → Plans f (postfix f ++ rest) (length (postfix f))
-plans-postfix f names over h rest = record { over = over-more f names 256 h over; codes-are = take-at (postfix f) rest (length (postfix f)) refl }
-
 -- n codes are those of (n + 1) / 2 leaves
-pub plans-leaves : (f : Formula) (codes : List ℕ) (n : ℕ) → Plans f codes n → n ≤ length codes → suc n ≡ 2 * leaves f
+plans-leaves : (f : Formula) (codes : List ℕ) (n : ℕ) → Plans f codes n → n ≤ length codes → suc n ≡ 2 * leaves f
 plans-leaves f codes n p h = omega (arith, length-take-le n codes h, ap length (p .codes-are), length-postfix f)
 
 -- a part of each entry is what one array holds
@@ -78,7 +75,7 @@ module _ (f : Formula) (n : ℕ) {a ks fs ss : List ℕ} (count : ℕ) (started 
     }
 
 -- so the numbers stay within the arrays
-pub dwarfed-bounded : (f : Formula) (codes : List ℕ) (n : ℕ) → Plans f codes n → n ≤ length codes → n ≤ 2047 → {ks fs ss : List ℕ} {b : Figures}
+dwarfed-bounded : (f : Formula) (codes : List ℕ) (n : ℕ) → Plans f codes n → n ≤ length codes → n ≤ 2047 → {ks fs ss : List ℕ} {b : Figures}
     → Dwarfed f ks fs ss b → b .nodes ≤ 3072 → Bounded b
 dwarfed-bounded f codes n p h few d total = record {
   leaves-few = omega (arith, plans-leaves f codes n p h, d .leaves-are);

@@ -9,11 +9,11 @@ use lib.ListN.{length, getD, take}
 use lib.Seq.{take-suc}
 use Rattle.formula.specs.Formula.{Op, union, intersection, difference, exclusive, index, code, Formula, leaf, node, leaves, postfix, Over}
 use Rattle.contraction.specs.Rounds.{planted, leafRecs}
-use Rattle.contraction.specs.Steps.{Entry, entry, entries, entryOf}
-use Rattle.contraction.proofs.Steps.{entries-append}
+use Rattle.contraction.specs.Entries.{Entry, entry, entries, entryOf}
+use Rattle.contraction.proofs.EntryLaws.{entries-append}
 use Rattle.tree_tokens.specs.Tokens.{Token, double, flat, decode, toks, Sized}
 use Rattle.tree_tokens.proofs.TokensLaws.{decode-bare, decode-double}
-use Rattle.tree_dwarf.specs.Steps.{Planting, copied, plantCode, plantingIn, plantingStart, PlantedTo}
+use Rattle.tree_dwarf.specs.Building.{Planting, copied, plantCode, plantingIn, plantingStart, PlantedTo}
 
 -- ---- one code
 pub plant-leaf : (ts ts′ ks fs ss ks′ fs′ ss′ : List ℕ) (i c next : ℕ) → toks ts′ (i + 1) ≡ toks ts i ++ (decode next ∷ [])

@@ -12,14 +12,14 @@ use Rattle.contraction.specs.Rounds.{Work, tip, one, two, nodes, tipOf, oneRema
 use Rattle.contraction.specs.Rounds.{compresses, compressed, roundMakes, roundLeaves, made, rounds}
 use Rattle.contraction.proofs.Counts.{compressed-nodes, nodes-pos}
 use Rattle.contraction.proofs.Rounds.{fewer}
-use Rattle.contraction.specs.Steps.{Entry, entries, entryOf}
+use Rattle.contraction.specs.Entries.{Entry, entries, entryOf}
 use Rattle.tree_tokens.specs.Tokens.{flat, toks, Sized, Leaves}
 use Rattle.tree_tokens.specs.declared.Extent.{Extent}
-use Rattle.contraction.proofs.Steps.{entries-append, length-entries}
+use Rattle.contraction.proofs.EntryLaws.{entries-append, length-entries}
 use Rattle.tree_tokens.proofs.TokensLaws.{toks-nodes}
-use Rattle.tree_rake.specs.Steps.{Lengths, RakedTo}
-use Rattle.tree_compress.specs.Steps.{CompressedTo}
-use Rattle.tree_dwarf.specs.Steps.{Rooted, RoundTo, Contracted, ContractedTo}
+use Rattle.tree_rake.specs.Raking.{Lengths, RakedTo}
+use Rattle.tree_compress.specs.Pairing.{CompressedTo}
+use Rattle.tree_dwarf.specs.Building.{Rooted, RoundTo, Contracted, ContractedTo}
 
 -- ---- a step makes no more records than it takes nodes away
 one-room : (d : ℕ) (v : Option ℕ) (c′ : Work) (n m k : ℕ) → m + nodes c′ ≤ k → m + length (rakeOne d v) + nodes (leftOne d v c′ n) ≤ suc k

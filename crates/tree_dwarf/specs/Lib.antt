@@ -1,2 +1,2 @@
 pub mod Dwarfed
-pub mod Steps
+pub mod Building

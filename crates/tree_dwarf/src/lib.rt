@@ -5,9 +5,9 @@ ghost use Prim.Native.Nat.{_+_, _≤_, _<_};
 ghost use lib.ListN.{length};
 ghost use Rattle.formula.specs.Formula.{Formula};
 ghost use Rattle.tree_tokens.specs.Tokens.{Shelves, Sized};
-ghost use Rattle.tree_rake.specs.Steps.{Lengths};
+ghost use Rattle.tree_rake.specs.Raking.{Lengths};
 ghost use Rattle.tree_dwarf.specs.Dwarfed.{Plans, Planned, Dwarfed};
-ghost use Rattle.tree_dwarf.specs.Steps.{plantCode, plantingIn, PlantedTo, Rooted, RoundTo, ContractedTo, Bounded};
+ghost use Rattle.tree_dwarf.specs.Building.{plantCode, plantingIn, PlantedTo, Rooted, RoundTo, ContractedTo, Bounded};
 
 // What a dwarf tree is told by, besides its records.
 pub struct Figures {

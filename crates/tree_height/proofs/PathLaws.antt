@@ -13,9 +13,9 @@ use lib.Seq.{getD-take, take-suc-set, getD-set-same, getD-set-other}
 use Rattle.contraction.specs.Records.{Rec}
 use Rattle.contraction.specs.Height.{worked, last, path, height}
 use Rattle.contraction.proofs.Worked.{worked-snoc}
-use Rattle.contraction.proofs.Steps.{below-none, below-E, below-R, below-rest, recs-next}
-use Rattle.contraction.specs.Steps.{entry, entries, recOf, recAt, recs}
-use Rattle.tree_height.specs.Steps.{Low}
+use Rattle.contraction.proofs.EntryLaws.{below-none, below-E, below-R, below-rest, recs-next}
+use Rattle.contraction.specs.Entries.{entry, entries, recOf, recAt, recs}
+use Rattle.tree_height.specs.Paths.{Low}
 
 -- ---- a step to a node
 take-past : (n : ℕ) (l : List ℕ) (i : ℕ) → n ≤ i → getD (take n l) i 0 ≡ 0

@@ -3,9 +3,9 @@ ghost use mathlib.Core.Path.{_≡_};
 ghost use Prim.Native.Nat.{_+_, _≤_, _<_, max};
 ghost use lib.ListN.{getD, take};
 ghost use Rattle.contraction.specs.Height.{height as heightOf, path as pathOf};
-ghost use Rattle.contraction.specs.Steps.{entry, recOf, recs};
+ghost use Rattle.contraction.specs.Entries.{entry, recOf, recs};
 ghost use Rattle.tree_tokens.specs.Tokens.{Shelves};
-ghost use Rattle.tree_height.specs.Steps.{Low};
+ghost use Rattle.tree_height.specs.Paths.{Low};
 
 fn larger(a: u16, b: u16) -> u16
     ensures { λ r. ⌜ r ≡ max a b ⌝ }

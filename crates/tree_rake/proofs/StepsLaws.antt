@@ -6,10 +6,10 @@ use mathlib.Core.Path.{_≡_, refl, sym, ap, _∙_}
 use mathlib.Core.List.{List, [], _∷_, _++_, foldl, foldl-append}
 use lib.ListN.{length, getD, set}
 use lib.Seq.{getD-set-same, getD-set-other}
-use Rattle.contraction.specs.Steps.{Entry, entry, entries}
+use Rattle.contraction.specs.Entries.{Entry, entry, entries}
 use Rattle.tree_tokens.specs.Tokens.{decode, present, toks}
 use Rattle.tree_tokens.proofs.TokensLaws.{toks-next, decode-bare, decode-single, decode-double, decode-new, present-none, present-some}
-use Rattle.tree_rake.specs.Steps.{Raking, kept, makes, rakeToken, operands, rakingIn, rakingStart, Lengths, RakingStep, RakedTo}
+use Rattle.tree_rake.specs.Raking.{Raking, kept, makes, rakeToken, operands, rakingIn, rakingStart, Lengths, RakingStep, RakedTo}
 use Rattle.tree_rake.specs.declared.RakingMarks.{RakingMarks}
 use Rattle.tree_rake.proofs.Trees.{raked-tree, raked-records}
 

@@ -9,11 +9,11 @@ use mathlib.Core.Option.{Option, none, some}
 use lib.ListN.{length, length-append}
 use Rattle.formula.specs.Formula.{Op, index}
 use Rattle.contraction.specs.Records.{Rec}
-use Rattle.contraction.specs.Steps.{Entry, entryOf}
-use Rattle.contraction.proofs.Steps.{entries-append}
+use Rattle.contraction.specs.Entries.{Entry, entryOf}
+use Rattle.contraction.proofs.EntryLaws.{entries-append}
 use Rattle.contraction.specs.Rounds.{Work, tip, one, two, tipOf, oneRemains, rakeOne, rakeTwo, rakes, leftOne, leftTwo, raked}
 use Rattle.tree_tokens.specs.Tokens.{Token, bare, single, double, flat}
-use Rattle.tree_rake.specs.Steps.{Raking, onSingle, onDouble, rakeToken}
+use Rattle.tree_rake.specs.Raking.{Raking, onSingle, onDouble, rakeToken}
 
 -- what rake leaves of a node, by what its children were
 abbrev leftSingle : ℕ → Option ℕ → ℕ → Token

@@ -4,9 +4,9 @@ ghost use mathlib.Core.Path.{_≡_};
 ghost use mathlib.Core.List.{List};
 ghost use Prim.Native.Nat.{ℕ, _+_, _≤_, _<_};
 ghost use lib.ListN.{length};
-ghost use Rattle.contraction.specs.Steps.{entry};
+ghost use Rattle.contraction.specs.Entries.{entry};
 ghost use Rattle.tree_tokens.specs.Tokens.{decode};
-ghost use Rattle.tree_rake.specs.Steps.{kept, makes, rakeToken, rakingIn, Lengths, RakingRoom, RakingStep, RakedTo};
+ghost use Rattle.tree_rake.specs.Raking.{kept, makes, rakeToken, rakingIn, Lengths, RakingRoom, RakingStep, RakedTo};
 
 // How far the stack, the tokens out and the records are filled.
 struct RakingMarks {

@@ -11,12 +11,12 @@ use lib.ListN.{length, getD, set, take, length-append, length-map}
 use lib.Seq.{take-suc, take-suc-set, length-take-le, getD-set-same, getD-set-other}
 use Rattle.formula.specs.Formula.{index}
 use Rattle.contraction.specs.Rounds.{Work, tip, one, two, nodes}
-use Rattle.contraction.specs.Steps.{entry, entries}
-use Rattle.contraction.proofs.Steps.{entries-none, entries-last, entries-next}
+use Rattle.contraction.specs.Entries.{entry, entries}
+use Rattle.contraction.proofs.EntryLaws.{entries-none, entries-last, entries-next}
 use Rattle.tree_tokens.specs.Tokens.{bare, single, double, flat, decode, present, toks}
 
 -- as many tokens as nodes
-pub length-flat : (w : Work) → length (flat w) ≡ nodes w
+length-flat : (w : Work) → length (flat w) ≡ nodes w
 length-flat (tip d) = refl
 length-flat (one d c) = omega (arith, length-append (flat c) (single d ∷ []), length-flat c)
 length-flat (two o l r) =
@@ -42,7 +42,7 @@ pub present-some : (x : ℕ) → (x ≡ 65535 → ⊥) → present x ≡ some x
 present-some x h = rw (ne-eqb x 65535 h)
 
 -- the first n tokens, and one more
-pub length-toks : (l : List ℕ) (n : ℕ) → n ≤ length l → length (toks l n) ≡ n
+length-toks : (l : List ℕ) (n : ℕ) → n ≤ length l → length (toks l n) ≡ n
 length-toks l n h = length-map (take n l) decode ∙ length-take-le n l h
 
 pub toks-nodes : (w : Work) (l : List ℕ) (n : ℕ) → toks l n ≡ flat w → n ≤ length l → nodes w ≡ n

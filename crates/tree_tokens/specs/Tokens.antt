@@ -9,7 +9,7 @@ use lib.ListN.{length, take}
 use Rattle.formula.specs.Formula.{index, firstOperation}
 use Rattle.contraction.specs.Records.{Rec, absent}
 use Rattle.contraction.specs.Rounds.{Work, tip, one, two}
-use Rattle.contraction.specs.Steps.{Entry, entries, entryOf}
+use Rattle.contraction.specs.Entries.{Entry, entries, entryOf}
 use Rattle.tree_tokens.specs.declared.Extent.{Extent}
 
 -- A leaf or a one-child node with its dwarf root; a two-child node with its operation's index.

@@ -3,7 +3,7 @@ ghost use mathlib.Core.Path.{_≡_};
 ghost use mathlib.Core.List.{[], _∷_, _++_};
 ghost use Prim.Native.Nat.{_+_, _<_};
 ghost use lib.ListN.{length};
-ghost use Rattle.contraction.specs.Steps.{entry, entries};
+ghost use Rattle.contraction.specs.Entries.{entry, entries};
 ghost use Rattle.tree_tokens.specs.Tokens.{decode, toks, Shelves};
 
 // How far the tokens and the records are filled.

@@ -1,7 +1,7 @@
 -- `edit_mix::mix` meets its contract. The loop keeps: i toggles and k edits have acted.
 use Prim.Native.Nat.{_-_}
 use lib.ListN.{length}
-use Rattle.edit_moments.specs.Steps.{desk}
+use Rattle.edit_moments.specs.Waiting.{desk}
 use Rattle.edit_mix.proofs.MixLaws.{Mixing, mixing-start, turn-running, mixing-more, mixing-end}
 use borrow.Author.Needs.{needs}
 use Rattle.edit_mix.proofs.mix.Statement.{statement}

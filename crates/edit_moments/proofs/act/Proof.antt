@@ -1,7 +1,7 @@
 -- `edit_moments::act` meets its contract. The loop keeps: the edits up to number k have acted.
 use Prim.Native.Nat.{_-_}
 use lib.ListN.{length}
-use Rattle.edit_moments.specs.Steps.{desk}
+use Rattle.edit_moments.specs.Waiting.{desk}
 use Rattle.edit_moments.proofs.ActLaws.{Acting, acting-start, acting-can, acting-more, acting-wait, acting-end, acting-stands}
 use borrow.Author.Needs.{needs}
 use Rattle.edit_moments.proofs.act.Statement.{statement}

@@ -1,7 +1,7 @@
 -- `job_name::count` meets its contract. The invariant: those counted and those left are all.
 use Prim.Native.Nat.{_-_}
 use lib.ListN.{length}
-use Rattle.job_name.specs.Steps.{fittedNumber}
+use Rattle.job_name.specs.Within.{fittedNumber}
 use Rattle.job_name.proofs.Counting.{Counting, count-start, count-inside, count-few, count-next, count-done}
 use borrow.Author.Needs.{needs}
 use Rattle.job_name.proofs.count.Statement.{statement}

@@ -1,7 +1,7 @@
 -- Start by start, with the crossings between.
 use Rattle.line_columns.proofs.WordLaws.{word-none, start-ready, word-start, word-crossings, word-over, word-full}
 use Prim.Native.Nat.{_-_}
-use Rattle.line_columns.specs.Steps.{WordPlanning}
+use Rattle.line_columns.specs.Planning.{WordPlanning}
 use borrow.Author.Needs.{needs}
 use Rattle.line_columns.proofs.plan_word.Statement.{statement}
 use Rattle.line_columns.proofs.plan_word.Tie as tie

@@ -1,7 +1,7 @@
 -- One crossing after another.
 use Prim.Native.Nat.{_-_}
 use Rattle.line_events.proofs.EndLaws.{HoldTo, hold-none, hold-more, hold-all}
-use Rattle.lines.specs.Steps.{groupEndsAt}
+use Rattle.lines.specs.AtIndex.{groupEndsAt}
 use borrow.Author.Needs.{needs}
 use Rattle.line_events.proofs.all_end.Statement.{statement}
 use Rattle.line_events.proofs.all_end.Tie as tie

@@ -1,7 +1,7 @@
 -- One position after another.
 use Prim.Native.Nat.{_-_}
 use Rattle.line_events.proofs.EndLaws.{HoldTo, hold-none, hold-more, hold-all}
-use Rattle.line_events.specs.Steps.{risesAt}
+use Rattle.line_events.specs.Noted.{risesAt}
 use borrow.Author.Needs.{needs}
 use Rattle.line_events.proofs.all_rise.Statement.{statement}
 use Rattle.line_events.proofs.all_rise.Tie as tie

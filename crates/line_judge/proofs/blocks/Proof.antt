@@ -1,19 +1,20 @@
 -- Block by block, as long as a crossing or a line's start is left and no entry is wrong.
 use lib.ListN.{length}
-use Rattle.lines.specs.Lines.{lineLists}
+use Rattle.lines.specs.Lines.{lineLists, answerLists}
 use Rattle.line_blocks.specs.Blocks.{leftOf}
 use Rattle.line_blocks.proofs.PassLaws.{pass-whole, pass-said}
 use Rattle.line_judging.specs.Judging.{theirLists}
-use Rattle.line_judge.proofs.JudgeLaws.{Looping, looping-start, looping-sized, looping-ask, looping-more, looping-wrong, looping-over, looping-right}
+use Rattle.line_judge.proofs.JudgeLaws.{Looping, looping-start, looping-sized, looping-ask, looping-ours, looping-less, looping-long, looping-more, looping-wrong, looping-over, looping-right}
 use borrow.Author.Needs.{needs}
 use Rattle.line_judge.proofs.blocks.Statement.{statement}
 use Rattle.line_judge.proofs.blocks.Tie as tie
 
 abbrev Inv-loop : tie.InvT-loop
-Inv-loop stretches links arranged names air words₀ rows line at shape tl ts te count cols₀ starts₀ lasts₀ events₀ p₀ words cols starts lasts events p = Looping stretches links arranged names (lineLists rows line at shape) (theirLists tl ts te) count words₀ words cols starts lasts events p
+Inv-loop stretches links arranged names air words₀ rows line at shape tl ts te count cols₀ starts₀ lasts₀ events₀ wl₀ ws₀ we₀ wf₀ wt₀ p₀ next₀ words cols starts lasts events wl ws we wf wt p next =
+    Looping stretches links arranged names (lineLists rows line at shape) (theirLists tl ts te) count words₀ words cols starts lasts events p next (answerLists wl ws we wf wt)
 
 abbrev μ-loop : tie.MeasureT-loop
-μ-loop stretches links arranged names air words₀ rows line at shape tl ts te count cols₀ starts₀ lasts₀ events₀ p₀ words cols starts lasts events p = length (leftOf names (lineLists rows line at shape) (p .pass))
+μ-loop stretches links arranged names air words₀ rows line at shape tl ts te count cols₀ starts₀ lasts₀ events₀ wl₀ ws₀ we₀ wf₀ wt₀ p₀ next₀ words cols starts lasts events wl ws we wf wt p next = length (leftOf names (lineLists rows line at shape) (p .pass))
 
 div-count : tie.Need-div-count Inv-loop μ-loop
 div-count c = search needs
@@ -27,20 +28,56 @@ loop-holds c = search looping-start
 is-left-requires : tie.Need-is-left-requires Inv-loop μ-loop
 is-left-requires c κs = search needs
 
+afresh-requires : tie.Need-afresh-requires Inv-loop μ-loop
+afresh-requires c κs = search needs
+
+slice-aggregate-step : tie.Need-slice-aggregate-step Inv-loop μ-loop
+slice-aggregate-step c = search needs
+
+slice-aggregate-step-2 : tie.Need-slice-aggregate-step-2 Inv-loop μ-loop
+slice-aggregate-step-2 c = search needs
+
+slice-aggregate-step-3 : tie.Need-slice-aggregate-step-3 Inv-loop μ-loop
+slice-aggregate-step-3 c = search needs
+
+slice-aggregate-step-4 : tie.Need-slice-aggregate-step-4 Inv-loop μ-loop
+slice-aggregate-step-4 c = search needs
+
+slice-aggregate-step-5 : tie.Need-slice-aggregate-step-5 Inv-loop μ-loop
+slice-aggregate-step-5 c = search needs
+
 step-requires : tie.Need-step-requires Inv-loop μ-loop
-step-requires c κs = let s = c .before .before .before .before .before in (looping-ask (s .before .before .loop .inv) (s .before .is-left .ensures) (s .if1 .taken), search looping-sized, search needs)
+step-requires c κs = let a = c .before .before .before .before .before .before .before .before .before .before in (looping-ask (a .before .before .before .loop .inv) (a .before .before .is-left .ensures) (a .afresh .ensures) (a .before .if1 .taken), search looping-sized, search needs)
 
-same-length : tie.Need-same-length Inv-loop μ-loop
-same-length c = search needs
+slice-aggregate-eat-all : tie.Need-slice-aggregate-eat-all Inv-loop μ-loop
+slice-aggregate-eat-all c = search needs
 
-returns : tie.Need-returns Inv-loop μ-loop
-returns c = search looping-wrong
+slice-aggregate-eat-all-2 : tie.Need-slice-aggregate-eat-all-2 Inv-loop μ-loop
+slice-aggregate-eat-all-2 c = search needs
+
+slice-aggregate-eat-all-3 : tie.Need-slice-aggregate-eat-all-3 Inv-loop μ-loop
+slice-aggregate-eat-all-3 c = search needs
+
+eat-all-requires : tie.Need-eat-all-requires Inv-loop μ-loop
+eat-all-requires c κs = let s = c .before .before .before .before .before .before .before .before .before .before .before in let a = s .before .before .before .before .before .before .before .before .before .before .before in let l = a .before .before .before .loop .inv in (l .same, looping-ours l (a .afresh .ensures) (s .step .ensures))
+
+enum-known-eaten : tie.Need-enum-known-eaten Inv-loop μ-loop
+enum-known-eaten c = search needs
 
 loop-less : tie.Need-loop-less Inv-loop μ-loop
-loop-less c = search needs
+loop-less c = let s = c .before .before .before .before .before .before .before .before .before .before .before .before .before .before .before in let a = s .before .before .before .before .before .before .before .before .before .before .before in let l = a .before .before .before .loop .inv in looping-less l (a .afresh .ensures) (s .step .ensures)
 
 loop-again : tie.Need-loop-again Inv-loop μ-loop
-loop-again c = search looping-more
+loop-again c = let s = c .before .before .before .before .before .before .before .before .before .before .before .before .before .before .before in let a = s .before .before .before .before .before .before .before .before .before .before .before in let l = a .before .before .before .loop .inv in looping-more l (a .afresh .ensures) (s .step .ensures) (c .before .before .before .eat-all .ensures) (c .before .eaten .given .1)
+
+enum-known-eaten-2 : tie.Need-enum-known-eaten-2 Inv-loop μ-loop
+enum-known-eaten-2 c = search needs
+
+same-length : tie.Need-same-length Inv-loop μ-loop
+same-length c = let s = c .before .before .before .before .before .before .before .before .before .before .before .before .before .before .before in let a = s .before .before .before .before .before .before .before .before .before .before .before in let l = a .before .before .before .loop .inv in looping-long l (a .afresh .ensures) (s .step .ensures)
+
+returns : tie.Need-returns Inv-loop μ-loop
+returns c = let s = c .before .before .before .before .before .before .before .before .before .before .before .before .before .before .before in let a = s .before .before .before .before .before .before .before .before .before .before .before in let l = a .before .before .before .loop .inv in looping-wrong l (a .afresh .ensures) (s .step .ensures) (c .before .before .before .eat-all .ensures) (c .before .eaten2 .given .1)
 
 same-length-2 : tie.Need-same-length-2 Inv-loop μ-loop
 same-length-2 c = search needs
@@ -64,11 +101,23 @@ blocks-spec =
     begin-requires
     loop-holds
     is-left-requires
+    afresh-requires
+    slice-aggregate-step
+    slice-aggregate-step-2
+    slice-aggregate-step-3
+    slice-aggregate-step-4
+    slice-aggregate-step-5
     step-requires
-    same-length
-    returns
+    slice-aggregate-eat-all
+    slice-aggregate-eat-all-2
+    slice-aggregate-eat-all-3
+    eat-all-requires
+    enum-known-eaten
     loop-less
     loop-again
+    enum-known-eaten-2
+    same-length
+    returns
     same-length-2
     returns-2
     same-length-3

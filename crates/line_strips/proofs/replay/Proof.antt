@@ -1,7 +1,7 @@
 -- `line_strips::replay` meets its contract.
 use borrow.Author.Needs.{needs}
 use Prim.Native.Nat.{_-_, _*_}
-use Rattle.line_strips.specs.Steps.{turnsOf}
+use Rattle.line_strips.specs.Filling.{turnsOf}
 use Rattle.line_strips.proofs.Turns.{legible-next}
 use Rattle.line_strips.proofs.Opens.{Replaying, replaying-none, replaying-more, replaying-room, replaying-end}
 use Rattle.line_strips.proofs.replay.Statement.{statement}

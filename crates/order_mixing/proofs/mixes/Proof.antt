@@ -3,7 +3,7 @@ use Prim.Native.Nat.{_-_}
 use lib.Dec.{lit<}
 use lib.ListN.{length}
 use borrow.Author.Needs.{needs}
-use Rattle.order_mixing.specs.Steps.{Counting}
+use Rattle.order_mixing.specs.Turns.{Counting}
 use Rattle.order_mixing.proofs.Orders.{counting-start, counting-more, counting-fits, neither, mixed, first-differs}
 use Rattle.order_mixing.proofs.mixes.Statement.{statement}
 use Rattle.order_mixing.proofs.mixes.Tie as tie

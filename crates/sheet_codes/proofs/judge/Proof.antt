@@ -8,7 +8,7 @@ use native.Mathlib.Nat.{add-zero}
 use Rattle.outcome.specs.Outcome.{part}
 use Rattle.formula.specs.Formula.{leaves as leavesOf}
 use Rattle.sheet.specs.Sheet.{codesOf, formulaOf}
-use Rattle.sheet_codes.specs.Steps.{countedLeaves}
+use Rattle.sheet_codes.specs.Operands.{countedLeaves}
 use Rattle.sheet.proofs.Bounds.{bounds}
 use Rattle.sheet_codes.proofs.CodeSteps.{formulaOf-counted, count-leaf, count-operation, count-low, count-high, count-few, count-one, count-other}
 use Rattle.sheet_codes.proofs.judge.Statement.{statement}

@@ -5,7 +5,7 @@ use Prim.Native.Nat.{_-_}
 use borrow.Author.Needs.{needs}
 use Rattle.sheet.specs.Walk.{walkEnd, walkNames, fittedBy}
 use Rattle.sheet_names.specs.Keys.{NamesRead}
-use Rattle.sheet_reading.specs.Steps.{toldFrom}
+use Rattle.sheet_reading.specs.Told.{toldFrom}
 use Rattle.sheet_reading.proofs.Reading.{read-refused, read-end, read-formula, read-name, name-room, name-here, name-known}
 use Rattle.sheet_reading.proofs.read_fields.Statement.{statement}
 use Rattle.sheet_reading.proofs.read_fields.Tie as tie

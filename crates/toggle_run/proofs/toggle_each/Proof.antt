@@ -3,7 +3,7 @@ use Prim.Native.Nat.{_-_}
 use mathlib.Core.Path.{_≡_}
 use borrow.Author.Needs.{needs}
 use lib.ListN.{length, take}
-use Rattle.contraction.specs.Steps.{recs}
+use Rattle.contraction.specs.Entries.{recs}
 use Rattle.toggle_run.proofs.Filling.{Running, running-start, shape-below, count-room, root-room, running-more, running-end}
 use Rattle.toggle_run.proofs.toggle_each.Statement.{statement}
 use Rattle.toggle_run.proofs.toggle_each.Tie as tie

@@ -8,7 +8,7 @@ use lib.ListN.{length, getD}
 use Rattle.line_bits.specs.Words.{bit}
 use Rattle.line_strips.specs.Strips.{wide, columns, cell}
 use Rattle.line_events.specs.Events.{endsIn, settled, changesAt, opensAt, eventsAt, metalNext}
-use Rattle.line_events.specs.Steps.{Noted, Events}
+use Rattle.line_events.specs.Noted.{Noted, Events}
 use Rattle.line_events.specs.declared.Found.{Found}
 
 -- a column that says what was there before it, and past which no metal goes on if it is the last of its line

@@ -11,7 +11,7 @@ use lib.Dec.{ltb, eqb}
 use borrow.Author.Tests.{lt-ltb, le-ltb, ltb-true, ltb-false, eqb-true, eqb-false}
 use Rattle.formula.specs.Formula.{union, intersection, difference, exclusive, opAt}
 use Rattle.contraction.specs.Records.{left, right, Kind, leaf, E, R, S, C, number, Rec, below}
-use Rattle.contraction.specs.Steps.{Entry, entryAt, entries, entryOf, kindAt, recOf, recAt, recs}
+use Rattle.contraction.specs.Entries.{Entry, entryAt, entries, entryOf, kindAt, recOf, recAt, recs}
 
 -- the kind with the number of a kind
 pub kindAt-number : (k : Kind) → kindAt (number k) ≡ k

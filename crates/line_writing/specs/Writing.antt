@@ -11,7 +11,7 @@ use Rattle.formula.specs.States.{State}
 use Rattle.lines.specs.Lines.{AnswerLists, Wall, Edge}
 use Rattle.line_strips.specs.Strips.{columns}
 use Rattle.line_turns.specs.Turns.{Held, eventLine, eventEdge, ending, beginning, wallsBy, openBy}
-use Rattle.line_turns.specs.Steps.{openFrom, EventHeld}
+use Rattle.line_turns.specs.Spots.{openFrom, EventHeld}
 use Rattle.line_writing.specs.declared.Finished.{Finished}
 use Rattle.line_writing.specs.declared.Course.{Course}
 
@@ -107,4 +107,5 @@ pub record Made (start : ℕ → State) (b : Held) (starts es : List ℕ) (r : C
 
 pub record Delivered (b : Held) (starts events : List ℕ) (m : ℕ) (r : Course) (lent : AnswerLists) (r′ : Course) (after : AnswerLists) : Type 0 where
   pub same : SameLengths lent after
+  pub room : Roomy (r′ .count) lent
   pub made : (start : ℕ → State) → Made start b starts (take m events) r lent r′ after

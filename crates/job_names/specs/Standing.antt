@@ -4,7 +4,7 @@ use mathlib.Core.List.{List, map}
 use lib.ListN.{length}
 use Rattle.sheet.specs.Sheet.{Sheets}
 use Rattle.job_name.specs.Naming.{Stand, fieldIn, standOf}
-use Rattle.job_name.specs.Steps.{fittedAmong}
+use Rattle.job_name.specs.Within.{fittedAmong}
 use Rattle.job_names.specs.Names.{numbersBelow}
 
 -- The first n names of a sheet.

@@ -5,10 +5,10 @@ use mathlib.Core.List.{List}
 use lib.ListN.{length, take}
 use Rattle.outcome.specs.Lent.{filled}
 use Rattle.contraction.specs.Records.{Rec}
-use Rattle.contraction.specs.Steps.{recs}
+use Rattle.contraction.specs.Entries.{recs}
 use Rattle.formula.specs.States.{outside}
 use Rattle.labels.specs.Labels.{labels}
-use Rattle.labels.specs.Steps.{Rules, Ready}
+use Rattle.labels.specs.Linked.{Rules, Ready}
 use Rattle.toggles.specs.Toggles.{toggleEach}
 
 -- All that a run fills before its first toggle.

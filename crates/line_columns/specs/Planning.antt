@@ -8,7 +8,7 @@ use lib.ListN.{getD, length, drop, set}
 use Rattle.lines.specs.Lines.{LineLists, lineLists, rowCount, startState}
 use Rattle.lines.specs.Columns.{anyInside}
 use Rattle.lines.specs.Marked.{markAt}
-use Rattle.lines.specs.Steps.{Ascending}
+use Rattle.lines.specs.AtIndex.{Ascending}
 use Rattle.line_bits.specs.Words.{bit}
 use Rattle.line_strips.specs.Strips.{Plan, planned, wide, columns}
 use Rattle.line_runs.specs.Runs.{overAt}

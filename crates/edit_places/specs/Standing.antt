@@ -6,7 +6,7 @@ use mathlib.Core.List.{List}
 use lib.Dec.{ltb, eqb}
 use lib.ListN.{length, getD, set, take, replicate}
 use Rattle.formula.specs.Formula.{firstOperation, Formula, Over, postfix}
-use Rattle.contraction.specs.Steps.{kindAt}
+use Rattle.contraction.specs.Entries.{kindAt}
 use Rattle.edits.specs.Spots.{Ups, LeafSpots, works}
 
 -- At a code: for each position before it the first position of the operand that ends there, the operations over operands, where the leaves stand.

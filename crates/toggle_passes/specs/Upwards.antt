@@ -6,10 +6,10 @@ use mathlib.Core.List.{List}
 use lib.Dec.{eqb, ltb}
 use lib.ListN.{length, getD, set}
 use Rattle.contraction.specs.Records.{children}
-use Rattle.contraction.specs.Steps.{recAt}
+use Rattle.contraction.specs.Entries.{recAt}
 use Rattle.marks.specs.declared.Marks.{Marks}
 use Rattle.marks.specs.Marks.{marked, all, Rising, Lowest}
-use Rattle.labels.specs.Steps.{Rules, Linked}
+use Rattle.labels.specs.Linked.{Rules, Linked}
 use Rattle.toggle_passes.specs.Reworking.{changed, reworked}
 
 -- The labels ls of the nodes differ from those before, `old`, at node c and nowhere else.

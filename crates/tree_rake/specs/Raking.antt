@@ -7,7 +7,7 @@ use mathlib.Core.Option.{Option, none, some}
 use lib.ListN.{length, getD}
 use Rattle.contraction.specs.Records.{absent, S-rec}
 use Rattle.contraction.specs.Rounds.{Work, oneRemains, rakes, raked}
-use Rattle.contraction.specs.Steps.{Entry, entry, entries, entryOf}
+use Rattle.contraction.specs.Entries.{Entry, entry, entries, entryOf}
 use Rattle.tree_tokens.specs.Tokens.{Token, bare, single, double, present, flat, toks, Sized, Leaves}
 use Rattle.tree_tokens.specs.declared.Extent.{Extent}
 use Rattle.tree_rake.specs.declared.RakingMarks.{RakingMarks}

@@ -10,7 +10,7 @@ use lib.ListN.{length, drop, getD}
 use lib.Signed.{leZ}
 use Rattle.outcome.specs.Outcome.{Outcome, given}
 use Rattle.lines.specs.Lines.{Crossing, crossings, low, high, falls, strays, ordered}
-use Rattle.lines.specs.Steps.{item}
+use Rattle.lines.specs.AtIndex.{item}
 
 -- the crossing before the i-th
 abbrev pub prior : List ℕ → List ℤ → List ℕ → ℕ → Option Crossing

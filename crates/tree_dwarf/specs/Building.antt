@@ -7,7 +7,7 @@ use lib.Dec.{ltb}
 use Rattle.formula.specs.Formula.{Formula, firstOperation}
 use Rattle.contraction.specs.Records.{leafRec}
 use Rattle.contraction.specs.Rounds.{Work, nodes, made, rounds, planted, leafRecs, roundMakes, roundLeaves}
-use Rattle.contraction.specs.Steps.{Entry, entries, entryOf}
+use Rattle.contraction.specs.Entries.{Entry, entries, entryOf}
 use Rattle.tree_tokens.specs.Tokens.{Token, bare, double, flat, toks, Shelves, Leaves}
 use Rattle.tree_tokens.specs.declared.Extent.{Extent}
 use Rattle.tree_dwarf.specs.Dwarfed.{Plans}

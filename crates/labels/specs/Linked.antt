@@ -5,7 +5,7 @@ use mathlib.Core.Bool.{Bool, true, false}
 use mathlib.Core.List.{List, [], _∷_}
 use lib.ListN.{getD, set}
 use Rattle.contraction.specs.Records.{Rec, absent, isLeaf, over}
-use Rattle.contraction.specs.Steps.{kindAt, recAt, recs}
+use Rattle.contraction.specs.Entries.{kindAt, recAt, recs}
 use Rattle.labels.specs.Labels.{rule, isOf}
 
 -- The number of the first record that passes, of records numbered from j on; 65535 where there is none.

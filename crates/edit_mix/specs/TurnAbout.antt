@@ -8,15 +8,15 @@ use Rattle.formula.specs.Formula.{Formula}
 use Rattle.formula.specs.States.{toggledBy}
 use Rattle.contraction.specs.Rounds.{dwarf}
 use Rattle.contraction.specs.Height.{last}
-use Rattle.contraction.specs.Steps.{recs}
+use Rattle.contraction.specs.Entries.{recs}
 use Rattle.labels.specs.Labels.{labels}
-use Rattle.labels.specs.Steps.{Chains}
+use Rattle.labels.specs.Linked.{Chains}
 use Rattle.toggle_passes.specs.Reworking.{steps}
 use Rattle.toggles.specs.Toggles.{toggle}
-use Rattle.toggles.specs.Steps.{Toggles}
+use Rattle.toggles.specs.Flipping.{Toggles}
 use Rattle.toggle_run.specs.Ran.{ToggleRoom}
 use Rattle.edit_moments.specs.Edits.{editedBy, editCounts}
-use Rattle.edit_moments.specs.Steps.{Desk, waiting, Plan, At}
+use Rattle.edit_moments.specs.Waiting.{Desk, waiting, Plan, At}
 use Rattle.edit_mix.specs.Edits.{rootsAfter, countsAfter}
 
 abbrev pub plan : Formula → List ℕ → List ℕ → Plan

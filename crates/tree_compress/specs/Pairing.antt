@@ -10,7 +10,7 @@ use lib.ListN.{length}
 use lib.Seq.{slice}
 use Rattle.contraction.specs.Records.{C-rec}
 use Rattle.contraction.specs.Rounds.{Work, compresses, compressed}
-use Rattle.contraction.specs.Steps.{Entry, entries, entryOf}
+use Rattle.contraction.specs.Entries.{Entry, entries, entryOf}
 use Rattle.tree_tokens.specs.Tokens.{Token, bare, single, double, flat, decode, present, toks, Leaves}
 use Rattle.tree_tokens.specs.declared.Extent.{Extent}
 use Rattle.tree_compress.specs.declared.PairingMarks.{PairingMarks}

@@ -9,7 +9,7 @@ use Rattle.formula.specs.States.{toggledBy}
 use Rattle.contraction.specs.Rounds.{dwarf}
 use Rattle.labels.specs.Labels.{labels}
 use Rattle.labels.specs.Arrays.{Holds}
-use Rattle.labels.specs.Steps.{Rules, Parents, Linked}
+use Rattle.labels.specs.Linked.{Rules, Parents, Linked}
 use Rattle.edit_places.specs.Places.{Places}
 use Rattle.edit_moments.specs.Edits.{Edit, editsOf, editedBy, editCounts}
 use Rattle.edit_moments.specs.Listed.{Operations, Rises, Listed}

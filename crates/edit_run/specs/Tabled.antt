@@ -10,9 +10,9 @@ use Rattle.toggle_run.specs.Ran.{ToggleRoom}
 use Rattle.edit_places.specs.Places.{Places}
 use Rattle.edit_moments.specs.Edits.{editsOf}
 use Rattle.edit_moments.specs.Listed.{Operations, Rises, Listed}
-use Rattle.edit_moments.specs.Steps.{Desk}
+use Rattle.edit_moments.specs.Waiting.{Desk}
 use Rattle.edit_mix.specs.Edits.{answersOf}
-use Rattle.edit_mix.specs.Steps.{CanTurn, MixDone}
+use Rattle.edit_mix.specs.TurnAbout.{CanTurn, MixDone}
 use Rattle.edit_run.specs.Ran.{EditedRun}
 
 -- ---- From the tables on

@@ -5,11 +5,11 @@ use mathlib.Core.Bool.{_&&_, _||_}
 use mathlib.Core.List.{List}
 use lib.Dec.{eqb, ltb}
 use lib.ListN.{length, take}
-use Rattle.contraction.specs.Steps.{recs}
+use Rattle.contraction.specs.Entries.{recs}
 use Rattle.marks.specs.declared.Marks.{Marks}
 use Rattle.marks.specs.Marks.{marked, all, Rising, Empty}
-use Rattle.labels.specs.Steps.{Rules, Ready}
-use Rattle.toggle_passes.specs.Steps.{Due, Within}
+use Rattle.labels.specs.Linked.{Rules, Ready}
+use Rattle.toggle_passes.specs.Upwards.{Due, Within}
 use Rattle.toggles.specs.Toggles.{flipLeaves}
 
 -- No mark at all, and the first word in hand.
