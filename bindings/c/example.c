@@ -177,8 +177,56 @@ static void classify_cut(void) {
     expect(r.number == KRESSEDACH_GIVEN && r.walls == 3 && wall_lines[0] == 0 && wall_lines[2] == 1, "three walls");
     expect(starts[0] == KRESSEDACH_OPEN_START && ends[0] == KRESSEDACH_OPEN_END, "metal from end to end");
     expect(start_shapes[0] == KRESSEDACH_OPEN_SHAPE && end_shapes[0] == KRESSEDACH_OPEN_SHAPE, "with no shape at either end");
+    expect((int64_t)ends[0] - starts[0] == 4294967295, "a length that 32 bits with a sign do not hold");
     expect(starts[1] == KRESSEDACH_OPEN_START && ends[1] == 40 && end_shapes[1] == 1, "open before the bore");
     expect(starts[2] == 60 && ends[2] == 100 && end_shapes[2] == 0, "out of the block");
+}
+
+/* Lists that are cut before line 1, each part asked by itself, as on another thread or another machine: the rows are cut there too, and the
+ * later lines' numbers are lowered by the lines before the cut. One part's walls after the other's, their lines raised again, are those of
+ * the whole. Where a part is refused, the whole is asked, and says the number and the place. */
+static void classify_in_parts(void) {
+    static const uint8_t rows[] = {0, 0, /* line 0 */ 1, 0, /* line 1, which starts in the block */ 0, 0 /* line 2 */};
+    static const uint32_t on[] = {0, 0, 1, 2, 2}, falling[] = {0, 0, 1, 0, 2};
+    static const int32_t at[] = {0, 100, 30, 10, 20};
+    static const uint16_t of[LENGTH(on)] = {0};
+    enum { CUT = 1, BEFORE = 2, AFTER = 3, PARTS_ROOM = 5 }; /* lines and crossings before the cut, and crossings after it */
+    uint32_t whole_lines[PARTS_ROOM], part_lines[PARTS_ROOM], lowered[AFTER];
+    int32_t whole_starts[PARTS_ROOM], whole_ends[PARTS_ROOM], part_starts[PARTS_ROOM], part_ends[PARTS_ROOM];
+    uint16_t whole_first[PARTS_ROOM], whole_last[PARTS_ROOM], part_first[PARTS_ROOM], part_last[PARTS_ROOM];
+    struct kressedach_classify_report whole, first, second;
+    kressedach_classify(&whole, ALONE(sheet), LIST(rows), LIST(on), LIST(at), LIST(of), LIST(whole_lines), LIST(whole_starts),
+                        LIST(whole_ends), LIST(whole_first), LIST(whole_last));
+
+    kressedach_classify(&first, ALONE(sheet), rows, 2 * CUT, on, BEFORE, at, BEFORE, of, BEFORE, LIST(part_lines), LIST(part_starts),
+                        LIST(part_ends), LIST(part_first), LIST(part_last));
+    for (size_t k = 0; k < AFTER; k++) {
+        lowered[k] = on[BEFORE + k] - CUT;
+    }
+    /* what is left of the same lists is room enough for the second part */
+    size_t w = first.walls, left = PARTS_ROOM - w;
+    kressedach_classify(&second, ALONE(sheet), rows + 2 * CUT, sizeof rows - 2 * CUT, LIST(lowered), at + BEFORE, AFTER, of + BEFORE, AFTER,
+                        part_lines + w, left, part_starts + w, left, part_ends + w, left, part_first + w, left, part_last + w, left);
+    for (size_t k = 0; k < second.walls; k++) {
+        part_lines[w + k] += CUT;
+    }
+    printf("in two parts: %zu and %zu walls, in one call %zu\n", first.walls, second.walls, whole.walls);
+    expect(whole.number == KRESSEDACH_GIVEN && whole.walls == 3 && first.walls == 1 && second.walls == 2, "all are given");
+    expect(memcmp(part_lines, whole_lines, 3 * sizeof *whole_lines) == 0, "the lines are those of the whole");
+    expect(memcmp(part_starts, whole_starts, 3 * sizeof *whole_starts) == 0, "the starts are");
+    expect(memcmp(part_ends, whole_ends, 3 * sizeof *whole_ends) == 0, "the ends are");
+    expect(memcmp(part_first, whole_first, 3 * sizeof *whole_first) == 0, "the shapes there are");
+    expect(memcmp(part_last, whole_last, 3 * sizeof *whole_last) == 0, "and these");
+
+    for (size_t k = 0; k < AFTER; k++) {
+        lowered[k] = falling[BEFORE + k] - CUT;
+    }
+    kressedach_classify(&second, ALONE(sheet), rows + 2 * CUT, sizeof rows - 2 * CUT, LIST(lowered), at + BEFORE, AFTER, of + BEFORE, AFTER,
+                        LIST(part_lines), LIST(part_starts), LIST(part_ends), LIST(part_first), LIST(part_last));
+    expect(second.number == KRESSEDACH_ASTRAY && second.place == 1, "a line before the cut has no row in the part");
+    kressedach_classify(&whole, ALONE(sheet), LIST(rows), LIST(falling), LIST(at), LIST(of), LIST(whole_lines), LIST(whole_starts),
+                        LIST(whole_ends), LIST(whole_first), LIST(whole_last));
+    expect(whole.number == KRESSEDACH_FALLS && whole.place == 3, "the whole says that its number falls, and where");
 }
 
 /* The block and the bore as two boxes of a drawing, and a line through both. */
@@ -351,6 +399,7 @@ int main(void) {
     run_with_edits();
     classify_lines();
     classify_cut();
+    classify_in_parts();
     judge_theirs();
     cross_drawing();
     cross_lines();

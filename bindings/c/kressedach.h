@@ -36,8 +36,8 @@
  *    it does when a program starts. Who has changed that (fesetround, flushing to zero, a part linked with -ffast-math) sets it back
  *    before a call.
  *
- * Of this gcc and clang warn of what they can see when they compile: a report that is NULL, a list that is NULL and has entries, and a list
- * that is shorter than said.
+ * Of this gcc (from 10 on, with -Wall) and clang warn of what they can see when they compile: a report that is NULL, a list that is NULL and
+ * has entries, and a list that is shorter than said.
  *
  * The compiler checks these declarations against nothing; bindings/rust/tests/declared.rs compares them with crates/kressedach/src/lib.rt.
  */
@@ -113,7 +113,7 @@ enum kressedach_number {
     KRESSEDACH_EDIT_WRONG = 20     /* the index: a node that is no operation, a code that is none, a moment that falls or exceeds the toggles */
 };
 
-/* What a number means, in words; docs/SHEET.md has the table. Of 16 and 18, whose place decides, all that it can be. */
+/* What a number means: the words of the column 'given when' of the table in docs/SHEET.md. */
 static inline const char *kressedach_meaning(uint8_t number) {
     switch (number) {
     case KRESSEDACH_GIVEN: return "given";
@@ -124,23 +124,25 @@ static inline const char *kressedach_meaning(uint8_t number) {
     case KRESSEDACH_NAME_TAKEN: return "a name that is taken already";
     case KRESSEDACH_TOO_LARGE: return "more than 256 names, or a formula longer than 4094 bytes";
     case KRESSEDACH_FORMULA_WRONG: return "the formula is wrong";
-    case KRESSEDACH_TOO_HIGH: return "the contracted tree is higher than 57";
+    case KRESSEDACH_TOO_HIGH: return "the contracted tree is higher than 57: proved never to come";
     case KRESSEDACH_LIST_TOO_SHORT: return "an answer list is too short";
     case KRESSEDACH_NO_SUCH_SHAPE: return "a shape number that no name has";
     case KRESSEDACH_FALLS: return "a line number falls, or a position falls within its line";
     case KRESSEDACH_ODD: return "given no more: a shape crossed an odd number of times on a line";
     case KRESSEDACH_LENGTHS_DIFFER:
-        return "lists that go together differ in length, or an order does not mix the lists of two foundries";
+        return "lists that go together differ in length (crossings, another's walls, edits), or an order does not mix the lists of "
+               "two foundries";
     case KRESSEDACH_ROWS_WRONG:
-        return "the start rows' length is no multiple of the number of names, they are more than 4294967296, or a byte is neither 0 nor 1";
+        return "the start rows' length is no multiple of the number of names, they are more than 4294967296, or a byte is neither 0 "
+               "nor 1; of lines to cross: they are more than 4294967296";
     case KRESSEDACH_ASTRAY: return "a position at an end mark, -2147483648 or 2147483647, or a line with no start row";
     case KRESSEDACH_SHAPE_WRONG:
-        return "more than 256 shapes; a number of the line is not finite, or its direction is all zero; "
-               "an axis above 2, a number that is not finite, a low not below its high, or a position out of range";
-    case KRESSEDACH_FITTINGS_NAME: return "a name that a fitting has";
-    case KRESSEDACH_BALL_WRONG: return "more than 256 balls; an offset, a radius or a centre out of its range";
-    case KRESSEDACH_OUT_OF_USE:
-        return "exclusive union, 0xFFF3, is out of use: a sheet that has it does not move to edition 2";
+        return "half-spaces and boxes: more than 256, the line (a number that is not finite, or a direction all zero), or a shape "
+               "(an axis above 2, a number that is not finite, a low not below its high, a position that is not finite or outside "
+               "-2147483647 to 2147483646)";
+    case KRESSEDACH_FITTINGS_NAME: return "a customer's name that a fitting has";
+    case KRESSEDACH_BALL_WRONG: return "balls: more than 256, or an offset, a radius or a centre out of its range";
+    case KRESSEDACH_OUT_OF_USE: return "a move to edition 2 of a sheet with an exclusive union";
     case KRESSEDACH_EDIT_WRONG:
         return "an edit of a node that is no operation, to a code that is none, or at a moment that falls or exceeds the toggles";
     default: return "unknown";

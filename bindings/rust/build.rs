@@ -5,10 +5,12 @@
 //!    is none, or an old one, `bindings/archive` proves the library and compiles it: from nothing that takes as long as the proofs do,
 //!    afterwards seconds. Cargo hides what a build script prints, so what is proved is said on the terminal, where there is one.
 //!
-//! An archive of another kind of processor is refused. The archive is copied to `OUT_DIR`, since `rt ci` removes `target/`.
+//! An archive of another kind of processor, or of another version, is refused. The archive is copied to `OUT_DIR`, since `rt ci` removes
+//! `target/`.
 
 use std::fs::OpenOptions;
 use std::io::{BufRead, BufReader, Write};
+use std::os::unix::process::parent_id;
 use std::path::{Path, PathBuf};
 use std::process::{Command, Stdio};
 use std::{env, fs};
@@ -19,7 +21,7 @@ fn main() {
     println!("cargo:rerun-if-env-changed=KRESSEDACH_PROCESSOR");
     let plain = plain();
     let asked = env::var("KRESSEDACH_PROCESSOR").ok().filter(|asked| !asked.is_empty());
-    let (archive, processor) = match env::var_os("KRESSEDACH_LIB_DIR") {
+    let (archive, processor) = match env::var_os("KRESSEDACH_LIB_DIR").filter(|dir| !dir.is_empty()) {
         Some(dir) => lent(&called_from(PathBuf::from(dir)), plain, asked),
         None => own(&PathBuf::from(env::var_os("CARGO_MANIFEST_DIR").unwrap()).join("../.."), plain, asked),
     };
@@ -29,8 +31,11 @@ fn main() {
         let found = machine(&bytes).unwrap_or("neither x86-64 nor aarch64");
         missing(&format!("{} is for {found}, and this build is for {plain}.", archive.display()));
     }
-    if let Err(e) = fs::write(out.join("libkressedach.a"), bytes) {
+    if let Err(e) = fs::write(out.join("libkressedach.a"), &bytes) {
         missing(&format!("{} cannot be copied: {e}.", archive.display()));
+    }
+    if let Some(other) = other_version(&out, &bytes) {
+        missing(&format!("{} is of version {other}, and this crate is of {}.", archive.display(), env!("CARGO_PKG_VERSION")));
     }
     println!("cargo:rustc-env=KRESSEDACH_COMPILED_FOR={processor}");
     println!("cargo:rustc-link-search=native={}", out.display());
@@ -65,15 +70,43 @@ fn machine(archive: &[u8]) -> Option<&'static str> {
     }
 }
 
-/// A folder as the caller means it. Cargo runs this in the crate's own folder, and only `PWD` still has the one in which it was called.
+/// The version of the archive that was copied, where it is not this crate's: a program that is linked with it says it, if the machine at
+/// hand can link and run one.
+fn other_version(out: &Path, archive: &[u8]) -> Option<String> {
+    let function = b"kressedach_version";
+    if !archive.windows(function.len()).any(|bytes| bytes == function) {
+        return Some("none that it can tell".into());
+    }
+    let (source, program) = (out.join("version.rs"), out.join("version"));
+    let asks = "extern \"C\" { fn kressedach_version() -> u32; }\nfn main() { print!(\"{}\", unsafe { kressedach_version() }) }\n";
+    if env::var("HOST") != env::var("TARGET") || fs::write(&source, asks).is_err() {
+        return None;
+    }
+    let linker = env::var("RUSTC_LINKER").map(|linker| format!("-Clinker={linker}"));
+    let mut rustc = Command::new(env::var_os("RUSTC").unwrap());
+    rustc.arg(&source).arg("-o").arg(&program).arg("-L").arg(out).arg("-lstatic=kressedach").args(linker);
+    rustc.output().ok().filter(|made| made.status.success())?;
+    let said: u32 = String::from_utf8(Command::new(program).output().ok()?.stdout).ok()?.parse().ok()?;
+    let version = format!("{}.{}.{}", said / 1_000_000, said / 1_000 % 1_000, said % 1_000);
+    (version != env!("CARGO_PKG_VERSION")).then_some(version)
+}
+
+/// A folder as the caller means it. Cargo runs this in the crate's own folder, and the one in which it was called is that of its process.
+/// `PWD` mostly says the same, so that cargo runs this again from another folder; where it does not, cargo is told to do so each time.
 fn called_from(dir: PathBuf) -> PathBuf {
     if dir.is_absolute() {
         return dir;
     }
     println!("cargo:rerun-if-env-changed=PWD");
-    match env::var_os("PWD").map(PathBuf::from).filter(|here| here.is_absolute()) {
-        Some(here) => here.join(dir),
-        None => missing(&format!("KRESSEDACH_LIB_DIR is {}, and PWD does not say in which folder that is.", dir.display())),
+    let pwd = env::var_os("PWD").map(PathBuf::from).filter(|here| here.is_absolute());
+    match fs::read_link(format!("/proc/{}/cwd", parent_id())).ok().or(pwd.clone()) {
+        Some(here) => {
+            if pwd.and_then(|pwd| fs::canonicalize(pwd).ok()).as_ref() != Some(&here) {
+                println!("cargo:rerun-if-changed=no file of this name");
+            }
+            here.join(dir)
+        }
+        None => missing(&format!("KRESSEDACH_LIB_DIR is {}, and nothing says in which folder that is.", dir.display())),
     }
 }
 

@@ -36,7 +36,7 @@ mod sheets;
 mod threads;
 
 pub use balls::{cross_balls_into, Ball};
-pub use both::{run_both_into, Both};
+pub use both::{run_both_into, Both, MixedLists};
 pub use classify::{classify_into, WallLists};
 pub use cross::{cross_into, Axis, Counts, LineLists, Probe, Shape, ShapeLists, BOX};
 pub use cross_many::{cross_many_into, LineRefusal, ManyCounts, ManyLists};

@@ -122,7 +122,7 @@ impl Reason {
         Reason::ALL.get(usize::from(number).checked_sub(1)?).copied()
     }
 
-    /// What it means, whatever its place is.
+    /// What it means, whatever its place is: the words of the column 'given when' of the table in `docs/SHEET.md`.
     ///
     /// ```
     /// assert_eq!(kressedach::Reason::NoSuchShape.meaning(), "a shape number that no name has");
@@ -136,20 +136,28 @@ impl Reason {
             Reason::NameTaken => "a name that is taken already",
             Reason::TooLarge => "more than 256 names, or a formula longer than 4094 bytes",
             Reason::FormulaWrong => "the formula is wrong",
-            Reason::TooHigh => "the contracted tree is higher than 57",
+            Reason::TooHigh => "the contracted tree is higher than 57: proved never to come",
             Reason::ListTooShort => "an answer list is too short",
             Reason::NoSuchShape => "a shape number that no name has",
             Reason::Falls => "a line number falls, or a position falls within its line",
             Reason::Odd => "given no more: a shape crossed an odd number of times on a line",
-            Reason::LengthsDiffer => "lists that go together differ in length, or an order does not mix the lists of two foundries",
+            Reason::LengthsDiffer => {
+                "lists that go together differ in length (crossings, another's walls, edits), or an order does not mix the lists of \
+                 two foundries"
+            }
             Reason::RowsWrong => {
-                "the start rows' length is no multiple of the number of names, they are more than 4294967296, or a byte is neither 0 nor 1"
+                "the start rows' length is no multiple of the number of names, they are more than 4294967296, or a byte is neither 0 \
+                 nor 1; of lines to cross: they are more than 4294967296"
             }
             Reason::Astray => "a position at an end mark, -2147483648 or 2147483647, or a line with no start row",
-            Reason::ShapeWrong => "half-spaces and boxes: more than 256, the line, or a shape",
-            Reason::FittingsName => "a name that a fitting has",
+            Reason::ShapeWrong => {
+                "half-spaces and boxes: more than 256, the line (a number that is not finite, or a direction all zero), or a shape \
+                 (an axis above 2, a number that is not finite, a low not below its high, a position that is not finite or outside \
+                 -2147483647 to 2147483646)"
+            }
+            Reason::FittingsName => "a customer's name that a fitting has",
             Reason::BallWrong => "balls: more than 256, or an offset, a radius or a centre out of its range",
-            Reason::OutOfUse => "exclusive union, 0xFFF3, is out of use: a sheet that has it does not move to edition 2",
+            Reason::OutOfUse => "a move to edition 2 of a sheet with an exclusive union",
             Reason::EditWrong => {
                 "an edit of a node that is no operation, to a code that is none, or at a moment that falls or exceeds the toggles"
             }

@@ -293,7 +293,8 @@ pub fn judge_on<'a>(
 
 /// [`cross_many_into`] on so many threads, 0 for as many as the machine has: the same crossings, and the same refusals.
 ///
-/// Memory is taken for the crossings of each part.
+/// Memory is taken for the crossings of each part, with room for two a shape and line of a block: no part counts its crossings before it
+/// writes, which one call does where the lists have less room.
 ///
 /// ```
 /// use kressedach::{cross_into_on, ManyCounts, ManyLists, ShapeLists};

@@ -7,7 +7,7 @@ mod given;
 mod lent;
 
 use given::{mostly_good, same, Given, Ours};
-use kressedach::{Both, Lines, NameLists, NodeLists, RunLists, WallLists};
+use kressedach::{Both, Lines, MixedLists, NameLists, NodeLists, RunLists, WallLists};
 use lent::{rooms, Lent};
 use peer::calls::{any_given, any_mix, any_order, any_toggles};
 use peer::lines::{Crossing, Crossings};
@@ -74,7 +74,7 @@ fn compare(case: &Case) -> Result<Vec<u8>, String> {
     if let Case::Both { sheet, order, toggles: [first, second], rooms } = case {
         let [mut to_first, mut to_second] = rooms.map(LentRun::new);
         let mut lists = Both { first: to_first.lists(), second: to_second.lists() };
-        let got = kressedach::run_both_into(sheet.ours(), order, Both { first, second }, &mut lists).into_array();
+        let got = kressedach::run_both_into(sheet.ours(), MixedLists { order, first, second }, &mut lists).into_array();
         let due = peer::run_both(sheet.theirs(), order, [first, second], *rooms);
         let lent = [to_first, to_second];
         return got
@@ -314,15 +314,15 @@ fn a_pair_damaged_everywhere() {
 /// Moves of sheets from a seed, good ones and others: whatever the move can answer comes up.
 #[test]
 fn moves_from_a_seed() {
-    let mut seen = [0u64; 20];
-    for case in 0..from_env("KRESSEDACH_CASES", 120_000) / 6 {
+    let (mut seen, cases) = ([0u64; 20], from_env("KRESSEDACH_CASES", 120_000));
+    for case in 0..cases / 6 {
         let dice = &mut Dice::of(6, case);
         let sheet = if dice.once_in(2) { mostly_good(dice).0 } else { any_given(dice) };
         let room = sheet.own.len().saturating_sub(usize::from(dice.once_in(4)));
         let number = compare_move(&sheet, room).unwrap_or_else(|wrong| panic!("case {case}: {wrong}\n{:?}", Case::Read { sheet }));
         seen[usize::from(number)] += 1;
     }
-    assert!([0, 1, 2, 3, 4, 5, 6, 7, 9, 17, 19].iter().all(|number| seen[*number] >= 20), "{seen:?}");
+    assert!(cases < 120_000 || [0, 1, 2, 3, 4, 5, 6, 7, 9, 17, 19].iter().all(|number| seen[*number] >= 20), "{seen:?}");
 }
 
 /// Every two reasons to refuse a move: those of either sheet, then 19, then 9. A sheet of edition 2 is never refused 19.
@@ -416,7 +416,7 @@ fn a_small_stack_is_enough() {
                 Case::Build { sheet, .. } => drop(kressedach::build(sheet.ours()).unwrap()),
                 Case::Run { sheet, toggles, .. } => drop(kressedach::run(sheet.ours(), &toggles).unwrap()),
                 Case::Both { sheet, order, toggles: [first, second], .. } => {
-                    let ran = kressedach::run_both(sheet.ours(), &order, Both { first: &first, second: &second }).into_array();
+                    let ran = kressedach::run_both(sheet.ours(), MixedLists { order: &order, first: &first, second: &second }).into_array();
                     assert!(ran.iter().all(Result::is_ok));
                 }
                 Case::Classify { sheet, rows, lines, positions, shapes, .. } => {

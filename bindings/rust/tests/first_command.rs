@@ -177,6 +177,40 @@ fn what_is_missing_is_said_before_anything_is_proved() {
     }
 }
 
+/// Where what makes the archive is called by itself, it says that the toolchain is missing, and what can be done without.
+#[test]
+fn an_archive_without_the_toolchain() {
+    let folder = tools("archive-no-rt", X86_64, &[]);
+    for processor in ["x86-64", "x86-64-v3", "aarch64"] {
+        let output = Command::new("/bin/sh").arg(folder.join("bindings/archive")).arg(processor).env("PATH", &folder).output().unwrap();
+        let wrong = String::from_utf8_lossy(&output.stderr).into_owned();
+        assert!(output.status.code() == Some(1) && wrong.starts_with("archive: there is no rt, the Rattle toolchain"), "{wrong}");
+        assert!(wrong.contains("KRESSEDACH_LIB_DIR") && !folder.join("target").exists(), "{wrong}");
+    }
+}
+
+/// A relative folder of the archive goes by where the command is called.
+#[test]
+fn a_library_that_is_lent() {
+    let cargo = format!("[ -z \"$KRESSEDACH_LIB_DIR\" ] || echo \"$KRESSEDACH_LIB_DIR\"\n{}", cargo());
+    let folder = tools("try-lent", X86_64, &[("cargo", &cargo), ("cc", "")]);
+    for (dir, due) in [("lib", folder.join("crates/lib")), ("/lib", PathBuf::from("/lib"))] {
+        let mut command = Command::new("/bin/sh");
+        command.arg("../try").current_dir(folder.join("crates")).env("PATH", &folder).env("KRESSEDACH_LIB_DIR", dir);
+        let output = command.env("PWD", folder.join("crates")).output().unwrap();
+        let said = String::from_utf8_lossy(&output.stdout).into_owned();
+        assert!(output.status.success() && said.contains(&format!("\n{}\n", due.display())), "{said}");
+        assert!(said.ends_with(&walls()), "{said}");
+    }
+}
+
+/// The first command asks for the Rust that the crate asks for.
+#[test]
+fn the_rust_that_is_needed() {
+    let due = format!("\"of Rust {} or later, ", env!("CARGO_PKG_RUST_VERSION"));
+    assert!(fs::read_to_string(format!("{ROOT}/try")).unwrap().contains(&due), "{due}");
+}
+
 #[test]
 fn a_proof_that_fails_is_shown() {
     let cargo = cargo();

@@ -8,11 +8,13 @@
 #[path = "../src/ffi.rs"]
 mod ffi;
 mod lent;
+#[allow(dead_code)]
+mod zeros;
 
 use kressedach::{Lines, ManyLists, Probe, Shape, ShapeLists, WallLists, BOX};
 use lent::{rooms, Lent};
 use peer::crossings::Shapes;
-use peer::drawings::EXTREME;
+use peer::drawings::{next_down, next_up, EXTREME};
 use peer::lines::Crossings;
 use peer::make::{self, Dice};
 use peer::many::{CrossedLines, LineRefused};
@@ -20,6 +22,7 @@ use peer::rasters::{self, Raster};
 use peer::sheet::Sheets;
 use peer::{from_env, say};
 use std::time::Instant;
+use zeros::Zeros;
 
 /// One call. A room is the length of an answer list: rows, lines, positions, shapes.
 #[derive(Debug)]
@@ -224,7 +227,7 @@ fn on_axis(axis: usize, states: &[(f64, f64)]) -> Vec<f64> {
 /// All ways in which three lines follow each other on one axis: kept, another origin, another component, zeros of either sign.
 #[test]
 fn an_axis_kept_or_changed() {
-    let origins = [0.0, -0.0, 0.5, 0.5f64.next_down(), 2.0];
+    let origins = [0.0, -0.0, 0.5, next_down(0.5), 2.0];
     let components = [0.0, -0.0, 1.0, -1.0, 3.0];
     let states: Vec<(f64, f64)> = origins.iter().flat_map(|origin| components.map(|component| (*origin, component))).collect();
     let mut seen = [0u64; SHOWN.len()];
@@ -314,9 +317,9 @@ fn at_the_ends_of_the_range() {
         {
             let exact = end / 1000.0 * component + origin;
             for step in -4i64..=4 {
-                let face = (0..step.abs()).fold(exact, |face: f64, _| if step > 0 { face.next_up() } else { face.next_down() });
+                let face = (0..step.abs()).fold(exact, |face: f64, _| if step > 0 { next_up(face) } else { next_down(face) });
                 for (at, is_box) in [(0, false), (16, false), (0, true), (7, true), (16, true)] {
-                    let lines = on_axis(axis, &[(origin, 0.0), (origin, component), (origin.next_up(), component), (origin, component)]);
+                    let lines = on_axis(axis, &[(origin, 0.0), (origin, component), (next_up(origin), component), (origin, component)]);
                     let mut raster = rasters::plate(17, 4, 1, false);
                     raster.lines = lines;
                     let mut six = [-1.0, -1.0, -1.0, 1.0, 1.0, 1.0];
@@ -418,41 +421,6 @@ fn long_lists() {
     assert_eq!(assert_same_exact(raster), 6);
 }
 
-extern "C" {
-    fn mmap(at: *mut u8, length: usize, protection: i32, flags: i32, file: i32, offset: i64) -> *mut u8;
-    fn munmap(at: *mut u8, length: usize) -> i32;
-}
-
-/// Memory of zeros that nobody has touched: one page of it is there once it is read.
-struct Zeros {
-    at: *mut u8,
-    length: usize,
-}
-
-impl Zeros {
-    fn of(numbers: usize) -> Zeros {
-        const READ: i32 = 1;
-        const PRIVATE_ANONYMOUS_NO_RESERVE: i32 = 0x4022;
-        let length = 8 * numbers;
-        // SAFETY: a new mapping, which overlaps nothing.
-        let at = unsafe { mmap(std::ptr::null_mut(), length, READ, PRIVATE_ANONYMOUS_NO_RESERVE, -1, 0) };
-        assert_ne!(at as isize, -1, "no address space of {length} bytes");
-        Zeros { at, length }
-    }
-
-    fn numbers(&self) -> &[f64] {
-        // SAFETY: so many bytes are mapped for reading while this lives, and a page begins aligned.
-        unsafe { std::slice::from_raw_parts(self.at.cast(), self.length / 8) }
-    }
-}
-
-impl Drop for Zeros {
-    fn drop(&mut self) {
-        // SAFETY: mapped by `of`, and no borrow is left.
-        unsafe { munmap(self.at, self.length) };
-    }
-}
-
 /// 14 stands between too many shapes and the first line, whose direction is all zero here.
 #[test]
 fn more_lines_than_there_may_be() {
@@ -463,6 +431,9 @@ fn more_lines_than_there_may_be() {
         let mut lists = ManyLists { rows: &mut [], lines: &mut [], positions: &mut [], shapes: &mut [] };
         let got = kressedach::cross_many_into(lines, ShapeLists { kinds: &kinds, numbers: &[] }, &mut lists).unwrap_err();
         assert_eq!((got.refusal.number(), got.refusal.place), (due.refused.number, due.refused.place));
+        for threads in [0, 1, 2, 7] {
+            assert_eq!(kressedach::cross_into_on(threads, lines, ShapeLists { kinds: &kinds, numbers: &[] }, &mut lists), Err(got));
+        }
         (due.refused.number, due.refused.place, got.line)
     };
     assert_eq!(refused(6 * 4294967296, 1), (16, 65535, Some(0)));

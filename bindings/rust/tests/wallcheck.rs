@@ -40,7 +40,7 @@ fn two_foundries() {
     let words = format!("{refusal}\n  row 3: the sheet has no name \"b\"; there is B; names are compared letter by letter\n");
     assert_eq!(both(&stranger, b"foundry\n0\n1\n0\n"), (Some(1), format!("{heading}1,1,0,1,B,0,2\n"), words));
     // an order that does not mix the lists goes to both, before 10
-    let order = "refused 13: lists that go together differ in length, or an order does not mix the lists of two foundries";
+    let order = "refused 13: lists that go together differ in length (crossings, another's walls, edits), or an order does not mix the lists of two foundries";
     let turns = "1 turns for 2 toggles of foundry 0, 1 turns for 1 of foundry 1";
     assert_eq!(both(&stranger, b"foundry\n0\n1\n"), refused(&format!("{order}\n  {turns}")));
     assert_eq!(both(&first, b"foundry\n0\n1\n2\n"), refused(&format!("{order}\n  turn 2 is foundry 2's, and there are 0 and 1")));
@@ -185,7 +185,7 @@ fn beside_a_fittings_sheet() {
     let walls = wallcheck(&["walls", "--fittings", &lugs, &path, "-"], b"line,position,name\n1,0,Lug\n1,5,Plate\n1,7,Lug\n1,9,Plate\n");
     assert_eq!(walls, answered("line,start,end,start_shape,end_shape\n1,0,9,Lug,Plate\n"));
 
-    let equal = "refused 17 at byte 5 of the customer's sheet: a name that a fitting has\n  the name there is \"Lug\"";
+    let equal = "refused 17 at byte 5 of the customer's sheet: a customer's name that a fitting has\n  the name there is \"Lug\"";
     assert_eq!(wallcheck(&["read", "--fittings", &lugs, "-"], &sheet(&["Lug"], &[0])), refused(equal));
     let empty = "refused 1 at byte 0 of the fittings sheet: the sheet ends too soon";
     assert_eq!(wallcheck(&["read", "--fittings", "-", &path], b""), refused(empty));
@@ -237,7 +237,7 @@ fn lines_that_start_in_metal() {
     // in any order, and twice is as once
     assert_eq!(from("line,name\n7,Body\n9,Body\n9,Bore\n0,Body\n7,Body\n"), answered(&due));
     assert_eq!(from("shape,line\n0,7\n0,0\n"), answered(&due));
-    let rows = "refused 14: the start rows' length is no multiple of the number of names, they are more than 4294967296, or a byte is neither 0 nor 1";
+    let rows = "refused 14: the start rows' length is no multiple of the number of names, they are more than 4294967296, or a byte is neither 0 nor 1; of lines to cross: they are more than 4294967296";
     let letters = "row 3: the sheet has no name \"body\"; there is Body; names are compared letter by letter";
     assert_eq!(from("line,name\n7,Body\n7,body\n"), refused(&format!("{rows}\n  {letters}")));
     let number = "row 2: shape 2, and the last one is 1";
@@ -334,7 +334,7 @@ fn a_sheet_moved_there_and_back() {
     assert_eq!(wallcheck(&["move", "-"], &there[..29]), refused(ends));
     let mut exclusive = worked();
     exclusive[29] = 0xF3;
-    let out_of_use = "exclusive union, 0xFFF3, is out of use: a sheet that has it does not move to edition 2";
+    let out_of_use = "a move to edition 2 of a sheet with an exclusive union";
     assert_eq!(wallcheck(&["move", "-"], &exclusive), refused(&format!("refused 19 at byte 28 of the customer's sheet: {out_of_use}")));
 }
 

@@ -1,7 +1,8 @@
 //! The proved library's time beside plain Rust of the same method and beside a plain copy of the lists, in one run.
 //!
-//! `cargo bench --offline -q` prints the page `docs/BENCHMARKS.md`, and with `-- many` the tables of many lines alone. Without `--bench`, as
-//! `cargo test` runs this, nothing is timed, and the answers of each row are compared with those of `peer`.
+//! `cargo bench --offline -q` prints the page `docs/BENCHMARKS.md`, with `-- many` the tables of many lines alone, and with `-- threads` the
+//! one of many processors. Without `--bench`, as `cargo test` runs this, nothing is timed, and the answers of each row are compared with
+//! those of `peer`.
 
 mod edits;
 mod levels;
@@ -18,6 +19,9 @@ use std::time::Instant;
 fn main() {
     let asked = |word: &str| std::env::args().any(|arg| arg == word);
     let timed = asked("--bench");
+    if timed && asked("threads") {
+        return threads::print(threads::all(1_000_000));
+    }
     let many = many::all(if timed { 100 } else { 10 });
     for row in &many {
         (row.check)();

@@ -102,6 +102,30 @@ fn build_costs(leaves: usize, nodes: usize) -> Costs {
     costs
 }
 
+/// At how many leaves of a sheet's formula a shape stands.
+fn leaves_of(sheet: &[u8], shape: u16) -> usize {
+    let formula = kressedach::read(sheet).unwrap().formula;
+    sheet[formula].chunks(2).filter(|code| **code == shape.to_be_bytes()).count()
+}
+
+/// How many operations of a sheet's formula have two leaves: each begins a row of its own, which the operations above it go on with.
+fn on_two_leaves(sheet: &[u8]) -> usize {
+    let formula = kressedach::read(sheet).unwrap().formula;
+    let is_leaf: Vec<bool> = sheet[formula].chunks(2).map(|code| code[0] < 0xFF).collect();
+    is_leaf.windows(3).filter(|three| **three == [true, true, false]).count()
+}
+
+/// How many crossings are worked on together with a line that starts in a shape: 512 are at a time.
+fn beside_starts(lines: &Lines, names: usize) -> usize {
+    let starts = |line: u32| lines.rows[line as usize * names..][..names].contains(&1);
+    lines.lines.chunks(512).filter(|some| some.iter().any(|line| starts(*line))).map(<[u32]>::len).sum()
+}
+
+/// How often a line goes on past 64 crossings: then the states of all shapes are carried on.
+fn carried(lines: &[u32]) -> usize {
+    lines.chunk_by(|before, here| before == here).map(|line| (line.len() - 1) / 64).sum()
+}
+
 /// Lines: reading; every byte of the start rows, every crossing, the formula at every crossing and at every start in a shape, every wall.
 /// Where a line starts in a shape, the call's crossings go another way, and the shapes of its row are put in.
 fn line_costs(lines: &Lines, leaves: usize, walls: usize) -> Costs {
@@ -117,8 +141,11 @@ fn line_costs(lines: &Lines, leaves: usize, walls: usize) -> Costs {
         ("crossing", crossings as f64),
         ("crossing where the one before it is", shared as f64),
         ("crossing or start in a shape, and leaf", ((crossings + started) * leaves) as f64),
+        ("crossing or start in a shape, and operation on two leaves", ((crossings + started) * on_two_leaves(&lines.sheet)) as f64),
+        ("64 crossings of a line that has more, and name", (carried(&lines.lines) * names) as f64),
         ("wall", walls as f64),
-        ("crossing, where a line starts in a shape", if started > 0 { crossings as f64 } else { 0.0 }),
+        ("crossing, of 512 among which a line starts in a shape", beside_starts(lines, names) as f64),
+        ("line that starts in a shape", started as f64),
         ("line that starts in a shape, and name", (started * names) as f64),
         ("shape that a line starts in", inside as f64),
     ]);
@@ -330,8 +357,13 @@ fn run(formula: &'static str, leaves: usize, count: usize) -> Row {
         .collect();
     let nodes = peer::build(Sheets::alone(&sheet), [NODES; 3]).unwrap().records.len();
     let reworked: u32 = peer::run(Sheets::alone(&sheet), &toggles, [usize::MAX; 3]).unwrap().counts.iter().sum();
+    let several = toggles.iter().filter(|shape| leaves_of(&sheet, **shape) > 1).count();
     let mut costs = build_costs(leaves, nodes);
-    costs.extend([("call with toggles", 1.0), ("toggle", count as f64), ("label reworked", f64::from(reworked))]);
+    costs.extend([
+        ("toggle", count as f64),
+        ("toggle of a shape at several leaves", several as f64),
+        ("label reworked", f64::from(reworked)),
+    ]);
     let (a, b) = ((sheet.clone(), toggles.clone()), (sheet.clone(), toggles.clone()));
     let lists = || (vec![0u8; count], vec![0u32; count], vec![0u8; NODES]);
     let ((mut roots, mut counts, mut labels), mut plain_lists) = (lists(), lists());

@@ -102,9 +102,9 @@ fn crossed(threads: Option<usize>, raster: &Raster, lists: &mut Lists) -> ManyCo
 
 fn cross(what: String, raster: Rc<Raster>) -> Row {
     let items = raster.lines.len() / 6;
-    // more shapes than these no line of the grid meets
-    let (rows, room) = (items * raster.kinds.len(), items * 2 * raster.kinds.len().min(32));
-    let lists = move || (vec![0; rows], vec![0; room], vec![0; room], vec![0; room]);
+    // two crossings a shape and line: so none of the ways counts before it writes; memory that nobody writes is not there
+    let rows = items * raster.kinds.len();
+    let lists = move || (vec![0; rows], vec![0; 2 * rows], vec![0; 2 * rows], vec![0; 2 * rows]);
     let timed = |threads| -> Box<dyn FnMut()> {
         let (raster, mut lists) = (raster.clone(), lists());
         Box::new(move || _ = black_box(crossed(threads, black_box(&raster), &mut lists)))
@@ -123,7 +123,10 @@ fn cross(what: String, raster: Rc<Raster>) -> Row {
 pub fn print(rows: Vec<Row>) {
     let cores = std::thread::available_parallelism().map_or(1, usize::from);
     println!("\nMany lines on many processors: nanoseconds a crossing, and for cross_many a line, on a machine with {cores} cores.");
-    println!("A call on threads cuts its lists, has each part answered into lists of its own, and copies them.\n");
+    println!(
+        "A call on threads cuts its lists, has each part answered into lists of its own, and copies them. For cross_many the lists lent"
+    );
+    println!("have room for two crossings a shape and line, as those of the parts have: so neither one call nor a part counts before it writes.\n");
     println!("| job | lists | items | one call | 1 thread | 2 threads | one call / 2 threads |");
     println!("|---|---|--:|--:|--:|--:|--:|");
     for Row { job, what, items, calls: [mut one, mut by_one, mut by_two], .. } in rows {

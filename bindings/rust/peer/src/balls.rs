@@ -25,7 +25,19 @@ fn cut(ball: &[i32]) -> Option<Cut> {
     let squared = |x: i32| i64::from(x) * i64::from(x);
     let half = match squared(radius) - squared(u) - squared(v) {
         difference if difference < 0 => 0,
-        difference => difference.isqrt() as i32,
+        difference => root(difference) as i32,
     };
     Some((false, if half == 0 { vec![] } else { vec![centre - half, centre + half] }))
+}
+
+/// The greatest whole number whose square is not above one that is not negative, from an f64 that is near it.
+fn root(number: i64) -> i64 {
+    let mut root = (number as f64).sqrt() as i64;
+    while root * root > number {
+        root -= 1;
+    }
+    while (root + 1) * (root + 1) <= number {
+        root += 1;
+    }
+    root
 }

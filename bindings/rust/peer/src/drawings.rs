@@ -79,15 +79,30 @@ pub fn probe(dice: &mut Dice) -> Probe {
     Probe { origin, direction }
 }
 
+/// The least number above one; that itself where there is none.
+pub fn next_up(x: f64) -> f64 {
+    match x.to_bits() {
+        _ if x.is_nan() || x == f64::INFINITY => x,
+        _ if x == 0.0 => f64::from_bits(1),
+        bits if x < 0.0 => f64::from_bits(bits - 1),
+        bits => f64::from_bits(bits + 1),
+    }
+}
+
+/// The greatest number below one; that itself where there is none.
+pub fn next_down(x: f64) -> f64 {
+    -next_up(-x)
+}
+
 /// A face whose position on this axis lies within a few numbers of an end of the range, or of a half.
 fn near_an_end(dice: &mut Dice, probe: &Probe, axis: usize) -> f64 {
     let end = dice.of_these(&[2147483646.0, 2147483646.5, 2147483647.0, -2147483647.0, -2147483647.5, -2147483648.0, 0.5, 1.5, -2.5]);
     let mut face = end / 1000.0 * probe.direction[axis] + probe.origin[axis];
     for _ in 0..dice.below(4) {
-        face = face.next_up();
+        face = next_up(face);
     }
     for _ in 0..dice.below(4) {
-        face = face.next_down();
+        face = next_down(face);
     }
     face
 }

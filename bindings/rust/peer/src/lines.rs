@@ -35,7 +35,7 @@ pub fn judge(names: usize, lists: Crossings) -> Result<Vec<Crossing>, Refused> {
         return refuse(13, 0);
     }
     let rows = (lists.rows.len() / names) as u64;
-    if !lists.rows.len().is_multiple_of(names) || rows > 4294967296 || lists.rows.iter().any(|byte| *byte != 0 && *byte != 1) {
+    if lists.rows.len() % names != 0 || rows > 4294967296 || lists.rows.iter().any(|byte| *byte != 0 && *byte != 1) {
         return refuse(14, 0);
     }
     let all: Vec<Crossing> =

@@ -1,7 +1,7 @@
 //! Many lines for one drawing, made from a seed. A line differs from the one before it on some axes and keeps the others, as on a grid.
 
 use crate::crossings::Probe;
-use crate::drawings::{self, component, length, EXTREME};
+use crate::drawings::{self, component, length, next_down, next_up, EXTREME};
 use crate::make::Dice;
 
 /// Lines, six numbers each, and the shapes that they go through.
@@ -14,7 +14,7 @@ pub struct Raster {
 
 /// A number's sign is changed, that of a zero too; or it becomes the next number up or down.
 fn nudged(dice: &mut Dice, x: f64) -> f64 {
-    dice.of_these(&[-x, x.next_up(), x.next_down()])
+    dice.of_these(&[-x, next_up(x), next_down(x)])
 }
 
 /// The origin's number on an axis, after the one of the line before.

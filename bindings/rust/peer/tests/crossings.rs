@@ -1,6 +1,7 @@
 //! K4 of document 02, case by case, of the plain implementation.
 
 use peer::crossings::{cross, Crossed, Probe, Shapes};
+use peer::drawings::{next_down, next_up};
 use peer::Refused;
 
 const ROOM: [usize; 3] = [256, 512, 512];
@@ -103,8 +104,8 @@ fn a_box_that_is_touched_has_no_crossing() {
 fn the_range_is_judged_after_rounding() {
     // These distances are 2147483646.4999998 and 2147483646.5000002, -2147483647.4999995 and -2147483647.5.
     assert_eq!(half(1.0, 2147483.6465), given(&[1], &[(2147483646, 0)]));
-    assert_eq!(half(1.0, 2147483.6465_f64.next_up()), refused(16, 0));
-    assert_eq!(half(1.0, -2147483.6475_f64.next_down()), given(&[1], &[(-2147483647, 0)]));
+    assert_eq!(half(1.0, next_up(2147483.6465)), refused(16, 0));
+    assert_eq!(half(1.0, -next_down(2147483.6475)), given(&[1], &[(-2147483647, 0)]));
     assert_eq!(half(1.0, -2147483.6475), refused(16, 0));
 }
 

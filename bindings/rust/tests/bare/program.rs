@@ -11,6 +11,10 @@ fn panic(_: &core::panic::PanicInfo) -> ! {
     loop {}
 }
 
+// Rust's core, as it is shipped, names it; where a panic ends the program, nothing calls it
+#[no_mangle]
+pub extern "C" fn rust_eh_personality() {}
+
 // of C's library, which begins the program
 #[link(name = "c")]
 extern "C" {}

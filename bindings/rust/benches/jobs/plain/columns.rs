@@ -96,7 +96,7 @@ impl<'a> Columns<'a> {
             }
             let column = block.columns;
             (block.which[column], block.starts[column]) = (START, at.row as u32);
-            let alone = self.l.lines.get(at.crossing).is_none_or(|line| *line as usize != at.row);
+            let alone = self.l.lines.get(at.crossing).map_or(true, |line| *line as usize != at.row);
             block.lasts[column / 64] |= u64::from(alone) << (column % 64);
             block.columns += 1;
             at.row = self.inside_from(at.row + 1);

@@ -7,7 +7,7 @@ use crate::files::Files;
 use crate::lists::{self, List, Shapes};
 use crate::stop::{Refused, Stop};
 use crate::words;
-use kressedach::{Both, Ran, Reason, Refusal};
+use kressedach::{MixedLists, Ran, Reason, Refusal};
 use std::fmt::Write as _;
 
 pub fn run(asked: &Asked) -> Result<Answer, Stop> {
@@ -46,7 +46,8 @@ pub fn both(asked: &Asked) -> Result<Answer, Stop> {
     let list = |foundry: usize| lists::toggles(&texts[foundry], &Shapes::of(&names)).map_err(|wrong| toggles[foundry].wrong(wrong));
     let lists = [list(0)?, list(1)?];
     let turns = lists::order(&order.text()?).map_err(|wrong| order.wrong(wrong))?;
-    let ran = kressedach::run_both(files.sheets(), &turns, Both { first: &lists[0].entries, second: &lists[1].entries }).into_array();
+    let ran = kressedach::run_both(files.sheets(), MixedLists { order: &turns, first: &lists[0].entries, second: &lists[1].entries })
+        .into_array();
     if let [Err(refusal @ Refusal { reason: Reason::LengthsDiffer, .. }), _] = ran {
         return Err(order.refused(refusal, Some(words::of_order(&turns, [0, 1].map(|k: usize| lists[k].entries.len())))));
     }
