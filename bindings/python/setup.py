@@ -3,7 +3,12 @@
 from pathlib import Path
 
 from setuptools import Distribution, setup
-from wheel.bdist_wheel import bdist_wheel
+
+try:
+    from setuptools.command.bdist_wheel import bdist_wheel
+except ImportError:
+    # setuptools before 70.1 leaves it to the package wheel
+    from wheel.bdist_wheel import bdist_wheel
 
 LIBRARY = Path(__file__).with_name("kressedach") / "libkressedach.so"
 

@@ -1,10 +1,10 @@
 """How many lines one worker does and how many two do, and what the network carries a line.
 
-    target/python/bin/python bindings/python/benchmarks/workers.py [LINES]
+    target/python/bin/python bindings/python/benchmarks/workers.py [LINES [TURNS]]
 
 A worker is a process with one thread. Lines go through a plate with nine holes, twenty crossings each, in partitions of 50,000. First they
-are made where they are crossed, and the thinnest wall alone comes back; then they are sent from here, and every wall comes back. What the
-network carries is what the loopback device counted.
+are made where they are crossed, and the thinnest wall alone comes back; then they are sent from here, and every wall comes back. The best of
+some turns counts: more are wanted where the machine has other work. What the network carries is what the loopback device counted.
 """
 
 import sys
@@ -20,7 +20,6 @@ from distributed import Client, LocalCluster
 import kressedach.dask
 
 PARTITION = 50_000
-TURNS = 3
 
 
 def made(first, past):
@@ -43,17 +42,17 @@ def carried():
         return next(int(line.split(":")[1].split()[0]) for line in devices if line.strip().startswith("lo:"))
 
 
-def measured(work):
+def measured(work, turns):
     """The least seconds of some turns, and the bytes that one of them carried."""
-    turns = []
-    for _ in range(TURNS):
+    times = []
+    for _ in range(turns):
         began, before = time.perf_counter(), carried()
         work().compute()
-        turns.append((time.perf_counter() - began, carried() - before))
-    return min(turns)
+        times.append((time.perf_counter() - began, carried() - before))
+    return min(times)
 
 
-def main(count):
+def main(count, turns=3):
     sheet, drawing, _ = plate()
     here = [made(first, first + PARTITION) for first in range(0, count, PARTITION)]
 
@@ -69,11 +68,11 @@ def main(count):
     for workers in (1, 2):
         with LocalCluster(n_workers=workers, threads_per_worker=1, processes=True, dashboard_address=None) as cluster, Client(cluster):
             for name, work in works.items():
-                seconds, bytes_carried = measured(work)
+                seconds, bytes_carried = measured(work, turns)
                 lines = count / seconds / 1e6
                 print(f"| {name} | {workers} | {lines:.3f} | {20 * lines:.1f} | {bytes_carried / count:.1f} |", flush=True)
 
 
 if __name__ == "__main__":
     with dask.config.set({"logging.distributed": "error"}):
-        main(int(sys.argv[1]) if len(sys.argv) > 1 else 2_000_000)
+        main(*map(int, sys.argv[1:] or [2_000_000]))

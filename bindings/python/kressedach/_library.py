@@ -136,7 +136,7 @@ def _place() -> str:
     """Where the library is: the file that the environment names, else the package's own, else the system's."""
     named = os.environ.get("KRESSEDACH_LIBRARY")
     if named:
-        return named
+        return os.path.abspath(named)
     inside = Path(__file__).with_name(NAME)
     return str(inside) if inside.exists() else ctypes.util.find_library("kressedach") or NAME
 
@@ -165,7 +165,9 @@ def library() -> Dict[str, Any]:
     _is_of_this_version(loaded)
     functions = {}
     for name, job in JOBS.items():
-        function = getattr(loaded, f"kressedach_{name}")
+        function = getattr(loaded, f"kressedach_{name}", None)
+        if function is None:
+            raise ImportError(f"kressedach: {loaded._name} has no kressedach_{name}: it is not the whole library")
         function.argtypes, function.restype = job.argtypes, None
         functions[name] = function
     return functions

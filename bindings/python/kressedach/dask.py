@@ -28,14 +28,15 @@ that of one of them is raised; :func:`refused` and :func:`judge` give the one th
 from __future__ import annotations
 
 from itertools import accumulate
-from typing import Any, Callable, Iterable, List, NamedTuple, Optional, Sequence, Tuple, Union
+from operator import add
+from typing import Any, Callable, Dict, Iterable, List, NamedTuple, Optional, Sequence, Tuple, Union
 
 import numpy as np
 from dask import array as da
 from dask import bag as db
 from dask import delayed
 
-from . import _arrays, drawings, lent
+from . import _arrays, _given, drawings, lent
 from . import lines as lines_
 from .drawings import Drawing
 from .lines import OPEN_END, OPEN_START, WALL, Crossed, Walls
@@ -62,6 +63,21 @@ class _Sizes(NamedTuple):
         return _Sizes(*(a + b for a, b in zip(self, more)))
 
 
+class _Span(NamedTuple):
+    """The lines of a partition: the number of the first, how many lines and crossings are said to be there, where that is known, and what
+    all line numbers are below."""
+
+    first: int = 0
+    lines: Optional[int] = None
+    crossings: Optional[int] = None
+    past: int = MOST_LINES
+
+    def holds(self, name: str, said: Optional[int], array: Any) -> None:
+        """A block is as long as its array says: the numbers of later lines rest on it."""
+        if said is not None and len(array) != said:
+            raise ValueError(f"{name}: the block from line {self.first} on has {len(array)} entries, and its array says {said}")
+
+
 class _Part(NamedTuple):
     """What a partition gave: an answer or its own refusal, and how much it had."""
 
@@ -80,28 +96,50 @@ def cut(crossed: Crossed, lines: int) -> Lists:
     >>> parts.rows.chunks, parts.lines.chunks
     (((2, 2, 1), (1,)), ((2, 2, 2),))
     """
-    sizes = _partition_sizes(len(crossed.rows), lines)
+    _given.instance("crossed", crossed, Crossed, "a Crossed")
     rows, *lists = map(np.asarray, crossed)
+    if rows.ndim != 2:
+        raise ValueError(f"rows: an array of 2 dimensions is needed, and this one has {rows.ndim}")
+    sizes = _partition_sizes(len(rows), _given.index("lines", lines, 2**63))
     _arrays.same_length(**dict(zip(("lines", "positions", "shapes"), lists)))
     blocks = _cut_sizes(lists[0], sizes)
     return Crossed(da.from_array(rows, (sizes, rows.shape[1])), *(da.from_array(column, (blocks,)) for column in lists))
 
 
 def cut_walls(theirs: Walls, crossed: Lists) -> da.Array:
-    """Another's walls that are here, a structured array, cut between the same lines as crossed lines are."""
+    """Another's walls that are here, a structured array, cut between the same lines as crossed lines are.
+
+    >>> import dask.array, kressedach, kressedach.dask, numpy
+    >>> sheet = kressedach.Sheet.of(kressedach.Formula("Plate"))
+    >>> drawing = kressedach.Drawing(sheet, {"Plate": kressedach.Box((0, 0, 0), (100, 40, 8))})
+    >>> lines = dask.array.from_array(numpy.array([[-10.0, y, 4, 1, 0, 0] for y in range(50)]), chunks=(20, 6))
+    >>> crossed = kressedach.dask.cross(drawing, lines)
+    >>> theirs = kressedach.dask.walls(sheet, crossed).compute()
+    >>> kressedach.dask.cut_walls(theirs, crossed).chunks
+    ((19, 20, 0),)
+    """
+    _given.instance("theirs", theirs, np.ndarray, "a structured array")
+    _given.instance("crossed", crossed, Crossed, "a Crossed of dask arrays")
+    lines_.their_lists(theirs[:0])
     return da.from_array(theirs, (_cut_sizes(theirs["line"], crossed.rows.chunks[0]),))
 
 
 def cross(drawing: Drawing, lines: Union[da.Array, db.Bag]) -> Lists:
-    """Where lines cross a drawing. ``lines`` is a dask array of six numbers a line, cut between lines, or a bag of such arrays."""
-    shapes, drawn = len(drawing.kinds), _sent_drawing(drawing)
+    """Where lines cross a drawing. ``lines`` is a dask array of six numbers a line, cut between lines, or a bag of such arrays.
+
+    >>> import dask.array, kressedach, kressedach.dask, numpy
+    >>> sheet = kressedach.Sheet.of(kressedach.Formula("Plate"))
+    >>> drawing = kressedach.Drawing(sheet, {"Plate": kressedach.Box((0, 0, 0), (100, 40, 8))})
+    >>> lines = dask.array.from_array(numpy.array([[-10.0, y, 4, 1, 0, 0] for y in range(50)]), chunks=(20, 6))
+    >>> crossed = kressedach.dask.cross(drawing, lines)
+    >>> crossed.rows.chunks, crossed.lines.compute()[-4:]
+    (((20, 20, 10), (1,)), array([38, 38, 39, 39], dtype=uint32))
+    """
+    drawn = _sent_drawing(drawing)
     if isinstance(lines, db.Bag):
-        return _joined_bag(lines, _crossed_block, [drawn, 0], _kept)
-    _is_delayed("lines", lines, np.float64, 6)
-    firsts, parts = _firsts(lines.chunks[0]), []
-    for first, block in zip(firsts, lines.to_delayed().reshape(-1)):
-        parts.append(delayed(_crossed_block)(drawn, first, block))
-    answers = [delayed(_raised)(part, _Sizes(k, first), _kept) for k, (first, part) in enumerate(zip(firsts, parts))]
+        return _joined_bag(lines, _crossed_block, [drawn, _Span()], _kept)
+    shapes = len(drawing.kinds)
+    answers = _each_block(_crossed_block, [drawn], lines)
 
     def joined(name: str, *shape: int) -> da.Array:
         blocks = [delayed(getattr)(answer, name) for answer in answers]
@@ -112,11 +150,20 @@ def cross(drawing: Drawing, lines: Union[da.Array, db.Bag]) -> Lists:
 
 
 def walls(sheet: Sheet, crossed: Lists) -> Union[da.Array, db.Bag]:
-    """The walls of crossed lines: a dask array of :data:`kressedach.WALL`, or a bag of such arrays; lines are numbered in the whole."""
+    """The walls of crossed lines: a dask array of :data:`kressedach.WALL`, or a bag of such arrays; lines are numbered in the whole.
+
+    >>> import dask.array, kressedach, kressedach.dask, numpy
+    >>> sheet = kressedach.Sheet.of(kressedach.Formula("Plate"))
+    >>> drawing = kressedach.Drawing(sheet, {"Plate": kressedach.Box((0, 0, 0), (100, 40, 8))})
+    >>> lines = dask.array.from_array(numpy.array([[-10.0, y, 4, 1, 0, 0] for y in range(50)]), chunks=(20, 6))
+    >>> found = kressedach.dask.walls(sheet, kressedach.dask.cross(drawing, lines))
+    >>> found["line"].max().compute(), found["thickness"].min().compute()
+    (39, 100000)
+    """
     if isinstance(crossed, db.Bag):
-        return _joined_bag(crossed, _walls_element, [_sent(sheet)], _on_later_lines)
+        return _joined_bag(crossed, _walls_element, [_sent_sheet(sheet)], _on_later_lines)
     parts = _each_part(_walls_block, sheet, crossed)
-    answers = [delayed(_raised)(part, before, _on_later_lines) for part, before in zip(parts, _before(crossed, parts))]
+    answers = [delayed(_raised)(part, before, _kept) for part, before in zip(parts, _before(crossed, parts))]
     return da.concatenate([da.from_delayed(answer, (np.nan,), WALL) for answer in answers])
 
 
@@ -124,19 +171,35 @@ def drawn_walls(sheet: Sheet, drawing: Drawing, lines: Union[da.Array, db.Bag]) 
     """The walls that lines find in a drawing: what :func:`walls` gives for what :func:`cross` gives.
 
     A partition is crossed and classified in one task, so that no crossing travels or waits.
+
+    >>> import dask.array, kressedach, kressedach.dask, numpy
+    >>> sheet = kressedach.Sheet.of(kressedach.Formula("Plate"))
+    >>> drawing = kressedach.Drawing(sheet, {"Plate": kressedach.Box((0, 0, 0), (100, 40, 8))})
+    >>> lines = dask.array.from_array(numpy.array([[-10.0, y, 4, 1, 0, 0] for y in range(50)]), chunks=(20, 6))
+    >>> drawn_walls(sheet, drawing, lines)["end"].max().compute()
+    110000
     """
-    read, drawn = _sent(sheet), _sent_drawing(drawing)
+    read, drawn = _sent_sheet(sheet), _sent_drawing(drawing)
+    if len(drawing.kinds) != len(sheet.names):
+        raise ValueError(f"drawing: {len(drawing.kinds)} shapes, and the sheet has {len(sheet.names)}")
     if isinstance(lines, db.Bag):
-        return _joined_bag(lines, _drawn_block, [read, drawn], _on_later_lines)
-    _is_delayed("lines", lines, np.float64, 6)
-    answers = []
-    for k, (first, block) in enumerate(zip(_firsts(lines.chunks[0]), lines.to_delayed().reshape(-1))):
-        answers.append(delayed(_raised)(delayed(_drawn_block)(read, drawn, block), _Sizes(k, first), _on_later_lines))
+        return _joined_bag(lines, _drawn_block, [read, drawn, _Span()], _on_later_lines)
+    answers = _each_block(_drawn_block, [read, drawn], lines)
     return da.concatenate([da.from_delayed(answer, (np.nan,), WALL) for answer in answers])
 
 
 def refused(sheet: Sheet, crossed: Lists) -> Any:
-    """The refusal that one call over everything gives, or None: delayed, with place and line in the whole."""
+    """The refusal that one call over everything gives, or None: delayed, with place and line in the whole.
+
+    >>> import dask.array, kressedach, kressedach.dask, numpy
+    >>> sheet = kressedach.Sheet.of(kressedach.Formula("Plate"))
+    >>> drawing = kressedach.Drawing(sheet, {"Plate": kressedach.Box((0, 0, 0), (100, 40, 8))})
+    >>> lines = dask.array.from_array(numpy.array([[-10.0, y, 4, 1, 0, 0] for y in range(50)]), chunks=(20, 6))
+    >>> here = kressedach.cross(drawing, lines.compute())
+    >>> here.shapes[61] = 1
+    >>> print(refused(sheet, cut(here, 20)).compute())
+    refused 10 at entry 61 on line 31 in partition 1: a shape number that no name has
+    """
     return delayed(_first_refusal)(_all_parts(sheet, crossed, None))
 
 
@@ -144,7 +207,15 @@ def judge(sheet: Sheet, crossed: Lists, theirs: Union[da.Array, db.Bag]) -> Any:
     """The opinion on another's walls, delayed: of partitions the first that is not right decides.
 
     ``theirs`` is a dask array with ``line``, ``start`` and ``end``, its blocks cut between the same lines as the crossed ones, or a bag
-    with an array for each element.
+    with such an array for each element. Their lines are numbered in the whole, as :func:`walls` gives them.
+
+    >>> import dask.array, kressedach, kressedach.dask, numpy
+    >>> sheet = kressedach.Sheet.of(kressedach.Formula("Plate"))
+    >>> drawing = kressedach.Drawing(sheet, {"Plate": kressedach.Box((0, 0, 0), (100, 40, 8))})
+    >>> lines = dask.array.from_array(numpy.array([[-10.0, y, 4, 1, 0, 0] for y in range(50)]), chunks=(20, 6))
+    >>> crossed = kressedach.dask.cross(drawing, lines)
+    >>> judge(sheet, crossed, kressedach.dask.walls(sheet, crossed)).compute()
+    Opinion(right=True, index=39)
     """
     return delayed(_decided)(_all_parts(sheet, crossed, theirs))
 
@@ -155,6 +226,11 @@ def judge(sheet: Sheet, crossed: Lists, theirs: Union[da.Array, db.Bag]) -> Any:
 def _sent(value: Any) -> Any:
     """A value that goes to a worker once, and not with every task."""
     return delayed(value, pure=True, traverse=False)
+
+
+def _sent_sheet(sheet: Sheet) -> Any:
+    _given.instance("sheet", sheet, Sheet, "a Sheet")
+    return _sent(sheet)
 
 
 def _sent_drawing(drawing: Drawing) -> Any:
@@ -198,8 +274,8 @@ def _is_delayed(name: str, array: Any, dtype: Any, width: Optional[int] = None) 
 
 def _checked(sheet: Sheet, crossed: Any) -> None:
     """The arrays of crossed lines are fit to be cut into calls."""
-    if not isinstance(crossed, Crossed):
-        raise TypeError(f"crossed: a Crossed of dask arrays or a bag is needed, and this is a {type(crossed).__name__}")
+    _given.instance("sheet", sheet, Sheet, "a Sheet")
+    _given.instance("crossed", crossed, Crossed, "a Crossed of dask arrays, or a bag,")
     _is_delayed("rows", crossed.rows, np.uint8, len(sheet.names))
     for name in ("lines", "positions", "shapes"):
         _is_delayed(name, getattr(crossed, name), DTYPES[name])
@@ -211,13 +287,24 @@ def _has_as_many_blocks(name: str, array: da.Array, rows: da.Array) -> None:
         raise ValueError(f"{name}: {array.numblocks[0]} blocks, and rows has {rows.numblocks[0]}")
 
 
-def _each_part(work: Callable[..., _Part], sheet: Sheet, crossed: Lists, theirs: Optional[da.Array] = None) -> List[Any]:
+def _each_block(work: Callable[..., _Part], asked: List[Any], lines: da.Array) -> List[Any]:
+    """The answer of the work on each block of lines, delayed."""
+    _is_delayed("lines", lines, np.float64, 6)
+    answers, sizes = [], lines.chunks[0]
+    for k, (first, size, block) in enumerate(zip(_firsts(sizes), sizes, lines.to_delayed().reshape(-1))):
+        answers.append(delayed(_raised)(delayed(work)(*asked, _Span(first, size), block), _Sizes(k, first), _kept))
+    return answers
+
+
+def _each_part(work: Callable[..., Any], sheet: Sheet, crossed: Lists, theirs: Optional[da.Array] = None) -> List[Any]:
     """The work on each partition of crossed lines, delayed."""
     _checked(sheet, crossed)
-    read, firsts = _sent(sheet), _firsts(crossed.rows.chunks[0])
+    read, sizes = _sent_sheet(sheet), crossed.rows.chunks[0]
+    firsts = _firsts(sizes)
+    crossings = [None if np.isnan(size) else size for size in crossed.lines.chunks[0]]
+    spans = [_Span(*span) for span in zip(firsts, sizes, crossings, [*firsts[1:], MOST_LINES])]
     blocks = [array.to_delayed().reshape(-1) for array in (*crossed, *([] if theirs is None else [theirs]))]
-    pasts = [*firsts[1:], MOST_LINES]
-    return [delayed(work)(read, first, past, *lists) for first, past, *lists in zip(firsts, pasts, *blocks)]
+    return [delayed(work)(read, span, *lists) for span, *lists in zip(spans, *blocks)]
 
 
 def _before(crossed: Lists, parts: List[Any]) -> List[Any]:
@@ -231,14 +318,25 @@ def _before(crossed: Lists, parts: List[Any]) -> List[Any]:
 def _all_parts(sheet: Sheet, crossed: Any, theirs: Any) -> Any:
     """What every partition gives for judging another's walls, or none; delayed, in their order."""
     if isinstance(crossed, db.Bag):
-        pairs = crossed.map(_without_theirs) if theirs is None else db.zip(crossed, theirs)
-        return [delayed(_judged_list)(_sent(sheet), partition) for partition in pairs.to_delayed()]
-    if theirs is None:
-        return [[part] for part in _each_part(_judged_block, sheet, crossed)]
-    if not isinstance(theirs, da.Array):
-        raise TypeError(f"theirs: a dask array is needed, as crossed is of them, and this is a {type(theirs).__name__}")
-    _has_as_many_blocks("theirs", theirs, crossed.rows)
+        return _all_of_bags(sheet, crossed, theirs)
+    _checked(sheet, crossed)
+    if theirs is not None:
+        _given.instance("theirs", theirs, da.Array, "a dask array, as crossed is of them,")
+        lines_.their_lists(np.empty(0, theirs.dtype))
+        _has_as_many_blocks("theirs", theirs, crossed.rows)
     return [[part] for part in _each_part(_judged_block, sheet, crossed, theirs)]
+
+
+def _all_of_bags(sheet: Sheet, crossed: db.Bag, theirs: Optional[db.Bag]) -> List[Any]:
+    read, partitions = _sent_sheet(sheet), [delayed(list)(partition) for partition in crossed.to_delayed()]
+    if theirs is None:
+        return [delayed(_judged_list)(read, _Span(), partition, None) for partition in partitions]
+    _given.instance("theirs", theirs, db.Bag, "a bag, as crossed is one,")
+    if theirs.npartitions != crossed.npartitions:
+        raise ValueError(f"theirs: {theirs.npartitions} partitions, and crossed has {crossed.npartitions}")
+    pasts = list(accumulate((delayed(_lines_of)(partition) for partition in partitions), delayed(add)))
+    spans = [delayed(_Span)(first, past=past) for first, past in zip([0, *pasts], [*pasts[:-1], MOST_LINES])]
+    return [delayed(_judged_list)(read, *asked) for asked in zip(spans, partitions, theirs.to_delayed())]
 
 
 def _joined_bag(bag: db.Bag, work: Callable[..., _Part], asked: List[Any], join: Callable[..., Any]) -> db.Bag:
@@ -260,26 +358,30 @@ def _on_each(work: Callable[..., _Part], asked: List[Any], elements: Iterable[An
     return [work(*asked, element) for element in elements]
 
 
-def _crossed_block(drawing: Drawing, first: int, lines: Any) -> _Part:
+def _crossed_block(drawing: Drawing, span: _Span, lines: Any) -> _Part:
+    span.holds("lines", span.lines, lines)
     sizes = _Sizes(1, len(lines), 0)
     try:
         crossed = drawings.cross(drawing, _fit(lines))
     except Refused as refused:
         return _Part(refused, sizes)
-    np.add(crossed.lines, np.uint32(first), out=crossed.lines)
+    _raise(crossed.lines, span.first)
     return _Part(crossed, sizes._replace(crossings=len(crossed.lines)))
 
 
-def _drawn_block(sheet: Sheet, drawing: Drawing, lines: Any) -> _Part:
-    part = _crossed_block(drawing, 0, lines)
+def _drawn_block(sheet: Sheet, drawing: Drawing, span: _Span, lines: Any) -> _Part:
+    span.holds("lines", span.lines, lines)
+    part = _crossed_block(drawing, _Span(), lines)
     if isinstance(part.answer, Refused):
         return part
-    return _attempt(lambda: lines_.walls(sheet, part.answer), 0, part.answer)
+    found = _attempt(lambda: lines_.walls(sheet, part.answer), 0, part.answer)
+    return _numbered(found, span.first)
 
 
-def _walls_block(sheet: Sheet, first: int, past: int, *lists: Any) -> _Part:
-    crossed = _lowered(first, past, Crossed(*lists))
-    return _attempt(lambda: lines_.walls(sheet, crossed), first, crossed)
+def _walls_block(sheet: Sheet, span: _Span, *lists: Any) -> _Part:
+    crossed = _lowered(span, Crossed(*lists))
+    found = _attempt(lambda: lines_.walls(sheet, crossed), span.first, crossed)
+    return _numbered(found, span.first)
 
 
 def _walls_element(sheet: Sheet, crossed: Crossed) -> _Part:
@@ -287,34 +389,58 @@ def _walls_element(sheet: Sheet, crossed: Crossed) -> _Part:
     return _attempt(lambda: lines_.walls(sheet, lists), 0, lists)
 
 
-def _judged_block(sheet: Sheet, first: int, past: int, rows: Any, lines: Any, positions: Any, shapes: Any, theirs: Any = None) -> Any:
-    crossed = _lowered(first, past, Crossed(rows, lines, positions, shapes))
-    entries = np.zeros(0, WALL) if theirs is None else theirs
-    numbers = _lowered_numbers("theirs", first, past, entries["line"])
-    their_lists = {"line": numbers, "start": entries["start"].copy(), "end": entries["end"].copy()}
-    part = _attempt(lambda: lines_.judge(sheet, crossed, their_lists), first, crossed)
-    return part, len(entries)
+def _judged_block(sheet: Sheet, span: _Span, rows: Any, lines: Any, positions: Any, shapes: Any, theirs: Any = None) -> Any:
+    crossed = _lowered(span, Crossed(rows, lines, positions, shapes))
+    their_lists = _their_lists(span, theirs)
+    part = _attempt(lambda: lines_.judge(sheet, crossed, their_lists), span.first, crossed)
+    return part, len(their_lists["line"])
 
 
-def _without_theirs(crossed: Crossed) -> Tuple[Crossed, None]:
-    return crossed, None
+def _judged_list(sheet: Sheet, span: _Span, elements: List[Crossed], theirs: Optional[Iterable[Any]]) -> List[Any]:
+    """The elements of a bag's partition, each numbered from 0, and another's walls of each, numbered in the whole."""
+    entries = [None] * len(elements) if theirs is None else list(theirs)
+    if len(entries) != len(elements):
+        raise ValueError(f"theirs: a partition has {len(entries)} elements, and that of crossed has {len(elements)}")
+    firsts = list(accumulate((len(element.rows) for element in elements[:-1]), initial=span.first))
+    spans = [_Span(first, past=past) for first, past in zip(firsts, [*firsts[1:], span.past])]
+    return [_judged_element(sheet, *asked) for asked in zip(spans, elements, entries)]
 
 
-def _judged_list(sheet: Sheet, pairs: Iterable[Tuple[Crossed, Any]]) -> List[Any]:
-    return [_judged_block(sheet, 0, MOST_LINES, *crossed, theirs) for crossed, theirs in pairs]
+def _judged_element(sheet: Sheet, span: _Span, crossed: Crossed, theirs: Any) -> Any:
+    lists, their_lists = Crossed(*map(_fit, crossed)), _their_lists(span, theirs)
+    part = _attempt(lambda: lines_.judge(sheet, lists, their_lists), 0, lists)
+    return part, len(their_lists["line"])
 
 
-def _lowered(first: int, past: int, crossed: Crossed) -> Crossed:
+def _their_lists(span: _Span, theirs: Any) -> Dict[str, Any]:
+    numbers, starts, ends = lines_.their_lists(np.zeros(0, WALL) if theirs is None else theirs, copy=True)
+    return {"line": _lowered_numbers("theirs", span, numbers), "start": starts, "end": ends}
+
+
+def _lowered(span: _Span, crossed: Crossed) -> Crossed:
     rows, lines, positions, shapes = map(_fit, crossed)
-    return Crossed(rows, _lowered_numbers("lines", first, past, lines), positions, shapes)
+    span.holds("rows", span.lines, rows)
+    span.holds("lines", span.crossings, lines)
+    return Crossed(rows, _lowered_numbers("lines", span, _arrays.read("lines", lines, "uint32")), positions, shapes)
 
 
-def _lowered_numbers(name: str, first: int, past: int, numbers: Any) -> Any:
+def _lowered_numbers(name: str, span: _Span, numbers: Any) -> Any:
     """A partition's line numbers, lowered by those before it as 32-bit numbers wrap: one below the first has no row in the partition."""
-    numbers = np.asarray(numbers, np.uint32)
-    if len(numbers) and not (numbers[0] >= first and numbers.max() < past):
-        raise ValueError(f"{name}: the block for lines {first} to {past - 1} has others: blocks are cut between lines")
-    return np.subtract(numbers, np.uint32(first))
+    if len(numbers) and not (numbers[0] >= span.first and numbers.max() < span.past):
+        raise ValueError(f"{name}: the block for lines {span.first} to {span.past - 1} has others: blocks are cut between lines")
+    return np.subtract(numbers, np.uint32(span.first % MOST_LINES))
+
+
+def _raise(numbers: Any, first: int) -> None:
+    if first:
+        np.add(numbers, np.uint32(first % MOST_LINES), out=numbers)
+
+
+def _numbered(part: _Part, first: int) -> _Part:
+    """Walls that were just found, and that no other task has: their lines are numbered in the whole."""
+    if not isinstance(part.answer, Refused):
+        _raise(part.answer["line"], first)
+    return part
 
 
 def _attempt(job: Callable[[], Any], first: int, crossed: Crossed) -> _Part:
@@ -339,6 +465,10 @@ def _attempt(job: Callable[[], Any], first: int, crossed: Crossed) -> _Part:
 # ---- how answers are joined
 
 
+def _lines_of(elements: List[Crossed]) -> int:
+    return sum(len(element.rows) for element in elements)
+
+
 def _sizes_of(part: _Part) -> _Sizes:
     return part.sizes
 
@@ -355,9 +485,10 @@ def _kept(answer: Any, before: _Sizes) -> Any:
 
 
 def _on_later_lines(walls: Any, before: _Sizes) -> Any:
-    """A partition's walls in the whole: the lines before it are added to their line numbers."""
-    np.add(walls["line"], np.uint32(before.lines), out=walls["line"])
-    return walls
+    """A partition's walls in the whole: the lines before it are added to their line numbers, in a copy, since other tasks may have them."""
+    later = walls.copy()
+    _raise(later["line"], before.lines)
+    return later
 
 
 def _in_whole(refused: Refused, before: _Sizes) -> Refused:
@@ -391,6 +522,8 @@ def _first_refusal(partitions: Iterable[Iterable[Any]]) -> Optional[Refused]:
         if isinstance(part.answer, Refused):
             refusals.append(_in_whole(part.answer, before))
         before = before.and_(part.sizes)
+    if before.lines > MOST_LINES:
+        refusals.append(Refused(14, 0, 0))
     order = {13: 0, 14: 1}
     return min(refusals, key=lambda one: order.get(one.number, 2)) if refusals else None
 

@@ -7,13 +7,16 @@ from typing import Any, Dict, Mapping, NamedTuple, Sequence, Tuple, Union
 import numpy as np
 from numpy.typing import NDArray
 
-from . import _arrays, lent
+from . import _arrays, _given, lent
 from .lines import Crossed
 from .refused import Refused
 from .sheets import Sheet
 
 #: A box in a list of kinds; 0, 1 and 2 are half-spaces on that axis.
 BOX = 255
+
+#: Crossings for which room is made at once: 160 megabytes that are asked for, and not touched before something is written there.
+MOST_ROOM = 2**24
 
 Three = Tuple[float, float, float]
 
@@ -51,6 +54,8 @@ class Drawing:
     """
 
     def __init__(self, sheet: Sheet, shapes: Mapping[str, Union[Box, HalfSpace]]) -> None:
+        _given.instance("sheet", sheet, Sheet, "a Sheet")
+        _given.instance("shapes", shapes, Mapping, "a Box or a HalfSpace for each name, in a dict,")
         for name in shapes:
             if name not in sheet.names:
                 raise ValueError(f"shapes: {name} is no shape of the sheet")
@@ -77,11 +82,12 @@ class Drawing:
         return kinds, numbers
 
     def __reduce__(self) -> Tuple[Any, ...]:
-        # as bytes, so that the arrays are aligned wherever they arrive
-        return _restored, (self.kinds.tobytes(), self.numbers.tobytes())
+        return _restored, self.__dask_tokenize__()
 
     def __dask_tokenize__(self) -> Tuple[bytes, bytes]:
-        return self.kinds.tobytes(), self.numbers.tobytes()
+        # as bytes, so that the arrays are aligned wherever they arrive; those that are not fit would be others there
+        kinds, numbers = self.lists()
+        return kinds.tobytes(), numbers.tobytes()
 
 
 def _restored(kinds: bytes, numbers: bytes) -> Drawing:
@@ -89,16 +95,11 @@ def _restored(kinds: bytes, numbers: bytes) -> Drawing:
 
 
 def _parts(name: str, shape: Union[Box, HalfSpace]) -> Tuple[int, Sequence[float]]:
+    of = f"shapes[{name!r}]"
+    _given.instance(of, shape, (Box, HalfSpace), "a Box or a HalfSpace")
     if isinstance(shape, Box):
-        numbers = (*shape.lows, *shape.highs)
-        if len(shape.lows) != 3 or len(shape.highs) != 3:
-            raise ValueError(f"shapes: {name} has {len(shape.lows)} lows and {len(shape.highs)} highs, and three of each are needed")
-        return BOX, numbers
-    if isinstance(shape, HalfSpace):
-        if shape.axis not in (0, 1, 2):
-            raise ValueError(f"shapes: {name} lies across the axis {shape.axis}, and 0, 1 or 2 is needed")
-        return shape.axis, (shape.face, 0, 0, 0, 0, 0)
-    raise TypeError(f"shapes: {name} is a {type(shape).__name__}, and a Box or a HalfSpace is needed")
+        return BOX, (*_given.numbers(f"{of}.lows", shape.lows, 3), *_given.numbers(f"{of}.highs", shape.highs, 3))
+    return _given.index(f"{of}.axis", shape.axis, 3), (_given.number(f"{of}.face", shape.face), 0, 0, 0, 0, 0)
 
 
 def cross(drawing: Drawing, lines: NDArray[np.float64], *, copy: bool = False) -> Crossed:
@@ -116,18 +117,19 @@ def cross(drawing: Drawing, lines: NDArray[np.float64], *, copy: bool = False) -
     >>> crossed.positions
     array([ 10000, 110000,  10000,  50000,  70000, 110000], dtype=int32)
     """
-    kinds, numbers = drawing.lists(copy=copy)
+    kinds, numbers = _lists_of(drawing, copy)
     flat = _arrays.read("lines", lines, "float64", copy=copy, width=6)
     rows = np.empty((len(flat) // 6, len(kinds)), np.uint8)
+    always = 2 * rows.size
 
     def given(room: int) -> Crossed:
-        lists = [np.empty(room, dtype) for dtype in (np.uint32, np.int32, np.uint16)]
+        lists = _arrays.rooms(room, np.uint32, np.int32, np.uint16)
         counts = lent.cross_many(kinds, numbers, flat, rows.reshape(-1), *lists)
-        return Crossed(rows, *(column[: counts.crossings] for column in lists))
+        return Crossed(rows, *(_kept(column, counts.crossings) for column in lists))
 
-    # a line mostly meets few shapes: where they are more, the refusal says how many crossings there are
+    # room that is always enough saves a pass that counts, and costs nothing where it is not written to; there may be too much of it
     try:
-        return given(min(2 * rows.size, 8 * len(rows) + 4096))
+        return given(always if always <= MOST_ROOM else min(always, 8 * len(rows) + 4096))
     except Refused as refused:
         if refused.number != 9:
             raise
@@ -142,9 +144,9 @@ def cross_line(drawing: Drawing, line: Sequence[float], *, copy: bool = False) -
     >>> cross_line(Drawing(Sheet.of(below), {"Below": HalfSpace(0, 25.0)}), (-10, 0, 0, 1, 0, 0))
     Row(starts=array([1], dtype=uint8), positions=array([35000], dtype=int32), shapes=array([0], dtype=uint16))
     """
-    kinds, numbers = drawing.lists(copy=copy)
+    kinds, numbers = _lists_of(drawing, copy)
     lists = _row(len(kinds))
-    counts = lent.cross(line, kinds, numbers, *lists.values())
+    counts = lent.cross(_given.numbers("line", line, 6), kinds, numbers, *lists.values())
     return _cut(lists, counts.crossings)
 
 
@@ -161,6 +163,17 @@ def cross_balls(balls: NDArray[np.int32], *, copy: bool = False) -> Row:
     lists = _row(len(flat) // 4)
     counts = lent.cross_balls(flat, *lists.values())
     return _cut(lists, counts.crossings)
+
+
+def _kept(column: Any, entries: int) -> Any:
+    """The entries given: where they stand, or by themselves where much room behind them would be kept too."""
+    given = column[:entries]
+    return given if 4 * entries >= len(column) else given.copy()
+
+
+def _lists_of(drawing: Drawing, copy: bool) -> Tuple[Any, Any]:
+    _given.instance("drawing", drawing, Drawing, "a Drawing")
+    return drawing.lists(copy=copy)
 
 
 def _row(shapes: int) -> Dict[str, Any]:

@@ -3,7 +3,9 @@
 from __future__ import annotations
 
 import enum
-from typing import Iterable, Sequence, Tuple, Union
+from typing import Any, Iterable, Sequence, Tuple, Union
+
+from . import _given
 
 
 class Operation(enum.IntEnum):
@@ -34,8 +36,7 @@ class Formula:
     __slots__ = ("_postfix",)
 
     def __init__(self, name: str) -> None:
-        if not isinstance(name, str):
-            raise TypeError(f"name: a str is needed, and this is {name!r}")
+        _given.instance("name", name, str, "a str")
         self._postfix: Tuple[Union[str, Operation], ...] = (name,)
 
     @classmethod
@@ -46,8 +47,8 @@ class Formula:
         (A - B)
         """
         formula = object.__new__(cls)
-        formula._postfix = tuple(postfix)
-        formula._reduced()
+        formula._postfix = _given.each("postfix", postfix, "names and operations")
+        formula._is_whole()
         return formula
 
     @property
@@ -68,20 +69,16 @@ class Formula:
             raise ValueError(f"names: there is no {unknown[0]}, which the formula has")
         return [part.value if isinstance(part, Operation) else numbers[part] for part in self._postfix]
 
-    def _reduced(self) -> str:
-        """The formula in words; a ValueError where it is none. Flat, so that no depth of a formula is a depth of the stack."""
-        waiting: list[str] = []
+    def _is_whole(self) -> None:
+        """A ValueError where names and operations are no formula, a TypeError where they are something else."""
+        waiting = 0
         for part in self._postfix:
-            if isinstance(part, Operation):
-                if len(waiting) < 2:
-                    raise ValueError(f"postfix: {part.name} has fewer than two operands before it")
-                right, left = waiting.pop(), waiting.pop()
-                waiting.append(f"({left} {_SIGNS[part]} {right})")
-            else:
-                waiting.append(part)
-        if len(waiting) != 1:
-            raise ValueError(f"postfix: {len(waiting)} operands are left, and one is needed")
-        return waiting[0]
+            _given.instance("postfix", part, (str, Operation), "a name or an Operation")
+            if isinstance(part, Operation) and waiting < 2:
+                raise ValueError(f"postfix: {part.name} has fewer than two operands before it")
+            waiting += -1 if isinstance(part, Operation) else 1
+        if waiting != 1:
+            raise ValueError(f"postfix: {waiting} operands are left, and one is needed")
 
     def _with(self, other: object, operation: Operation) -> Formula:
         if not isinstance(other, Formula):
@@ -109,7 +106,18 @@ class Formula:
         return hash(self._postfix)
 
     def __repr__(self) -> str:
-        return self._reduced()
+        # flat, so that no depth of a formula is a depth of the stack
+        waiting: list[str] = []
+        for part in self._postfix:
+            if isinstance(part, Operation):
+                right, left = waiting.pop(), waiting.pop()
+                waiting.append(f"({left} {_SIGNS[part]} {right})")
+            else:
+                waiting.append(part)
+        return waiting[0]
+
+    def __reduce__(self) -> Tuple[Any, ...]:
+        return Formula.of_postfix, (self._postfix,)
 
 
 def shapes(*names: str) -> Tuple[Formula, ...]:

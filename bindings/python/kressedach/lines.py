@@ -7,7 +7,7 @@ from typing import Any, Mapping, NamedTuple, Union
 import numpy as np
 from numpy.typing import NDArray
 
-from . import _arrays, lent
+from . import _arrays, _given, lent
 from .lent import Opinion
 from .sheets import Sheet
 
@@ -50,7 +50,9 @@ class Crossed(NamedTuple):
         >>> Crossed.in_air(sheet, lines, positions, sheet.numbers(["Block", "Bore", "Bore", "Block"])).rows
         array([[0, 0]], dtype=uint8)
         """
-        count = int(np.max(lines)) + 1 if len(lines) else 0
+        _given.instance("sheet", sheet, Sheet, "a Sheet")
+        numbers = _arrays.read("lines", lines, "uint32", copy=not isinstance(lines, np.ndarray))
+        count = int(numbers.max()) + 1 if numbers.size else 0
         return cls(np.zeros((count, len(sheet.names)), np.uint8), lines, positions, shapes)
 
     def lists(self, names: int, *, copy: bool = False) -> dict[str, Any]:
@@ -81,9 +83,9 @@ def walls(sheet: Sheet, crossed: Crossed, *, copy: bool = False) -> Walls:
     >>> sheet.named(found["start_shape"]), sheet.named(found["end_shape"])
     (array(['Block', 'Bore'], dtype='<U5'), array(['Bore', 'Block'], dtype='<U5'))
     """
-    lists = crossed.lists(len(sheet.names), copy=copy)
-    room = len(lists["lines"]) // 2 + len(crossed.rows)
-    columns = [np.empty(room, dtype) for dtype in _WRITTEN.values()]
+    lists = lists_of(sheet, crossed, copy=copy)
+    room = len(lists["lines"]) // 2 + len(lists["rows"]) // len(sheet.names)
+    columns = _arrays.rooms(room, *_WRITTEN.values())
     count = lent.classify(sheet, *lists.values(), *columns)
     return walls_of(*(column[:count] for column in columns))
 
@@ -106,12 +108,24 @@ def walls_of(
         found[field] = column
     thickness = found["thickness"]
     np.subtract(ends, starts, out=thickness, dtype=np.int64)
-    thickness[is_open(found)] = OPEN_THICKNESS
+    without = starts == OPEN_START
+    without |= ends == OPEN_END
+    if without.any():
+        thickness[without] = OPEN_THICKNESS
     return found
 
 
 def is_open(found: Walls) -> NDArray[np.bool_]:
-    """Which walls are open: metal goes on past the ends of what is known of the line, so that they have no thickness."""
+    """Which walls are open: metal goes on past the ends of what is known of the line, so that they have no thickness.
+
+    >>> import numpy
+    >>> from kressedach import Crossed, Sheet, shapes
+    >>> below, = shapes("Below")
+    >>> sheet = Sheet.of(below)
+    >>> row, at = numpy.ones((1, 1), "uint8"), numpy.array([25], "int32")
+    >>> is_open(walls(sheet, Crossed(row, numpy.zeros(1, "uint32"), at, numpy.zeros(1, "uint16"))))
+    array([ True])
+    """
     either: NDArray[np.bool_] = (found["start"] == OPEN_START) | (found["end"] == OPEN_END)
     return either
 
@@ -135,16 +149,25 @@ def judge(sheet: Sheet, crossed: Crossed, theirs: Union[Walls, Mapping[str, Any]
     >>> judge(sheet, crossed, nearest_and_farthest)
     Opinion(right=False, index=0)
     """
-    return lent.judge(sheet, *crossed.lists(len(sheet.names), copy=copy).values(), *their_lists(theirs, copy=copy))
+    return lent.judge(sheet, *lists_of(sheet, crossed, copy=copy).values(), *their_lists(theirs, copy=copy))
+
+
+def lists_of(sheet: Sheet, crossed: Crossed, *, copy: bool = False) -> dict[str, Any]:
+    """The lists of crossed lines, flat, as the jobs take them with this sheet."""
+    _given.instance("sheet", sheet, Sheet, "a Sheet")
+    _given.instance("crossed", crossed, Crossed, "a Crossed")
+    return crossed.lists(len(sheet.names), copy=copy)
 
 
 def their_lists(theirs: Union[Walls, Mapping[str, Any]], *, copy: bool = False) -> tuple[Any, ...]:
     """Line, start and end of another's walls, flat. The fields of a structured array do not stand one after the other: they are copied."""
     structured = isinstance(theirs, np.ndarray)
-    fields = {"line": "uint32", "start": "int32", "end": "int32"}
-    lists = {
-        f"theirs[{field!r}]": _arrays.read(f"theirs[{field!r}]", theirs[field], dtype, copy=copy or structured)
-        for field, dtype in fields.items()
-    }
+    fields = theirs.dtype.names if isinstance(theirs, np.ndarray) else getattr(theirs, "keys", tuple)()
+    lists = {}
+    for field in ("line", "start", "end"):
+        if field not in (fields or ()):
+            raise TypeError(f"theirs: a structured array, or an array for each of line, start and end is needed, and there is no {field}")
+        name = f"theirs[{field!r}]"
+        lists[name] = _arrays.read(name, theirs[field], _WRITTEN[field].__name__, copy=copy or structured)
     _arrays.same_length(**lists)
     return tuple(lists.values())

@@ -11,7 +11,7 @@ from typing import Any, Iterable, Optional, Sequence, Tuple, Union
 import numpy as np
 from numpy.typing import NDArray
 
-from . import lent
+from . import _given, lent
 from .formula import Formula, Operation
 from .refused import Refused, Which
 
@@ -64,9 +64,10 @@ class Sheet:
         >>> Sheet.of(plate | lug, fittings=fittings_of("Lug")).names
         ('Lug', 'Plate')
         """
+        _given.instance("formula", formula, Formula, "a Formula")
         beside = None if fittings is None else _bytes("fittings", fittings)
         first = () if beside is None else fittings_names(beside)
-        own = tuple(name for name in formula.names if name not in first) if names is None else tuple(names)
+        own = tuple(name for name in formula.names if name not in first) if names is None else _names("names", names)
         made = cls(_encoded(own, formula.codes((*first, *own))), beside)
         if edition == 1:
             return made
@@ -129,12 +130,14 @@ class Sheet:
         >>> Sheet.of(Formula("Block") - Formula("Bore")).named([1, 65535, 0])
         array(['Bore', '', 'Block'], dtype='<U5')
         """
-        numbers = np.asarray(numbers)
-        open_ends = numbers == OPEN_SHAPE
-        none = ~open_ends & ((numbers < 0) | (numbers >= len(self.names)))
+        given = np.asarray(numbers)
+        if given.dtype.kind not in "iu" and (given.size or isinstance(numbers, np.ndarray)):
+            raise TypeError(f"numbers: whole numbers are needed, and these are of {given.dtype}")
+        open_ends = given == OPEN_SHAPE
+        none = ~open_ends & ((given < 0) | (given >= len(self.names)))
         if none.any():
-            raise IndexError(f"numbers: no name has the number {numbers[none][0]}")
-        named: NDArray[np.str_] = np.array((*self.names, ""))[np.where(open_ends, len(self.names), numbers)]
+            raise IndexError(f"numbers: no name has the number {given[none][0]}")
+        named: NDArray[np.str_] = np.array((*self.names, ""))[np.where(open_ends, len(self.names), given).astype(np.intp)]
         return named
 
     @property
@@ -182,7 +185,7 @@ def fittings_of(*names: str) -> bytes:
     >>> fittings_of("Lug").hex(" ", -4)
     '01000200 01020003 4c7567'
     """
-    fittings = _named(names)
+    fittings = _named(_names("names", names))
     fittings_names(fittings)
     return fittings
 
@@ -209,9 +212,15 @@ def fittings_names(fittings: Union[bytes, bytearray, memoryview]) -> Tuple[str, 
 
 
 def _bytes(name: str, given: Any) -> bytes:
-    if not isinstance(given, (bytes, bytearray, memoryview)):
-        raise TypeError(f"{name}: bytes are needed, and this is a {type(given).__name__}")
+    _given.instance(name, given, (bytes, bytearray, memoryview), "a sheet, in bytes,")
     return bytes(given)
+
+
+def _names(name: str, given: Iterable[str]) -> Tuple[str, ...]:
+    names = _given.each(name, given, "names")
+    for each in names:
+        _given.instance(name, each, str, "a str for each")
+    return names
 
 
 def _field(tag: int, content: bytes) -> bytes:

@@ -2,12 +2,12 @@
 
 from __future__ import annotations
 
-from typing import Any, Iterable, NamedTuple, Tuple, Union
+from typing import Any, List, NamedTuple, Tuple, Union
 
 import numpy as np
 from numpy.typing import NDArray
 
-from . import _arrays, lent
+from . import _arrays, _given, lent
 from .lent import Size
 from .refused import Refused
 from .sheets import Sheet
@@ -22,7 +22,7 @@ NONE = 65535
 NODE = np.dtype([("kind", np.uint16), ("first", np.uint16), ("second", np.uint16)])
 
 #: Toggles: an array of shape numbers (uint16), or the shapes' names.
-Toggles = Union[NDArray[np.uint16], Iterable[str]]
+Toggles = Union[NDArray[np.uint16], List[str], Tuple[str, ...]]
 
 
 class Tree(NamedTuple):
@@ -149,6 +149,7 @@ class _Lists:
 
 def _numbers(name: str, sheet: Sheet, toggles: Any, copy: bool) -> NDArray[np.uint16]:
     """Shape numbers, of an array or of names."""
+    _given.instance("sheet", sheet, Sheet, "a Sheet")
     if isinstance(toggles, np.ndarray) or (copy and not _are_names(toggles)):
         return _arrays.read(name, toggles, "uint16", copy=copy)
     if not _are_names(toggles):

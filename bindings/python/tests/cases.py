@@ -1,5 +1,7 @@
 """Cases as bindings/rust/peer/src/bin/peer_cases.rs writes them."""
 
+import ctypes
+import mmap
 import struct
 from typing import NamedTuple
 
@@ -58,3 +60,23 @@ def typed(entries, dtype):
     """A list's bytes as entries of a type: an array of its own, aligned."""
     assert entries.shape[1] == np.dtype(dtype).itemsize
     return entries.copy().view(dtype).reshape(-1)
+
+
+class Guarded:
+    """Arrays that end where memory ends, or begin where it begins: pages that nobody may touch stand on both sides."""
+
+    _protect = ctypes.CDLL(None).mprotect
+
+    def __init__(self, at_the_end):
+        self.at_the_end = at_the_end
+
+    def __call__(self, array):
+        """A copy of an array, there."""
+        inside = max(1, -(-array.nbytes // mmap.PAGESIZE)) * mmap.PAGESIZE
+        memory = np.frombuffer(mmap.mmap(-1, inside + 2 * mmap.PAGESIZE), np.uint8)
+        for page in (0, mmap.PAGESIZE + inside):
+            assert self._protect(ctypes.c_void_p(memory.ctypes.data + page), ctypes.c_size_t(mmap.PAGESIZE), 0) == 0
+        first = mmap.PAGESIZE + (inside - array.nbytes if self.at_the_end else 0)
+        there = memory[first : first + array.nbytes].view(array.dtype)
+        there[:] = array
+        return there

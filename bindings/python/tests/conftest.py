@@ -1,6 +1,7 @@
 """What the tests share: the worked sheet, and cases that the plain implementation in Rust has written."""
 
 import os
+import signal
 import subprocess
 from pathlib import Path
 
@@ -9,6 +10,23 @@ import pytest
 import kressedach
 
 ROOT = Path(__file__).resolve().parents[3]
+
+#: Seconds that a test may take, with all that it is the first to need: what hangs fails.
+AT_MOST = int(os.environ.get("KRESSEDACH_PYTHON_SECONDS", "300"))
+
+
+@pytest.hookimpl(hookwrapper=True)
+def pytest_runtest_protocol(item):
+    def late(*_):
+        raise TimeoutError(f"{item.nodeid} takes more than {AT_MOST} seconds")
+
+    before = signal.signal(signal.SIGALRM, late)
+    signal.alarm(AT_MOST)
+    try:
+        yield
+    finally:
+        signal.alarm(0)
+        signal.signal(signal.SIGALRM, before)
 
 
 @pytest.fixture(scope="session")

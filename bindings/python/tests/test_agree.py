@@ -4,10 +4,12 @@ Reports are compared field by field, and every answer list from end to end, with
 """
 
 from collections import Counter
+from concurrent.futures import ThreadPoolExecutor
 from functools import partial
 
 import numpy as np
-from cases import cases, typed
+import pytest
+from cases import Guarded, cases, typed
 
 import kressedach
 from kressedach import Beside, Refused, lent
@@ -38,14 +40,16 @@ CAN = {
 class Noisy:
     """An answer list as it is lent, full of noise, between entries that are not lent."""
 
-    def __init__(self, room, dtype):
+    def __init__(self, room, dtype, put=lambda array: array):
         noise = np.arange(room + 2 * BESIDE, dtype=np.uint64) * np.uint64(0x9E3779B97F4A7C15) >> np.uint64(17)
         self.all = noise.astype(dtype)
         self.due = self.all.copy()
-        self.list = self.all[BESIDE : BESIDE + room]
+        self.room = room
+        self.list = put(self.all[BESIDE : BESIDE + room])
 
     def check(self, name, entries):
         self.due[BESIDE : BESIDE + len(entries)] = entries
+        self.all[BESIDE : BESIDE + self.room] = self.list
         differ = np.flatnonzero(self.all != self.due)
         assert differ.size == 0, f"{name}[{differ[0] - BESIDE}] is {self.all[differ[0]]}, due is {self.due[differ[0]]}"
 
@@ -54,7 +58,7 @@ def of_sheets(fitted, fittings, sheet):
     return Beside(fittings.tobytes(), sheet.tobytes()) if fitted[0, 0] else sheet.tobytes()
 
 
-def arguments(case):
+def arguments(case, put=lambda array: array):
     """What stands before the lists that are written."""
     job, given = JOBS[case.job], list(case.given)
     first = [of_sheets(*(given.pop(0) for _ in range(3)))] if job.of_sheets else []
@@ -62,7 +66,7 @@ def arguments(case):
         first.append(int(typed(given.pop(0), "uint64")[0]))
     if case.job == "cross":
         first.append(typed(given.pop(0), "float64"))
-    return first + [typed(entries, dtype) for entries, dtype in zip(given, job.reads.values())]
+    return first + [put(typed(entries, dtype)) for entries, dtype in zip(given, job.reads.values())]
 
 
 def told(call, report):
@@ -87,9 +91,9 @@ def told_both(call):
     return [number for one in refusal for number in one]
 
 
-def compare(case):
-    job, lists = JOBS[case.job], [Noisy(list.room, dtype) for list, dtype in zip(case.lent, JOBS[case.job].writes.values())]
-    given = arguments(case)
+def compare(case, put=lambda array: array):
+    job, lists = JOBS[case.job], [Noisy(list.room, dtype, put) for list, dtype in zip(case.lent, JOBS[case.job].writes.values())]
+    given = arguments(case, put)
     before = [array.copy() for array in given if isinstance(array, np.ndarray)]
     call = partial(getattr(lent, case.job), *given, *(noisy.list for noisy in lists))
     got = told_both(call) if case.job == "run_both" else told(call, job.report)
@@ -115,6 +119,30 @@ def test_cases_from_a_seed_agree(peer_cases):
     for job, numbers in CAN.items():
         assert numbers - OF_SHEETS <= set(seen[job]) <= numbers, (job, seen[job])
     assert OF_SHEETS <= set(sum(seen.values(), Counter()))
+
+
+def some_of_each_job(path, count):
+    """The first so many cases of each job."""
+    left = Counter({job: count for job in JOBS})
+    for case in cases(path):
+        if left[case.job]:
+            left[case.job] -= 1
+            yield case
+
+
+@pytest.mark.parametrize("at_the_end", [True, False])
+def test_every_list_stands_between_pages_that_nobody_may_touch(peer_cases, at_the_end):
+    """Every entry that there is, and not one more, of every list that is read or written, by every job."""
+    for case in some_of_each_job(peer_cases, 200):
+        compare(case, Guarded(at_the_end))
+
+
+def test_many_threads_call_at_once(peer_cases):
+    """Every job, in eight threads, each with cases and lists of its own."""
+    some = list(some_of_each_job(peer_cases, 200))
+    with ThreadPoolExecutor(8) as threads:
+        for done in [threads.submit(lambda first: [compare(case) for case in some[first::8]], first) for first in range(8)]:
+            done.result()
 
 
 def lists_of_one_length(*lists):

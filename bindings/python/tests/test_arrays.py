@@ -1,7 +1,5 @@
 """No array that is not fit reaches the library: it is refused in words that name the argument, and none is copied unseen."""
 
-import mmap
-
 import numpy as np
 import pytest
 
@@ -86,6 +84,34 @@ def structured(array):
     return np.zeros(LONG, [("a", array.dtype), ("b", array.dtype)])["a"]
 
 
+def of_objects(array):
+    return array.astype(object)
+
+
+def of_text(array):
+    return array.astype(str)
+
+
+def of_truths(array):
+    return array.astype(bool)
+
+
+def other_numbers(array):
+    return np.full(LONG, np.nan, np.float32)
+
+
+def of_another_class(array):
+    """What says that it is an array, and is none."""
+
+    class Pretends:
+        __class__ = np.ndarray
+
+        def __array__(self, *_):
+            return array
+
+    return Pretends()
+
+
 WRONG = [
     (reversed_entries, ValueError, "one after the other"),
     (every_second, ValueError, "one after the other"),
@@ -101,6 +127,11 @@ WRONG = [
     (bytes_alone, TypeError, "is needed, and this is a bytes"),
     (nothing, TypeError, "is needed, and this is a type"),
     (masked, TypeError, "is needed, and this is a MaskedArray"),
+    (of_objects, TypeError, "is needed, and this one is of object"),
+    (of_text, TypeError, "is needed, and this one is of <U"),
+    (of_truths, TypeError, "is needed, and this one is of bool"),
+    (other_numbers, TypeError, "is needed, and this one is of float32"),
+    (of_another_class, TypeError, "is needed, and this is a Pretends"),
 ]
 
 
@@ -195,21 +226,104 @@ def test_a_number_of_a_shape():
     for wrong in (-1, 2**64):
         with pytest.raises(ValueError, match="^shape: a number from 0 to 18446744073709551615 is needed"):
             lent.name(SHEET, wrong)
-    with pytest.raises(TypeError):
-        lent.name(SHEET, 1.0)
+    for wrong in (1.0, float("nan"), None, "1"):
+        with pytest.raises(TypeError, match="^shape: a whole number is needed, and this is a "):
+            lent.name(SHEET, wrong)
 
 
 def test_a_line_has_six_numbers():
-    with pytest.raises(ValueError, match="^probe: six numbers are needed, origin and direction, and this has 5"):
+    with pytest.raises(ValueError, match="^probe: 6 numbers are needed, and this has 5"):
         lent.cross([0.0] * 5, *fit("cross").values())
+    for wrong in (None, 1.0, "100100", [None] * 6, ["1"] * 6, np.zeros((6, 2)), [1j] * 6):
+        with pytest.raises(TypeError, match="^probe: (a number is|6 numbers are) needed, and this is a "):
+            lent.cross(wrong, *fit("cross").values())
+    with pytest.raises(ValueError, match="^probe: the number is more than a double holds"):
+        lent.cross([10**400] * 6, *fit("cross").values())
+    for not_finite in (float("nan"), float("inf")):
+        with pytest.raises(kressedach.Refused, match="^refused 16 for the line: "):
+            lent.cross([0, 0, 0, 1, 0, not_finite], *fit("cross").values())
 
 
 def test_sheets_are_bytes():
     for wrong in ("text", None, 3, np.zeros(3, np.uint8), lent.Beside(SHEET, "text"), bytearray(SHEET)):
-        with pytest.raises(TypeError, match="^sheet: bytes or a Sheet are needed"):
+        with pytest.raises(TypeError, match="^sheet: a Sheet, or bytes, is needed"):
             lent.read(wrong)
-    with pytest.raises(TypeError, match="^fittings: bytes are needed"):
+    with pytest.raises(TypeError, match="^fittings: a fittings sheet, in bytes, is needed"):
         lent.read(lent.Beside("text", SHEET))
+
+
+def test_bytes_that_lie_about_their_length():
+    """A class made of bytes may say any length: those that are there count."""
+
+    class Longer(bytes):
+        def __len__(self):
+            return 1 << 40
+
+    class Shorter(bytes):
+        def __len__(self):
+            return 0
+
+    fittings = kressedach.fittings_of("Lug")
+    for lying in (Longer, Shorter):
+        assert lent.read(lying(SHEET)) == lent.read(SHEET)
+        assert lent.read(lent.Beside(lying(fittings), lying(SHEET))) == lent.read(lent.Beside(fittings, SHEET))
+        assert kressedach.Sheet(lying(SHEET)) == kressedach.Sheet(SHEET)
+
+
+def test_lengths_of_more_than_32_bits():
+    """Memory that nobody has touched: a length that lost its high bits would be too short."""
+    moved = np.empty(2**32 + 5, np.uint8)
+    assert lent.move(SHEET, moved) == len(SHEET)
+    one = kressedach.Sheet.of(kressedach.Formula("A"))
+    crossings = [np.zeros(0, dtype) for dtype in ("uint32", "int32", "uint16")]
+    walls = [np.zeros(0, dtype) for dtype in JOBS["classify"].writes.values()]
+    with pytest.raises(kressedach.Refused) as refused:
+        lent.classify(one, np.zeros(2**32 + 1, np.uint8), *crossings, *walls)
+    assert (refused.value.number, refused.value.place) == (14, 0)
+
+
+def test_arrays_with_no_entries_have_no_address(monkeypatch):
+    """numpy calls them aligned, wherever they are."""
+    given = []
+    monkeypatch.setitem(library(), "judge", lambda report, *arguments: given.extend(arguments))
+    odd = np.zeros(9, np.uint8)[1:1]
+    call("judge", {name: odd.view(dtype) for name, dtype in JOBS["judge"].reads.items()})
+    assert given[5:] == [0, 0] * len(JOBS["judge"].reads)
+
+
+@pytest.mark.parametrize("job", JOBS)
+def test_no_array_is_resized_during_a_call(monkeypatch, job):
+    """Each is held from the look at it to the end of the call."""
+    lists, seen = fit(job), []
+
+    def called(*_):
+        for array in lists.values():
+            with pytest.raises(ValueError, match="resize"):
+                array.resize(10 * LONG)
+            seen.append(array)
+
+    monkeypatch.setitem(library(), job, called)
+    call(job, lists)
+    assert len(seen) == len(lists)
+
+
+def test_arrays_of_other_classes_are_taken_where_they_are_arrays(tmp_path, block):
+    """A file that is mapped, and a class of somebody's own that says another length."""
+
+    class Lying(np.ndarray):
+        size = 1 << 40
+
+        def __len__(self):
+            return 1 << 40
+
+    mapped = np.memmap(tmp_path / "toggles", np.uint16, "w+", shape=2)
+    mapped[:] = [0, 1]
+    read_only = np.memmap(tmp_path / "toggles", np.uint16, "r", shape=2)
+    for toggles in (mapped, read_only, np.array([0, 1], np.uint16).view(Lying)):
+        lists = [np.zeros(n, dtype).view(Lying) for n, dtype in ((2, np.uint8), (2, np.uint32), (3, np.uint8))]
+        assert lent.run(block, toggles, *lists) == 3 and np.asarray(lists[0]).tolist() == [1, 0]
+    with pytest.raises(ValueError, match="^moved: the array is written to, and this one is read-only"):
+        lent.move(block, np.memmap(tmp_path / "toggles", np.uint8, "r"))
 
 
 def test_copies_mend_the_layout_and_keep_every_value(block):
@@ -222,8 +336,60 @@ def test_copies_mend_the_layout_and_keep_every_value(block):
         kressedach.run(block, [0, 65537], copy=True)
     with pytest.raises(ValueError, match="^toggles: entry 0 is -1, which is no uint16"):
         kressedach.run(block, [-1], copy=True)
-    with pytest.raises(TypeError, match="^toggles: an array of uint16 is needed, and this one is of float64"):
-        kressedach.run(block, [0.0], copy=True)
+    for wrong, dtype in (([0.0], "float64"), ([float("nan")], "float64"), ([10**30], "object"), (["A", 1], "<U"), (None, "object")):
+        with pytest.raises(TypeError, match=f"^toggles: an array of uint16 is needed, and this one is of {dtype}"):
+            kressedach.run(block, wrong, copy=True)
+    with pytest.raises(ValueError, match="^toggles: setting an array element with a sequence"):
+        kressedach.run(block, [[0], [0, 1]], copy=True)
+    with pytest.raises(TypeError, match="^toggles: a numpy array of uint16 is needed, and this is a MaskedArray"):
+        kressedach.run(block, np.ma.masked_array([0, 1]), copy=True)
+    balls = np.array([[0, 0, 5, 2**64 - 1]], np.uint64)
+    with pytest.raises(ValueError, match="^balls: entry 0, 3 is 18446744073709551615, which is no int32"):
+        kressedach.cross_balls(balls, copy=True)
+    drawing = Drawing.of_lists(np.zeros(1, np.uint8), np.zeros((1, 6)))
+    assert kressedach.cross(drawing, [[-5, 0, 0, 1, 0, 0]], copy=True).positions.tolist() == [5000]
+    for wrong in (2**53 + 1, 2**63 - 1):
+        with pytest.raises(ValueError, match=f"^lines: entry 0, 0 is {wrong}, which is no float64"):
+            kressedach.cross(drawing, [[wrong, 0, 0, 1, 0, 0]], copy=True)
+
+
+def test_copies_do_not_see_what_comes_later(block, monkeypatch):
+    """An array is looked at once: what changes after that is not the call's."""
+    toggles, real = np.array([0, 1], np.uint16), library()["run"]
+
+    def changed_meanwhile(*arguments):
+        toggles[:] = 9
+        real(*arguments)
+
+    monkeypatch.setitem(library(), "run", changed_meanwhile)
+    assert kressedach.run(block, toggles, copy=True).roots.tolist() == [True, False]
+
+
+def test_what_is_no_sheet_no_drawing_and_no_crossed_lines(block):
+    crossed = Crossed.in_air(block, [0, 0], [0, 5], [0, 0])
+    drawing, lines = Drawing.of_lists(np.zeros(1, np.uint8), np.zeros((1, 6))), np.zeros((1, 6))
+    for wrong in (None, block.data, 7, "Block"):
+        calls = {
+            "sheet": [
+                lambda: kressedach.walls(wrong, crossed),
+                lambda: kressedach.judge(wrong, crossed, {}),
+                lambda: kressedach.run(wrong, ["Block"]),
+                lambda: Drawing(wrong, {}),
+                lambda: Crossed.in_air(wrong, *crossed[1:]),
+            ],
+            "crossed": [lambda: kressedach.walls(block, wrong), lambda: kressedach.judge(block, wrong, {})],
+            "drawing": [lambda: kressedach.cross(wrong, lines), lambda: kressedach.cross_line(wrong, lines[0])],
+            "line": [lambda: kressedach.cross_line(drawing, wrong)],
+            "lines": [lambda: kressedach.cross(drawing, wrong)],
+            "toggles": [lambda: kressedach.run(block, wrong)],
+        }
+        for name, all_of in calls.items():
+            for one in all_of:
+                with pytest.raises(TypeError, match=f"^{name}: .* needed, and this is a"):
+                    one()
+    for wrong in (None, [1], np.zeros(3), np.zeros(3, [("line", "u4")]), {"line": np.zeros(0, "u4")}, "line"):
+        with pytest.raises(TypeError, match="^theirs: a structured array, or an array for each of line, start and end is needed"):
+            kressedach.judge(block, Crossed(*(np.zeros(n, t) for n, t in (((0, 2), "u1"), (0, "u4"), (0, "i4"), (0, "u2")))), wrong)
 
 
 def test_tables_have_the_width_that_is_due(block):
@@ -243,39 +409,6 @@ def test_tables_have_the_width_that_is_due(block):
         kressedach.cross(drawing, np.zeros((1, 6)))
     with pytest.raises(ValueError, match="^lines: a row of the array has 5 entries, and 6 are needed"):
         kressedach.cross(Drawing.of_lists(np.zeros(0, np.uint8), np.zeros((0, 6))), np.zeros((1, 5)))
-
-
-def guarded(entries, dtype, written=False):
-    """An array that ends where memory ends: a page that nobody may touch stands behind it."""
-    import ctypes
-
-    size = np.dtype(dtype).itemsize * entries
-    pages = -(-size // mmap.PAGESIZE)
-    memory = mmap.mmap(-1, (pages + 1) * mmap.PAGESIZE)
-    array = np.frombuffer(memory, np.uint8)
-    last = array.ctypes.data + pages * mmap.PAGESIZE
-    assert ctypes.CDLL(None).mprotect(ctypes.c_void_p(last), mmap.PAGESIZE, 0) == 0
-    end = pages * mmap.PAGESIZE
-    return array[end - size : end].view(dtype)
-
-
-def test_lists_that_end_where_memory_ends(block):
-    """Every entry there is, and not one more."""
-    lines, crossings = 1000, 4000
-    numbers = np.arange(crossings)
-    given = {
-        "rows": np.zeros(2 * lines, np.uint8),
-        "lines": (numbers // 4).astype(np.uint32),
-        "positions": (numbers % 4 * 10).astype(np.int32),
-        "shapes": np.array([0, 1, 1, 0], np.uint16)[numbers % 4],
-    }
-    reads = {name: guarded(len(array), array.dtype) for name, array in given.items()}
-    for name, array in given.items():
-        reads[name][:] = array
-    room = crossings // 2 + lines
-    writes = [guarded(room, dtype) for dtype in JOBS["classify"].writes.values()]
-    assert lent.classify(block, *reads.values(), *writes) == 2 * lines
-    assert writes[1][: 2 * lines].tolist() == [0, 20] * lines
 
 
 def test_other_threads_run_during_a_call(block):

@@ -2,7 +2,11 @@
 
 import ctypes
 import ctypes.util
+import os
 import platform
+import re
+import subprocess
+import sys
 import threading
 
 import numpy as np
@@ -32,11 +36,37 @@ def test_another_rounding_is_refused():
     crossing()
 
 
-def test_subnormal_numbers_taken_for_zero_are_refused(monkeypatch):
-    """As if the smallest number were nothing: what a processor shows that flushes to zero."""
-    monkeypatch.setattr(_caller, "_TINY", 0.0)
-    with pytest.raises(FloatingPointError, match="subnormal numbers"):
-        crossing()
+#: Sets bits of the processor's word for doubles, and gives what it was.
+FLUSHES = """
+#if defined __x86_64__
+unsigned long set(unsigned long word) { unsigned was = __builtin_ia32_stmxcsr(); __builtin_ia32_ldmxcsr((unsigned)word); return was; }
+#elif defined __aarch64__
+unsigned long set(unsigned long word) { unsigned long was; __asm__ volatile("mrs %0, fpcr" : "=r"(was)); __asm__ volatile("msr fpcr, %0" :: "r"(word)); return was; }
+#endif
+"""
+#: What takes subnormal numbers for zero: results, operands, both. Arm has one bit for both.
+FLUSHING = {"aarch64": (1 << 24,), "x86_64": (1 << 15, 1 << 6, 1 << 15 | 1 << 6)}
+
+
+def test_subnormal_numbers_taken_for_zero_are_refused(tmp_path):
+    """As a library does that was linked with -ffast-math."""
+    source, made = tmp_path / "set.c", tmp_path / "set.so"
+    source.write_text(FLUSHES)
+    subprocess.run([os.environ.get("CC", "cc"), "-shared", "-fPIC", str(source), "-o", str(made)], check=True)
+    set_word = ctypes.CDLL(str(made)).set
+    set_word.argtypes, set_word.restype = [ctypes.c_ulong], ctypes.c_ulong
+    was = set_word({"aarch64": 0, "x86_64": 0x1F80}[platform.machine()])
+    try:
+        for bits in FLUSHING[platform.machine()]:
+            set_word(was | bits)
+            try:
+                with pytest.raises(FloatingPointError, match="subnormal numbers"):
+                    crossing()
+            finally:
+                set_word(was)
+    finally:
+        set_word(was)
+    crossing()
 
 
 def in_a_thread(size, call):
@@ -66,6 +96,43 @@ def test_a_thread_with_a_small_stack_is_refused(block):
     assert in_a_thread(256 * 1024, read) == said
     assert in_a_thread(2 * 1024 * 1024, read) == 2
     assert in_a_thread(_caller.ENOUGH_STACK, read) == 2
+
+
+def deeper(call):
+    """Calls from deeper and deeper, through what takes C's stack at each step, until it is refused; gives what was said."""
+
+    class Step:
+        def __eq__(self, _):
+            call()
+            return Step() in (Step(),)
+
+    try:
+        Step() in (Step(),)
+    except RuntimeError as refused:
+        return str(refused)
+
+
+def test_a_call_from_too_deep_down_is_refused(block):
+    """What is left of the stack counts, and not what it was."""
+    limit = sys.getrecursionlimit()
+    sys.setrecursionlimit(100_000)
+    try:
+        said = in_a_thread(_caller.ENOUGH_STACK, lambda: deeper(lambda: kressedach.lent.read(block)))
+    finally:
+        sys.setrecursionlimit(limit)
+    left = int(re.match(r"this thread has (\d+) bytes of its stack left, and the library needs 589824: ", said)[1])
+    assert 589824 - 65536 < left < 589824
+
+
+def test_the_stack_pointer_is_where_it_is_looked_for():
+    """Within the stack, of the first thread and of another."""
+    for left, size in (both() for both in (stack_left, lambda: in_a_thread(2 * 1024 * 1024, stack_left))):
+        assert size - 262144 < left < size
+
+
+def stack_left():
+    thread = _caller._Thread()
+    return thread.left(), thread.stack.size
 
 
 def test_the_deepest_sheet_on_the_smallest_stack():

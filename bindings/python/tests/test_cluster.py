@@ -36,6 +36,8 @@ def client():
         with LocalCluster(n_workers=2, threads_per_worker=1, processes=True, dashboard_address=None) as cluster:
             with Client(cluster) as client:
                 yield client
+                workers = client.run(os.getpid).values()
+    until(lambda: not any(os.path.exists(f"/proc/{worker}") for worker in workers))
 
 
 def crossed(first, past):

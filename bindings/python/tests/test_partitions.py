@@ -113,10 +113,15 @@ def test_bags_of_partitions(block):
     assert walls.npartitions == crossed.npartitions == 3
     assert np.concatenate(kressedach.dask.drawn_walls(block, drawing, bag).compute()).tobytes() == due.tobytes()
     assert np.concatenate(walls.compute()).tobytes() == due.tobytes()
-    own = crossed.map(lambda one: kressedach.walls(block, one))
-    assert kressedach.dask.judge(block, crossed, own).compute() == kressedach.Opinion(True, len(due))
-    wrong = crossed.map(lambda one: kressedach.walls(block, one)[: len(one.rows) % 41])
-    assert not kressedach.dask.judge(block, crossed, wrong).compute().right
+    assert kressedach.dask.judge(block, crossed, walls).compute() == kressedach.Opinion(True, len(due))
+    here = [array.copy() for array in walls.compute()]
+    here[4]["end"][2] += 1
+    wrong = kressedach.dask.judge(block, crossed, db.from_sequence(here, npartitions=3)).compute()
+    assert wrong == kressedach.judge(block, kressedach.cross(drawing, lines), np.concatenate(here)) and not wrong.right
+    here[4]["end"][2] -= 1
+    beyond = np.array([(5000, 0, 1, 0, 0, 1)], kressedach.WALL)
+    wrong = kressedach.dask.judge(block, crossed, db.from_sequence([*here[:-1], beyond], npartitions=3)).compute()
+    assert wrong == kressedach.Opinion(False, len(due))
 
 
 def test_a_refused_line_in_the_whole(block):
@@ -150,10 +155,30 @@ def test_what_is_refused_before_anything_is_sent(block):
         kressedach.dask.walls(block, parts._replace(rows=parts.rows[:, :1]))
     with pytest.raises(TypeError, match="^rows: a dask array or a bag is needed, and this is a ndarray"):
         kressedach.dask.walls(block, parts._replace(rows=parts.rows.compute()))
-    with pytest.raises(TypeError, match="^crossed: a Crossed of dask arrays or a bag is needed"):
+    with pytest.raises(TypeError, match="^crossed: a Crossed of dask arrays, or a bag, is needed"):
         kressedach.dask.walls(block, [1, 2])
     with pytest.raises(ValueError, match="^theirs: 1 blocks, and rows has 3"):
         kressedach.dask.judge(block, parts, da.zeros(3, dtype=kressedach.WALL, chunks=3))
+    with pytest.raises(TypeError, match="^theirs: a structured array, .* is needed, and there is no start"):
+        kressedach.dask.judge(block, parts, da.zeros(3, dtype=[("line", "u4")], chunks=1))
+    with pytest.raises(TypeError, match="^theirs: a dask array, as crossed is of them, is needed, and this is a ndarray"):
+        kressedach.dask.judge(block, parts, np.zeros(3, kressedach.WALL))
+    for call in (kressedach.dask.walls, kressedach.dask.refused, lambda *given: kressedach.dask.judge(*given, parts)):
+        with pytest.raises(TypeError, match="^sheet: a Sheet is needed, and this is a bytes"):
+            call(block.data, parts)
+    with pytest.raises(TypeError, match="^drawing: a Drawing is needed, and this is a NoneType"):
+        kressedach.dask.cross(None, da.zeros((4, 6)))
+    with pytest.raises(ValueError, match="^drawing: 2 shapes, and the sheet has 1"):
+        one = kressedach.Sheet.of(kressedach.Formula("A"))
+        kressedach.dask.drawn_walls(one, kressedach.Drawing(block, DRAWN), da.zeros((4, 6)))
+    with pytest.raises(TypeError, match="^lines: a whole number is needed, and this is a float"):
+        kressedach.dask.cut(Crossed(*dask.compute(*parts)), 2.5)
+    with pytest.raises(ValueError, match="^rows: an array of 2 dimensions is needed, and this one has 1"):
+        kressedach.dask.cut(Crossed(*dask.compute(*parts))._replace(rows=np.zeros(20, np.uint8)), 4)
+    with pytest.raises(TypeError, match="^theirs: a structured array is needed, and this is a dict"):
+        kressedach.dask.cut_walls({}, parts)
+    with pytest.raises(TypeError, match="^crossed: a Crossed of dask arrays is needed, and this is a Bag"):
+        kressedach.dask.cut_walls(np.zeros(0, kressedach.WALL), db.from_sequence([1]))
     with pytest.raises(ValueError, match="^lines: a partition has one line at least"):
         kressedach.dask.cut(Crossed(*dask.compute(*parts)), 0)
     crowded = kressedach.Drawing.of_lists(np.zeros(257, np.uint8), np.zeros((257, 6)))
@@ -171,3 +196,91 @@ def test_blocks_that_are_not_cut_between_lines(block):
     moved = {name: getattr(parts, name).rechunk((tuple(sizes),)) for name in ("lines", "positions", "shapes")}
     with pytest.raises(ValueError, match="^lines: the block for lines 4 to 7 has others: blocks are cut between lines"):
         kressedach.dask.walls(block, parts._replace(**moved)).compute()
+
+
+def test_blocks_that_are_not_as_long_as_their_array_says(block):
+    """The numbers of later lines rest on it."""
+    drawing, lines = kressedach.Drawing(block, DRAWN), raster(30)
+
+    def said(array, *shape):
+        return da.from_delayed(dask.delayed(lambda: array)(), shape, array.dtype)
+
+    for heights in ((9, 20), (11, 20)):
+        blocks = da.concatenate([said(lines[:10], heights[0], 6), said(lines[10:], heights[1], 6)])
+        for made in (kressedach.dask.drawn_walls(block, drawing, blocks), kressedach.dask.cross(drawing, blocks).lines):
+            with pytest.raises(ValueError, match=f"^lines: the block from line 0 on has 10 entries, and its array says {heights[0]}"):
+                made.compute()
+    whole = kressedach.cross(drawing, lines)
+    for change in ({"rows": said(whole.rows, 29, 2)}, {"lines": said(whole.lines, len(whole.lines) + 1)}):
+        (name,) = change
+        parts = Crossed(*(said(array, *array.shape) for array in whole))._replace(**change)
+        for made in (kressedach.dask.walls(block, parts), kressedach.dask.refused(block, parts)):
+            with pytest.raises(ValueError, match=f"^{name}: the block from line 0 on has {len(getattr(whole, name))} entries"):
+                made.compute()
+
+
+def test_bags_of_walls_that_do_not_go_with_the_lines(block):
+    """An element that is lacking is no opinion on fewer lines, and a number that 32 bits do not hold no other line."""
+    drawing, parts = kressedach.Drawing(block, DRAWN), np.split(raster(30), [10, 20])
+    elements = [kressedach.cross(drawing, part) for part in parts]
+    own = [kressedach.walls(block, element) for element in elements]
+    crossed = db.from_sequence(elements, npartitions=1)
+    walls = kressedach.dask.walls(block, crossed).compute()
+
+    def judged(theirs, partitions=1, of=crossed):
+        return kressedach.dask.judge(block, of, db.from_sequence(theirs, npartitions=partitions)).compute()
+
+    assert judged(walls) == kressedach.Opinion(True, sum(map(len, walls)))
+    as_dicts = [{field: np.ascontiguousarray(one[field]) for field in ("line", "start", "end")} for one in walls]
+    assert judged(as_dicts) == judged(walls)
+    for wrong in (walls[:2], [*walls, walls[0]]):
+        with pytest.raises(ValueError, match=f"^theirs: a partition has {len(wrong)} elements, and that of crossed has 3"):
+            judged(wrong)
+    with pytest.raises(ValueError, match="^theirs: 3 partitions, and crossed has 1"):
+        judged(walls, 3)
+    with pytest.raises(TypeError, match="^theirs: a bag, as crossed is one, is needed, and this is a list"):
+        kressedach.dask.judge(block, crossed, walls)
+    for moved in (own, [walls[0][:-1], np.concatenate([walls[0][-1:], walls[1]]), walls[2]]):
+        with pytest.raises(ValueError, match="^theirs: the block for lines 10 to 19 has others: blocks are cut between lines"):
+            judged(moved)
+    later = [one.astype([(name, np.int64) for name in one.dtype.names]) for one in walls]
+    assert judged(later) == judged(walls)
+    later[1]["line"][3] += 2**32
+    with pytest.raises(ValueError, match="^theirs.*: entry 3 is 429496.*, which is no uint32"):
+        judged(later)
+    wide = db.from_sequence([element._replace(lines=element.lines.astype(np.int64) + 2**32) for element in elements], npartitions=1)
+    for made in (lambda: judged(walls, of=wide), kressedach.dask.refused(block, wide).compute, kressedach.dask.walls(block, wide).compute):
+        with pytest.raises(TypeError, match="^lines: an array of uint32 is needed, and this one is of int64"):
+            made()
+
+
+def test_no_task_changes_what_another_has(block):
+    """Lists that are given and answers that wait stay as they are; what has come over the network may be read-only."""
+    drawing, lines = kressedach.Drawing(block, DRAWN), raster(40)
+    whole = kressedach.cross(drawing, lines)
+    kept, due = [array.tobytes() for array in whole], kressedach.walls(block, whole).tobytes()
+    for array in whole:
+        array.flags.writeable = False
+    parts = kressedach.dask.cut(whole, 15)
+    assert kressedach.dask.walls(block, parts).compute().tobytes() == due
+    assert kressedach.dask.judge(block, parts, kressedach.dask.walls(block, parts)).compute().right
+    assert [array.tobytes() for array in whole] == kept
+    element = kressedach.cross(drawing, lines[:15])
+    waiting = kressedach.dask._walls_element(block, element)
+    waiting.answer.flags.writeable = False
+    before = kressedach.dask._Sizes(1, 100)
+    once, again = (kressedach.dask._raised(waiting, before, kressedach.dask._on_later_lines) for _ in range(2))
+    assert once.tobytes() == again.tobytes() and once["line"].min() == 100 + waiting.answer["line"].min()
+
+
+def test_more_lines_than_their_numbers_hold():
+    """In bags, whose lines are counted where they are: as one call, 14 before any crossing at fault."""
+    sizes = kressedach.dask._Sizes(1, 2**31, 8)
+    fault = kressedach.dask._Part(Refused(10, 0, 3, 5), sizes), 0
+    good = kressedach.dask._Part(kressedach.Opinion(True, 0), sizes), 0
+    assert kressedach.dask._first_refusal([[good, good]]) is None
+    assert kressedach.dask._first_refusal([[good], [fault]]) == Refused(10, 0, 11, 2**31 + 5, 1)
+    assert kressedach.dask._first_refusal([[fault, good], [good]]) == Refused(14, 0, 0)
+    with pytest.raises(Refused) as refused:
+        kressedach.dask._raised(good[0], kressedach.dask._Sizes(2, 2**32), kressedach.dask._kept)
+    assert refused.value == Refused(14, 0, 0, None, 2)
