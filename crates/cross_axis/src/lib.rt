@@ -1,129 +1,128 @@
-// What one axis of a line says of every box at once: a lesser and a greater mark each, with no branch in the loop. It is filled anew only
-// where the line's numbers on that axis changed.
+// What one axis of a line says of boxes: a lesser and a greater mark each, with no branch in the loop.
 ghost use mathlib.Core.Path.{_≡_};
 ghost use mathlib.Core.Bool.{true, false};
-ghost use Rattle.cross_shapes.specs.Shapes.{finite, isZero, axisRange};
-ghost use Rattle.cross_axis.specs.Axes.{Codes, Ready, Filled, Keeps, Fresh};
+ghost use mathlib.Core.Logic.{_≢_};
+ghost use mathlib.Core.Option.{none, some};
+ghost use Prim.Native.Nat.{_+_, _≤_};
+ghost use Rattle.cross_marks.specs.Marks.{unmark};
+ghost use Rattle.cross_positions.specs.Positions.{position};
+ghost use Rattle.cross_shapes.specs.Shapes.{finite, isZero, wrong, axisRange};
+ghost use Rattle.cross_axis.specs.Axes.{Codes, Sized, Filled, SameNumbers};
 
-// One axis of a line: where its part of the columns starts, how many shapes there are, and the line's two numbers.
-pub struct Axis {
-    pub start: usize,
-    pub shapes: usize,
+// The line's two numbers on an axis.
+pub struct Along {
     pub origin: f64,
     pub component: f64,
 }
 
-// What an axis was filled for, whether the last line moved it, and whether every position of it may be given.
-pub struct Kept {
-    pub known: bool,
-    pub moved: bool,
-    pub origin: f64,
-    pub component: f64,
-    pub good: bool,
-}
-
-// The lesser and the greater mark of one box, and whether both positions may be given.
+// The lesser and the greater mark of one box.
 struct Marks {
     lesser: u32,
     greater: u32,
-    good: bool,
 }
 
-fn marks_slant(low: f64, high: f64, origin: f64, component: f64) -> Marks
-    requires { ⌜ isZero component ≡ false ⌝ }
-    ensures { λ r. ⌜ (r .good ≡ true → Codes (axisRange low high origin component) (r .lesser) (r .greater)) ⌝ }
+// The mark of a face where it has a position that may be given.
+fn mark_of(face: f64, along: Along) -> u32
+    ensures { λ r. ⌜ r ≤ 4294967295 ⌝ }
+    ensures { λ r. ⌜ (position face (along .origin) (along .component) ≢ none → position face (along .origin) (along .component) ≡ some (unmark r)) ⌝ }
 {
-    let p = cross_positions::distance_to(low, origin, component);
-    let q = cross_positions::distance_to(high, origin, component);
-    let first = cross_quick::within(p);
-    let second = cross_quick::within(q);
-    let u = cross_quick::mark_or_zero(p, first);
-    let v = cross_quick::mark_or_zero(q, second);
+    let p = cross_positions::distance_to(face, along.origin, along.component);
+    let good = cross_quick::within(p);
+    cross_quick::mark_or_zero(p, good)
+}
+
+fn marks_slant(low: f64, high: f64, along: Along) -> Marks
+    requires { ⌜ isZero (along .component) ≡ false ⌝ }
+    ensures { λ r. ⌜ (axisRange low high (along .origin) (along .component) ≢ wrong → Codes (axisRange low high (along .origin) (along .component)) (r .lesser) (r .greater)) ⌝ }
+{
+    let u = mark_of(low, along);
+    let v = mark_of(high, along);
     Marks {
         lesser: cross_shapes::least(u, v),
         greater: cross_shapes::most(u, v),
-        good: first & second,
     }
 }
 
-fn marks_level(low: f64, high: f64, origin: f64, component: f64) -> Marks
-    requires { ⌜ isZero component ≡ true ⌝ }
-    ensures { λ r. ⌜ Codes (axisRange low high origin component) (r .lesser) (r .greater) ⌝ }
+fn marks_level(low: f64, high: f64, along: Along) -> Marks
+    requires { ⌜ isZero (along .component) ≡ true ⌝ }
+    ensures { λ r. ⌜ (axisRange low high (along .origin) (along .component) ≢ wrong → Codes (axisRange low high (along .origin) (along .component)) (r .lesser) (r .greater)) ⌝ }
 {
-    if (low < origin) & (origin < high) {
+    if (low < along.origin) & (along.origin < high) {
         return Marks {
             lesser: 0,
             greater: 4294967295,
-            good: true,
         };
     }
     Marks {
         lesser: 0,
         greater: 0,
-        good: true,
     }
 }
 
 fn fill_slant(
-    axis: Axis,
+    at: usize,
+    n: usize,
+    along: Along,
     lows: &[f64; 768],
     highs: &[f64; 768],
     lessers: &mut [u32; 1024],
     greaters: &mut [u32; 1024],
-) -> bool
-    requires { ⌜ Ready (now lows) (now highs) (axis .start) (axis .shapes) (now lessers) (now greaters) ⌝ }
-    requires { ⌜ isZero (axis .component) ≡ false ⌝ }
-    ensures { λ r. ⌜ Filled (now (lows .entry)) (now (highs .entry)) (axis .start) (axis .shapes) (axis .origin) (axis .component) (now (lessers .entry)) (now (greaters .entry)) (now (lessers .exit)) (now (greaters .exit)) r ⌝ }
+)
+    requires { ⌜ (at + n ≤ 768) × Sized (now lows) (now highs) (now lessers) (now greaters) ⌝ }
+    requires { ⌜ isZero (along .component) ≡ false ⌝ }
+    ensures { λ _. ⌜ Filled (now (lows .entry)) (now (highs .entry)) at (at + n) along (now (lessers .entry)) (now (greaters .entry)) (now (lessers .exit)) (now (greaters .exit)) ⌝ }
 {
-    let mut all = true;
-    let mut i = 0;
-    while i < axis.shapes {
-        let at = axis.start + i;
-        let marks = marks_slant(lows[at], highs[at], axis.origin, axis.component);
-        lessers[at] = marks.lesser;
-        greaters[at] = marks.greater;
-        all = all & marks.good;
-        i += 1;
+    let mut j = 0usize;
+    while j < n {
+        let k = at + j;
+        let marks = marks_slant(lows[k], highs[k], along);
+        lessers[k] = marks.lesser;
+        greaters[k] = marks.greater;
+        j += 1;
     }
-    all
 }
 
 fn fill_level(
-    axis: Axis,
+    at: usize,
+    n: usize,
+    along: Along,
     lows: &[f64; 768],
     highs: &[f64; 768],
     lessers: &mut [u32; 1024],
     greaters: &mut [u32; 1024],
-) -> bool
-    requires { ⌜ Ready (now lows) (now highs) (axis .start) (axis .shapes) (now lessers) (now greaters) ⌝ }
-    requires { ⌜ isZero (axis .component) ≡ true ⌝ }
-    ensures { λ r. ⌜ Filled (now (lows .entry)) (now (highs .entry)) (axis .start) (axis .shapes) (axis .origin) (axis .component) (now (lessers .entry)) (now (greaters .entry)) (now (lessers .exit)) (now (greaters .exit)) r ⌝ }
+)
+    requires { ⌜ (at + n ≤ 768) × Sized (now lows) (now highs) (now lessers) (now greaters) ⌝ }
+    requires { ⌜ isZero (along .component) ≡ true ⌝ }
+    ensures { λ _. ⌜ Filled (now (lows .entry)) (now (highs .entry)) at (at + n) along (now (lessers .entry)) (now (greaters .entry)) (now (lessers .exit)) (now (greaters .exit)) ⌝ }
 {
-    let mut i = 0;
-    while i < axis.shapes {
-        let at = axis.start + i;
-        let marks = marks_level(lows[at], highs[at], axis.origin, axis.component);
-        lessers[at] = marks.lesser;
-        greaters[at] = marks.greater;
-        i += 1;
+    let mut j = 0usize;
+    while j < n {
+        let k = at + j;
+        let marks = marks_level(lows[k], highs[k], along);
+        lessers[k] = marks.lesser;
+        greaters[k] = marks.greater;
+        j += 1;
     }
-    true
 }
 
-fn fill_axis(
-    axis: Axis,
+// What the axis says of the n boxes from `at` on.
+pub fn fill(
+    at: usize,
+    n: usize,
+    along: Along,
     lows: &[f64; 768],
     highs: &[f64; 768],
     lessers: &mut [u32; 1024],
     greaters: &mut [u32; 1024],
-) -> bool
-    requires { ⌜ Ready (now lows) (now highs) (axis .start) (axis .shapes) (now lessers) (now greaters) ⌝ }
-    ensures { λ r. ⌜ Filled (now (lows .entry)) (now (highs .entry)) (axis .start) (axis .shapes) (axis .origin) (axis .component) (now (lessers .entry)) (now (greaters .entry)) (now (lessers .exit)) (now (greaters .exit)) r ⌝ }
+)
+    requires { ⌜ (at + n ≤ 768) × Sized (now lows) (now highs) (now lessers) (now greaters) ⌝ }
+    ensures { λ _. ⌜ Filled (now (lows .entry)) (now (highs .entry)) at (at + n) along (now (lessers .entry)) (now (greaters .entry)) (now (lessers .exit)) (now (greaters .exit)) ⌝ }
 {
-    if cross_shapes::is_zero(axis.component) {
-        return fill_level(axis, lows, highs, lessers, greaters);
+    if cross_shapes::is_zero(along.component) {
+        fill_level(at, n, along, lows, highs, lessers, greaters);
+        return;
     }
-    fill_slant(axis, lows, highs, lessers, greaters)
+    fill_slant(at, n, along, lows, highs, lessers, greaters);
 }
 
 fn same_bits(x: f64, y: f64) -> bool
@@ -134,55 +133,14 @@ fn same_bits(x: f64, y: f64) -> bool
     f64::to_bits(x) == f64::to_bits(y)
 }
 
-fn refill(
-    axis: Axis,
-    lows: &[f64; 768],
-    highs: &[f64; 768],
-    lessers: &mut [u32; 1024],
-    greaters: &mut [u32; 1024],
-) -> Kept
-    requires { ⌜ Ready (now lows) (now highs) (axis .start) (axis .shapes) (now lessers) (now greaters) ⌝ }
-    requires { ⌜ finite (axis .origin) ≡ true ⌝ }
-    requires { ⌜ finite (axis .component) ≡ true ⌝ }
-    ensures { λ r. ⌜ Fresh (now (lows .entry)) (now (highs .entry)) axis (now (lessers .entry)) (now (greaters .entry)) (now (lessers .exit)) (now (greaters .exit)) r ⌝ }
+// Whether both numbers have the bits that they had: zeros of either sign are equal, and their bits are not.
+pub fn same(before: Along, now: Along) -> bool
+    requires { ⌜ (finite (before .origin) ≡ true) × (finite (before .component) ≡ true) ⌝ }
+    requires { ⌜ (finite (now .origin) ≡ true) × (finite (now .component) ≡ true) ⌝ }
+    ensures { λ r. ⌜ SameNumbers before now r ⌝ }
 {
-    let good = fill_axis(axis, lows, highs, lessers, greaters);
-    Kept {
-        known: true,
-        moved: true,
-        origin: axis.origin,
-        component: axis.component,
-        good: good,
+    if same_bits(before.origin, now.origin) {
+        return same_bits(before.component, now.component);
     }
-}
-
-// Fills an axis anew only where the origin's or the component's bits differ from those that it was filled for.
-pub fn keep_axis(
-    kept: Kept,
-    axis: Axis,
-    lows: &[f64; 768],
-    highs: &[f64; 768],
-    lessers: &mut [u32; 1024],
-    greaters: &mut [u32; 1024],
-) -> Kept
-    requires { ⌜ Ready (now lows) (now highs) (axis .start) (axis .shapes) (now lessers) (now greaters) ⌝ }
-    requires { ⌜ Keeps (now lows) (now highs) (axis .start) (axis .shapes) kept (now lessers) (now greaters) ⌝ }
-    requires { ⌜ finite (axis .origin) ≡ true ⌝ }
-    requires { ⌜ finite (axis .component) ≡ true ⌝ }
-    ensures { λ r. ⌜ Fresh (now (lows .entry)) (now (highs .entry)) axis (now (lessers .entry)) (now (greaters .entry)) (now (lessers .exit)) (now (greaters .exit)) r ⌝ }
-{
-    if kept.known {
-        if same_bits(kept.origin, axis.origin) {
-            if same_bits(kept.component, axis.component) {
-                return Kept {
-                    known: true,
-                    moved: false,
-                    origin: kept.origin,
-                    component: kept.component,
-                    good: kept.good,
-                };
-            }
-        }
-    }
-    refill(axis, lows, highs, lessers, greaters)
+    false
 }

@@ -1,12 +1,18 @@
 -- What an axis says of every shape beside what the two others say together, and what is gathered of it.
-use Prim.Native.Nat.{ℕ, _+_, _<_, _≤_, min, max}
+use Prim.Native.Nat.{ℕ, _+_, _/_, _<_, _≤_, min, max}
 use mathlib.Core.Path.{_≡_}
 use mathlib.Core.Bool.{Bool, false, cond, not, _||_}
+use mathlib.Core.Logic.{_≢_}
 use mathlib.Core.List.{List, [], _∷_}
 use lib.Dec.{ltb, eqb}
 use lib.ListN.{length, getD}
+use lib.Ieee.{Float}
 use Rattle.outcome.specs.Outcome.{refused}
 use Rattle.cross_marks.specs.Marks.{unmark}
+use Rattle.cross_shapes.specs.Shapes.{wrong}
+use Rattle.cross_axis.specs.Axes.{Codes, rangeAt}
+use Rattle.cross_axis.specs.Axes as Axes
+use Rattle.cross_hits.specs.declared.Alone.{Alone}
 use Rattle.cross_cuts.specs.Cuts.{Cut, fault, cut, faultless}
 use Rattle.cross_cuts.specs.Keys.{Going}
 use Rattle.cross_cuts.specs.declared.Row.{Row}
@@ -36,11 +42,28 @@ pub record Sized (alone : ℕ) (halves lessers greaters : List ℕ) : Type 0 whe
   pub lessers-length : length lessers ≡ 1024
   pub greaters-length : length greaters ≡ 1024
 
--- The marks say what the line has of each box.
-pub record Crosses (cuts : List Cut) (alone : ℕ) (halves lessers greaters : List ℕ) : Type 0 where
-  pub few : length cuts ≤ 256
+-- If shape i is a box, which no half-space is taken for, the marks say what the line has of it.
+pub record MetAt (cuts : List Cut) (kinds : List ℕ) (alone : ℕ) (halves lessers greaters : List ℕ) (i : ℕ) : Type 0 where
+  pub boxes : getD kinds i 0 ≡ 255 → getD halves i 0 ≡ 0
+  pub says : getD halves i 0 ≡ 0 → getD cuts i fault ≡ boxMet (enters alone lessers i) (leaves alone greaters i)
+
+-- And so of every box from start to stop.
+pub record Blocked (cuts : List Cut) (kinds : List ℕ) (alone : ℕ) (halves lessers greaters : List ℕ) (start stop : ℕ) : Type 0 where
   pub sized : Sized alone halves lessers greaters
-  pub right : (i : ℕ) → i < length cuts → getD halves i 0 ≡ 0 → getD cuts i fault ≡ boxMet (enters alone lessers i) (leaves alone greaters i)
+  pub right : (i : ℕ) → start ≤ i → i < stop → MetAt cuts kinds alone halves lessers greaters i
+
+-- Two axes say together what the third leaves open: with what it says of a box, whatever marks code that, they say what the line has of it;
+-- and a box that they leave no length is not crossed. Where nothing is left over of sixteen shapes, they leave none of them any.
+pub record Crosses (cuts : List Cut) (kinds : List ℕ) (lows highs : List Float) (alone : Alone) (left halves lessers greaters : List ℕ) : Type 0 where
+  pub few : length cuts ≤ 256
+  pub left-length : length left ≡ 16
+  pub marks : Axes.Sized lows highs lessers greaters
+  pub sized : Sized (alone .start) halves lessers greaters
+  pub boxes : (i : ℕ) → i < length cuts → getD kinds i 0 ≡ 255 → getD halves i 0 ≡ 0
+  pub sure : (i : ℕ) → i < length cuts → getD halves i 0 ≡ 0 → rangeAt lows highs (alone .along) (alone .start + i) ≢ wrong
+  pub right : (i : ℕ) → i < length cuts → getD halves i 0 ≡ 0 → (l g : ℕ) → Codes (rangeAt lows highs (alone .along) (alone .start + i)) l g
+      → getD cuts i fault ≡ boxMet (max l (getD lessers (768 + i) 0)) (min g (getD greaters (768 + i) 0))
+  pub outside : (i : ℕ) → i < length cuts → getD left (i / 16) 0 ≡ 0 → getD cuts i fault ≡ cut false []
 
 -- No shape from start to stop is crossed, and none is a half-space.
 pub record Quiet (alone : ℕ) (halves lessers greaters : List ℕ) (start stop : ℕ) : Type 0 where

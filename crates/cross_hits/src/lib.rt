@@ -1,4 +1,6 @@
-// One line over its axes: the few shapes that it crosses are found without a branch, sixteen at a time, and gathered as for one line.
+// One line over its axes: of the shapes that two axes leave over the third is asked, and the few that are crossed are found without a branch,
+// sixteen at a time, and gathered as for one line.
+use cross_axis::Along;
 use cross_cuts::Added;
 use cross_cuts::Met;
 use cross_cuts::Row;
@@ -8,10 +10,18 @@ ghost use mathlib.Core.Bool.{false};
 ghost use mathlib.Core.List.{List};
 ghost use Prim.Native.Nat.{ℕ, _+_, _<_, _≤_, min};
 ghost use lib.ListN.{length, getD};
+ghost use Rattle.cross_axis.specs.Axes.{Beside};
 ghost use Rattle.cross_cuts.specs.Cuts.{Cut, fault};
 ghost use Rattle.cross_cuts.specs.Keys.{cutOf, Going, Ends};
+ghost use Rattle.cross_shapes.specs.Shapes.{faceCut, halfSpaceCut};
 ghost use Rattle.cross_line.specs.Crossing.{shapeCuts};
-ghost use Rattle.cross_hits.specs.Hits.{enters, leaves, hitsAt, Sized, Crosses, Quiet, Outside, Reached};
+ghost use Rattle.cross_hits.specs.Hits.{enters, leaves, hitsAt, Sized, MetAt, Blocked, Crosses, Quiet, Outside, Reached};
+
+// The axis that stands alone: where its part starts, and the line's numbers on it.
+pub struct Alone {
+    pub start: usize,
+    pub along: Along,
+}
 
 // Shapes from one to another, and how many crossings are gathered before them.
 struct Block {
@@ -75,6 +85,38 @@ fn any_hit(
     any
 }
 
+// A face that lies across an axis, with its position worked out as those of boxes are.
+fn face_met(face: f64, origin: f64, component: f64) -> Met
+    ensures { λ r. ⌜ cutOf r ≡ faceCut face origin component ⌝ }
+{
+    if cross_shapes::is_zero(component) {
+        return Met::Never(origin < face);
+    }
+    let p = cross_positions::distance_to(face, origin, component);
+    if cross_quick::within(p) {
+        let mark = cross_quick::mark_of_nearest(p);
+        return Met::Once(0.0 < component, mark);
+    }
+    Met::Fault
+}
+
+fn half_met(probe: Probe, axis: u8, face: f64) -> Met
+    ensures { λ r. ⌜ cutOf r ≡ halfSpaceCut probe axis face ⌝ }
+{
+    if cross_shapes::is_finite(face) {
+        if axis == 0 {
+            return face_met(face, probe.ox, probe.dx);
+        }
+        if axis == 1 {
+            return face_met(face, probe.oy, probe.dy);
+        }
+        if axis == 2 {
+            return face_met(face, probe.oz, probe.dz);
+        }
+    }
+    Met::Fault
+}
+
 // What is met of shape i.
 fn met_at(
     probe: Probe,
@@ -86,8 +128,8 @@ fn met_at(
     lessers: &[u32; 1024],
     greaters: &[u32; 1024],
 ) -> Met
-    requires { ⌜ (i < length (now kinds)) × (i < 256) ⌝ }
-    requires { ⌜ Crosses (shapeCuts probe (now kinds) (now numbers)) alone (now halves) (now lessers) (now greaters) ⌝ }
+    requires { ⌜ (i < length (now kinds)) × (i < 256) × Sized alone (now halves) (now lessers) (now greaters) ⌝ }
+    requires { ⌜ MetAt (shapeCuts probe (now kinds) (now numbers)) (now kinds) alone (now halves) (now lessers) (now greaters) i ⌝ }
     ensures { λ r. ⌜ cutOf r ≡ getD (shapeCuts probe (now (kinds .entry)) (now (numbers .entry))) i fault ⌝ }
 {
     if halves[i] == 0 {
@@ -98,7 +140,7 @@ fn met_at(
         }
         return Met::Never(false);
     }
-    cross_shapes::meet_shape(probe, cross_line::shape_at(kinds, numbers, i))
+    half_met(probe, kinds[i], cross_line::number_at(numbers, 6 * i))
 }
 
 // Shapes that are not crossed start outside: sixteen of them, or fewer at the end, past which no byte is looked at.
@@ -128,7 +170,7 @@ fn visit(
     keys: &mut [u64],
 ) -> Row
     requires { ⌜ (block .start ≤ block .stop) × ((block .stop ≤ length (now kinds)) × (block .stop ≤ 256)) ⌝ }
-    requires { ⌜ Crosses (shapeCuts probe (now kinds) (now numbers)) alone (now halves) (now lessers) (now greaters) ⌝ }
+    requires { ⌜ Blocked (shapeCuts probe (now kinds) (now numbers)) (now kinds) alone (now halves) (now lessers) (now greaters) (block .start) (block .stop) ⌝ }
     requires { ⌜ Going 16 (shapeCuts probe (now kinds) (now numbers)) (now bytes) (now keys) (block .start) (block .count) ⌝ }
     ensures { λ r. ⌜ Reached (shapeCuts probe (now (kinds .entry)) (now (numbers .entry))) (now (bytes .exit)) (now (keys .exit)) (block .stop) r ⌝ }
 {
@@ -160,11 +202,12 @@ fn stop_of(start: usize, n: usize) -> usize
     n
 }
 
-// All the shapes of one line, as cross_line::gather gives them.
-pub fn gather(
+// The shapes of a block in which some are left over.
+fn ask(
     probe: Probe,
     kinds: &[u8],
     numbers: &[f64],
+    block: Block,
     alone: usize,
     halves: &[u32; 256],
     lessers: &[u32; 1024],
@@ -172,45 +215,95 @@ pub fn gather(
     bytes: &mut [u8],
     keys: &mut [u64],
 ) -> Row
+    requires { ⌜ (block .start + 16 ≤ 256) × ((block .start ≤ block .stop) × ((block .stop ≤ block .start + 16) × (block .stop ≤ length (now kinds)))) ⌝ }
+    requires { ⌜ Blocked (shapeCuts probe (now kinds) (now numbers)) (now kinds) alone (now halves) (now lessers) (now greaters) (block .start) (block .stop) ⌝ }
+    requires { ⌜ Going 16 (shapeCuts probe (now kinds) (now numbers)) (now bytes) (now keys) (block .start) (block .count) ⌝ }
+    ensures { λ r. ⌜ Reached (shapeCuts probe (now (kinds .entry)) (now (numbers .entry))) (now (bytes .exit)) (now (keys .exit)) (block .stop) r ⌝ }
+    ensures { λ _. ⌜ (length (now (bytes .exit)) ≡ 256) × (length (now (keys .exit)) ≡ 512) ⌝ }
+{
+    if any_hit(block.start, alone, halves, lessers, greaters) {
+        return visit(
+            probe,
+            kinds,
+            numbers,
+            block,
+            alone,
+            halves,
+            lessers,
+            greaters,
+            bytes,
+            keys,
+        );
+    }
+    skip(block.start, bytes);
+    Row::Count(block.count)
+}
+
+// All the shapes of one line, as cross_line::gather gives them.
+pub fn gather(
+    probe: Probe,
+    kinds: &[u8],
+    numbers: &[f64],
+    alone: Alone,
+    left: &[u8; 16],
+    halves: &[u32; 256],
+    lows: &[f64; 768],
+    highs: &[f64; 768],
+    lessers: &mut [u32; 1024],
+    greaters: &mut [u32; 1024],
+    bytes: &mut [u8],
+    keys: &mut [u64],
+) -> Row
     requires { ⌜ (length (now kinds) ≤ 256) × ((length (now bytes) ≡ 256) × (length (now keys) ≡ 512)) ⌝ }
-    requires { ⌜ Crosses (shapeCuts probe (now kinds) (now numbers)) alone (now halves) (now lessers) (now greaters) ⌝ }
+    requires { ⌜ Crosses (shapeCuts probe (now kinds) (now numbers)) (now kinds) (now lows) (now highs) alone (now left) (now halves) (now lessers) (now greaters) ⌝ }
     ensures { λ r. ⌜ Ends 16 (shapeCuts probe (now (kinds .entry)) (now (numbers .entry))) (now (bytes .exit)) (now (keys .exit)) r ⌝ }
+    ensures { λ _. ⌜ Beside (alone .start) (alone .start + 256) (now (lessers .entry)) (now (lessers .exit)) × Beside (alone .start) (alone .start + 256) (now (greaters .entry)) (now (greaters .exit)) ⌝ }
 {
     let n = kinds.len();
     let mut start = 0usize;
     let mut m = 0usize;
     while start < n {
         let stop = stop_of(start, n);
-        if any_hit(start, alone, halves, lessers, greaters) {
-            let block = Block {
-                start: start,
-                stop: stop,
-                count: m,
-            };
-            match visit(
-                probe,
-                kinds,
-                numbers,
-                block,
-                alone,
-                halves,
-                lessers,
-                greaters,
-                bytes,
-                keys,
-            ) {
-                Row::Fault(i) => {
-                    return Row::Fault(i);
-                }
-                Row::Count(k) => {
-                    m = k;
-                    start += 16;
-                    continue;
-                }
+        let b = start / 16;
+        if left[b] == 0 {
+            skip(start, bytes);
+            start += 16;
+            continue;
+        }
+        cross_axis::fill(
+            alone.start + start,
+            stop - start,
+            alone.along,
+            lows,
+            highs,
+            lessers,
+            greaters,
+        );
+        let block = Block {
+            start: start,
+            stop: stop,
+            count: m,
+        };
+        match ask(
+            probe,
+            kinds,
+            numbers,
+            block,
+            alone.start,
+            halves,
+            lessers,
+            greaters,
+            bytes,
+            keys,
+        ) {
+            Row::Fault(i) => {
+                return Row::Fault(i);
+            }
+            Row::Count(k) => {
+                m = k;
+                start += 16;
             }
         }
-        skip(start, bytes);
-        start += 16;
     }
     Row::Count(m)
 }

@@ -1,103 +1,176 @@
--- Parts of the marks that stay, and two axes put together.
+-- What is kept from line to line: which axis stands alone, two axes filled and put together, and the parts of the marks that stay.
 use mathlib.Core.Path.{_≡_, refl, sym, _∙_, subst}
-use mathlib.Core.Bool.{Bool, true, false, cond, not, _&&_, true≢false, and-eq-true-iff}
+use mathlib.Core.Bool.{Bool, true, false, cond, not, _&&_, _||_, true≢false, and-eq-true-iff}
 use mathlib.Core.List.{List}
 use mathlib.Core.Logic.{_≢_}
-use Prim.Native.Nat.{ℕ, _+_, _<_, _≤_, min, max}
+use Prim.Native.Nat.{ℕ, _+_, _*_, _/_, _<_, _≤_, min, max}
 use native.Mathlib.Omega.{arith}
-use lib.Dec.{eqb}
+use lib.Dec.{eqb, ltb}
 use borrow.Author.Tests.{eqb-true, eqb-false, ne-eqb}
-use lib.ListN.{length, getD, set}
+use lib.ListN.{length, getD, set, length-set}
 use lib.Seq.{getD-set-same, getD-set-other}
 use lib.Ieee.{Float, ofBits, binary64}
 use Rattle.cross_cuts.specs.Keys.{Ends}
 use Rattle.cross_cuts.specs.declared.Row.{Row}
 use Rattle.cross_shapes.specs.Shapes.{finite}
-use Rattle.cross_line.specs.Crossing.{shapeCuts}
-use Rattle.cross_columns.specs.Columns.{Columns}
-use Rattle.cross_axis.specs.Axes.{Ready, Beside, Said, Keeps, Fresh}
-use Rattle.cross_axis.specs.declared.Axis.{Axis}
-use Rattle.cross_axis.specs.declared.Kept.{Kept}
 use Rattle.cross_shapes.specs.declared.Probe.{Probe}
-use Rattle.cross_axis.proofs.AxisLaws.{beside-starts, beside-on}
-use Rattle.cross_kept.specs.Keeping.{IsAxis, x-axis, y-axis, z-axis, first, second, Together, Paired, Chosen, Marked, Current, Drawing, Unknown, NothingKept, LineKept}
+use Rattle.cross_line.specs.Crossing.{goodProbe, shapeCuts}
+use Rattle.cross_line.proofs.ProbeLaws.{origin-x, origin-y, origin-z, direction-x, direction-y, direction-z}
+use Rattle.cross_columns.specs.Columns.{Columns}
+use Rattle.cross_axis.specs.Axes.{Sized, Said, Beside, Filled, SameNumbers}
+use Rattle.cross_axis.specs.declared.Along.{Along}
+use Rattle.cross_axis.proofs.AxisLaws.{beside-starts}
+use Rattle.cross_kept.specs.Keeping.{IsAxis, x-axis, y-axis, z-axis, first, second, alongAt, AxisStill, keptOn, Stay, FiniteAlong, Numbers, Own, Seen, Joined, Paired, remains, Idle, IdleUnless, Leaves, TwoSaid, Pairs, Marked, Together, Drawing, NothingKept, LineKept}
 use Rattle.cross_kept.specs.declared.Axes.{Axes}
-use Rattle.cross_kept.specs.declared.Choice.{Choice}
 
 -- ---- before the first line
-pub zero-finite : finite (ofBits binary64 0) ≡ true
+zero-finite : finite (ofBits binary64 0) ≡ true
 unfolding finite ofBits
 zero-finite = refl
 
-never-known : {lows highs : List Float} {start shapes : ℕ} {lessers greaters : List ℕ} (kept : Kept) → Unknown kept → Keeps lows highs start shapes kept lessers greaters
-never-known kept u = record { origin-finite = u .origin-finite; component-finite = u .component-finite; said = λ h. absurd (true≢false (sym h ∙ u .not-known)) }
+abbrev nothing : Along
+nothing = record { origin = ofBits binary64 0; component = ofBits binary64 0 }
 
-pub none-kept : (sound : Bool) (none : Kept) → Unknown none → NothingKept sound (record { x = none; y = none; z = none; alone = 0; paired = false; sound = sound })
-none-kept sound none u = record { is-sound = refl; x = u; y = u; z = u; axis = x-axis; apart = refl }
+pub none-kept : (sound : Bool) → NothingKept sound (record { x = nothing; y = nothing; z = nothing; alone = 0; paired = false; sound = sound })
+none-kept sound =
+    let f : FiniteAlong nothing = (zero-finite, zero-finite) in
+    record { is-sound = refl; numbers = record { x = f; y = f; z = f }; axis = x-axis; apart = refl }
 
-pub drawing-starts : (kinds : List ℕ) (numbers : List Float) (sound : Bool) (axes : Axes) (lows highs : List Float) (halves lessers greaters : List ℕ) → length kinds ≤ 256
-    → Columns kinds numbers (length kinds) lows highs halves sound → NothingKept sound axes → length lessers ≡ 1024 → length greaters ≡ 1024 → Drawing kinds numbers axes lows highs halves lessers greaters
-drawing-starts kinds numbers sound axes lows highs halves lessers greaters few columns none l g = record {
+pub drawing-starts : (kinds : List ℕ) (numbers : List Float) (sound : Bool) (axes : Axes) (lows highs : List Float) (halves left lessers greaters : List ℕ) → length kinds ≤ 256
+    → Columns kinds numbers (length kinds) lows highs halves sound → NothingKept sound axes → length left ≡ 16 → length lessers ≡ 1024 → length greaters ≡ 1024 → Drawing kinds numbers axes lows highs halves left lessers greaters
+drawing-starts kinds numbers sound axes lows highs halves left lessers greaters few columns none w l g = record {
   columns = subst (λ (s : Bool). Columns kinds numbers (length kinds) lows highs halves s) (sym (none .is-sound)) columns;
   marked = record {
     few = few;
-    lows-length = columns .sized .lows-length;
-    highs-length = columns .sized .highs-length;
-    lessers-length = l;
-    greaters-length = g;
-    keeps-x = never-known (axes .x) (none .x);
-    keeps-y = never-known (axes .y) (none .y);
-    keeps-z = never-known (axes .z) (none .z);
+    sized = record { lows-length = columns .sized .lows-length; highs-length = columns .sized .highs-length; lessers-length = l; greaters-length = g };
+    halves-length = columns .sized .halves-length;
+    left-length = w;
+    numbers = none .numbers;
     axis = none .axis;
-    together = λ h. absurd (true≢false (sym h ∙ none .apart));
+    pairs = λ h. absurd (true≢false (sym h ∙ none .apart));
   };
 }
 
 -- ---- which axis stands alone
-not-true : (b : Bool) → not b ≡ true → b ≡ true → ⊥
-not-true true e h = true≢false (sym e)
-not-true false e h = true≢false (sym h)
+pub still-alone : {before : ℕ} → AxisStill before before
+still-alone = record { is = λ a. a }
 
-pub chosen-z : (before : ℕ) (mx my mz : Bool) → mz ≡ true → Chosen before mx my mz (record { alone = 512; stands = eqb before 512 && (not mx && not my) })
-chosen-z before mx my mz e = record {
-  axis = λ a. z-axis;
-  same = λ s. sym (eqb-true before 512 (and-eq-true-iff (eqb before 512) (not mx && not my) .0 s .0));
-  only-x = λ s h. absurd (not-true mx (and-eq-true-iff (not mx) (not my) .0 (and-eq-true-iff (eqb before 512) (not mx && not my) .0 s .1) .0) h);
-  only-y = λ s h. absurd (not-true my (and-eq-true-iff (not mx) (not my) .0 (and-eq-true-iff (eqb before 512) (not mx && not my) .0 s .1) .1) h);
-  only-z = λ s h. eqb-true before 512 (and-eq-true-iff (eqb before 512) (not mx && not my) .0 s .0);
+pub alone-z : {before : ℕ} → AxisStill before 512
+alone-z = record { is = λ a. z-axis }
+
+pub alone-y : {before : ℕ} → AxisStill before 256
+alone-y = record { is = λ a. y-axis }
+
+pub alone-x : {before : ℕ} → AxisStill before 0
+alone-x = record { is = λ a. x-axis }
+
+pub first-is : (alone : ℕ) → alone ≡ 0 → 256 ≡ first alone
+first-is alone e = rw e refl
+
+pub first-else : (alone : ℕ) → alone ≢ 0 → 0 ≡ first alone
+first-else alone n = rw (ne-eqb alone 0 n) refl
+
+pub second-is : (alone : ℕ) → alone ≡ 512 → 256 ≡ second alone
+second-is alone e = rw e refl
+
+pub second-else : (alone : ℕ) → alone ≢ 512 → 512 ≡ second alone
+second-else alone n = rw (ne-eqb alone 512 n) refl
+
+pub along-x : (axes : Axes) (start : ℕ) → start ≡ 0 → axes .x ≡ alongAt axes start
+along-x axes start e = rw e refl
+
+pub along-y : (axes : Axes) (start : ℕ) → start ≢ 0 → start ≡ 256 → axes .y ≡ alongAt axes start
+along-y axes start n e = rw e refl
+
+pub along-z : (axes : Axes) (start : ℕ) → start ≢ 0 → start ≢ 256 → axes .z ≡ alongAt axes start
+along-z axes start n m = rw (ne-eqb start 0 n, ne-eqb start 256 m) refl
+
+module _ (start : ℕ) (x y z : Bool) where
+  pub kept-x : start ≡ 0 → x ≡ keptOn start x y z
+  kept-x e = rw e refl
+
+  pub kept-y : start ≢ 0 → start ≡ 256 → y ≡ keptOn start x y z
+  kept-y n e = rw e refl
+
+  pub kept-z : start ≢ 0 → start ≢ 256 → z ≡ keptOn start x y z
+  kept-z n m = rw (ne-eqb start 0 n, ne-eqb start 256 m) refl
+
+-- what stayed on an axis is the same number as before
+along-stays : (axes r : Axes) (start : ℕ) (x y z : Bool) → (x ≡ true → axes .x ≡ r .x) → (y ≡ true → axes .y ≡ r .y) → (z ≡ true → axes .z ≡ r .z) → keptOn start x y z ≡ true → alongAt axes start ≡ alongAt r start
+along-stays axes r start x y z f g h = by (eqb start 0) (eqb start 256)
+  where
+    by : (s t : Bool) → cond s x (cond t y z) ≡ true → cond s (axes .x) (cond t (axes .y) (axes .z)) ≡ cond s (r .x) (cond t (r .y) (r .z))
+    by true t e = f e
+    by false true e = g e
+    by false false e = h e
+
+pub stay-together : (before alone : ℕ) (x y z : Bool) (one other : ℕ) → one ≡ first alone → other ≡ second alone → (p q : Bool) → p ≡ keptOn one x y z → q ≡ keptOn other x y z → Stay before alone x y z (eqb alone before && (p && q))
+stay-together before alone x y z one other e f p q ep eq = record {
+  same = λ h. eqb-true alone before (and-eq-true-iff (eqb alone before) (p && q) .0 h .0);
+  one = λ h. subst (λ (s : ℕ). keptOn s x y z ≡ true) e (sym ep ∙ and-eq-true-iff p q .0 (and-eq-true-iff (eqb alone before) (p && q) .0 h .1) .0);
+  other = λ h. subst (λ (s : ℕ). keptOn s x y z ≡ true) f (sym eq ∙ and-eq-true-iff p q .0 (and-eq-true-iff (eqb alone before) (p && q) .0 h .1) .1);
 }
 
-pub chosen-y : (before : ℕ) (mx my mz : Bool) → mz ≡ false → my ≡ true → Chosen before mx my mz (record { alone = 256; stands = eqb before 256 && not mx })
-chosen-y before mx my mz f e = record {
-  axis = λ a. y-axis;
-  same = λ s. sym (eqb-true before 256 (and-eq-true-iff (eqb before 256) (not mx) .0 s .0));
-  only-x = λ s h. absurd (not-true mx (and-eq-true-iff (eqb before 256) (not mx) .0 s .1) h);
-  only-y = λ s h. eqb-true before 256 (and-eq-true-iff (eqb before 256) (not mx) .0 s .0);
-  only-z = λ s h. absurd (true≢false (sym h ∙ f));
-}
+module _ (probe : Probe) (good : goodProbe probe ≡ true) (axes : Axes) (x y z : Bool) (alone : ℕ) where
+  abbrev along-of-x : Along
+  along-of-x = record { origin = probe .ox; component = probe .dx }
 
-pub chosen-x : (before : ℕ) (mx my mz : Bool) → mz ≡ false → my ≡ false → mx ≡ true → Chosen before mx my mz (record { alone = 0; stands = eqb before 0 })
-chosen-x before mx my mz f g e = record {
-  axis = λ a. x-axis;
-  same = λ s. sym (eqb-true before 0 s);
-  only-x = λ s h. eqb-true before 0 s;
-  only-y = λ s h. absurd (true≢false (sym h ∙ g));
-  only-z = λ s h. absurd (true≢false (sym h ∙ f));
-}
+  abbrev along-of-y : Along
+  along-of-y = record { origin = probe .oy; component = probe .dy }
 
-pub chosen-none : (before : ℕ) (mx my mz : Bool) → mz ≡ false → my ≡ false → mx ≡ false → Chosen before mx my mz (record { alone = before; stands = true })
-chosen-none before mx my mz f g e = record {
-  axis = λ a. a;
-  same = λ s. refl;
-  only-x = λ s h. absurd (true≢false (sym h ∙ e));
-  only-y = λ s h. absurd (true≢false (sym h ∙ g));
-  only-z = λ s h. absurd (true≢false (sym h ∙ f));
-}
+  abbrev along-of-z : Along
+  along-of-z = record { origin = probe .oz; component = probe .dz }
+
+  module _ (fx : SameNumbers (axes .x) along-of-x x) (fy : SameNumbers (axes .y) along-of-y y) (fz : SameNumbers (axes .z) along-of-z z) (axis : AxisStill (axes .alone) alone)
+      (still : Bool) (stay : Stay (axes .alone) alone x y z still) where
+    abbrev now-seen : Axes
+    now-seen = record { x = along-of-x; y = along-of-y; z = along-of-z; alone = alone; paired = axes .paired && still; sound = axes .sound }
+
+    parts : now-seen .paired ≡ true → (axes .paired ≡ true) × (still ≡ true)
+    parts h = and-eq-true-iff (axes .paired) still .0 h
+
+    pub seen-now : Seen probe axes now-seen
+    seen-now = record {
+      own = record { x = refl; y = refl; z = refl };
+      numbers = record { x = (origin-x probe good, direction-x probe good); y = (origin-y probe good, direction-y probe good); z = (origin-z probe good, direction-z probe good) };
+      axis = axis .is;
+      sound-still = refl;
+      were = λ h. parts h .0;
+      same = λ h. stay .same (parts h .1);
+      first-still = λ h. along-stays axes now-seen (first alone) x y z (fx .are) (fy .are) (fz .are) (stay .one (parts h .1));
+      second-still = λ h. along-stays axes now-seen (second alone) x y z (fx .are) (fy .are) (fz .are) (stay .other (parts h .1));
+    }
+
+module _ {shapes : ℕ} {probe : Probe} {axes r : Axes} {lows highs : List Float} {halves left l g : List ℕ} where
+  -- nothing of the marks has changed yet
+  pub marked-seen : Marked shapes axes lows highs halves left l g → Seen probe axes r → Marked shapes r lows highs halves left l g
+  marked-seen m s = record {
+    few = m .few;
+    sized = m .sized;
+    halves-length = m .halves-length;
+    left-length = m .left-length;
+    numbers = s .numbers;
+    axis = s .axis (m .axis);
+    pairs = λ h.
+        let p = m .pairs (s .were h) in
+        let e = s .same h in
+        record {
+          said-first = subst (λ (a : Along). Said lows highs (first (r .alone)) (first (r .alone) + shapes) a l g) (s .first-still h)
+              (subst (λ (a : ℕ). Said lows highs (first a) (first a + shapes) (alongAt axes (first a)) l g) (sym e) (p .said-first));
+          said-second = subst (λ (a : Along). Said lows highs (second (r .alone)) (second (r .alone) + shapes) a l g) (s .second-still h)
+              (subst (λ (a : ℕ). Said lows highs (second a) (second a + shapes) (alongAt axes (second a)) l g) (sym e) (p .said-second));
+          joined = subst (λ (a : ℕ). Joined (first a) (second a) shapes l g) (sym e) (p .joined);
+          leaves = p .leaves;
+        };
+  }
+
+pub still-together : {axes : Axes} → axes .paired ≡ true → Together axes axes
+still-together h = record { x = refl; y = refl; z = refl; paired = h; sound = refl }
 
 -- ---- two axes put together
 pub record Pairing (one other i : ℕ) (old-lessers old-greaters lessers greaters : List ℕ) : Type 0 where
-  pub lessers-beside : Beside 768 old-lessers lessers
-  pub greaters-beside : Beside 768 old-greaters greaters
+  pub lessers-beside : Beside 768 1024 old-lessers lessers
+  pub greaters-beside : Beside 768 1024 old-greaters greaters
   pub lesser : (j : ℕ) → j < i → getD lessers (768 + j) 0 ≡ max (getD old-lessers (one + j) 0) (getD old-lessers (other + j) 0)
   pub greater : (j : ℕ) → j < i → getD greaters (768 + j) 0 ≡ min (getD old-greaters (one + j) 0) (getD old-greaters (other + j) 0)
 
@@ -118,13 +191,24 @@ put-more value marks i v long inside e before j less = go (eqb j i) refl
         let d : 768 + j ≢ 768 + i = λ t. n (omega arith) in
         getD-set-other marks (768 + i) (768 + j) v 0 d ∙ before j (omega arith)
 
+beside-put : {old new : List ℕ} (i v : ℕ) → Beside 768 1024 old new → i < 256 → Beside 768 1024 old (set new (768 + i) v)
+beside-put {old} {new} i v b h = record {
+  sized = length-set new (768 + i) v ∙ b .sized;
+  below = λ j l.
+      let d : j ≢ 768 + i = λ e. omega arith in
+      getD-set-other new (768 + i) j v 0 d ∙ b .below j l;
+  above = λ j l.
+      let d : j ≢ 768 + i = λ e. omega arith in
+      getD-set-other new (768 + i) j v 0 d ∙ b .above j l;
+}
+
 module _ {one other shapes i : ℕ} {old-lessers old-greaters lessers greaters : List ℕ} (at : Pairing one other i old-lessers old-greaters lessers greaters) (near : one ≤ 512) (near′ : other ≤ 512) (few : shapes ≤ 256)
     (long-lessers : length old-lessers ≡ 1024) (long-greaters : length old-greaters ≡ 1024) where
   pub pairing-on : (l g : ℕ) → i < shapes → l ≡ max (getD lessers (one + i) 0) (getD lessers (other + i) 0) → g ≡ min (getD greaters (one + i) 0) (getD greaters (other + i) 0)
       → Pairing one other (i + 1) old-lessers old-greaters (set lessers (768 + i) l) (set greaters (768 + i) g)
   pairing-on l g more el eg = record {
-    lessers-beside = beside-on i l (at .lessers-beside) (omega arith);
-    greaters-beside = beside-on i g (at .greaters-beside) (omega arith);
+    lessers-beside = beside-put i l (at .lessers-beside) (omega arith);
+    greaters-beside = beside-put i g (at .greaters-beside) (omega arith);
     lesser =
         put-more (λ (j : ℕ). max (getD old-lessers (one + j) 0) (getD old-lessers (other + j) 0)) lessers i l (at .lessers-beside .sized ∙ long-lessers) (omega arith)
         (el ∙ rw (at .lessers-beside .below (one + i) (omega arith), at .lessers-beside .below (other + i) (omega arith))) (at .lesser);
@@ -137,218 +221,198 @@ module _ {one other shapes i : ℕ} {old-lessers old-greaters lessers greaters :
   pairing-ends h = record {
     lessers-beside = at .lessers-beside;
     greaters-beside = at .greaters-beside;
-    together = record {
+    joined = record {
       lesser = λ j k. at .lesser j (omega arith) ∙ sym (rw (at .lessers-beside .below (one + j) (omega arith), at .lessers-beside .below (other + j) (omega arith)));
       greater = λ j k. at .greater j (omega arith) ∙ sym (rw (at .greaters-beside .below (one + j) (omega arith), at .greaters-beside .below (other + j) (omega arith)));
     };
   }
 
-pub first-is : (alone : ℕ) → alone ≡ 0 → 256 ≡ first alone
-first-is alone e = rw e refl
+-- ---- what remains
+module _ {halves lessers greaters : List ℕ} (start : ℕ) where
+  pub idle-starts : {any : Bool} → IdleUnless any halves lessers greaters start (start + 0)
+  idle-starts = record { idle = λ e. record { none = λ j h k. absurd (omega arith) } }
 
-pub first-else : (alone : ℕ) → alone ≢ 0 → 0 ≡ first alone
-first-else alone n = rw (ne-eqb alone 0 n) refl
+  pub idle-turn : (j : ℕ) (any w : Bool) → IdleUnless any halves lessers greaters start (start + j) → w ≡ remains halves lessers greaters (start + j) → IdleUnless (any || w) halves lessers greaters start (start + (j + 1))
+  idle-turn j any w before says = record { idle = λ e. record { none = λ k h l. go e k h l (eqb k (start + j)) refl } }
+    where
+      neither : (s t : Bool) → (s || t) ≡ false → (s ≡ false) × (t ≡ false)
+      neither true t e = absurd (true≢false e)
+      neither false t e = (refl, e)
 
-pub second-is : (alone : ℕ) → alone ≡ 512 → 256 ≡ second alone
-second-is alone e = rw e refl
+      go : (any || w) ≡ false → (k : ℕ) → start ≤ k → k < start + (j + 1) → (t : Bool) → eqb k (start + j) ≡ t → remains halves lessers greaters k ≡ false
+      go e k h l true q =
+          let s : k ≡ start + j = eqb-true k (start + j) q in
+          subst (λ (k : ℕ). remains halves lessers greaters k ≡ false) (sym s) (sym says ∙ neither any w e .1)
+      go e k h l false q =
+          let d : k ≢ start + j = eqb-false k (start + j) q in
+          let u : k < start + j = omega (arith, d) in
+          before .idle (neither any w e .0) .none k h u
 
-pub second-else : (alone : ℕ) → alone ≢ 512 → 512 ≡ second alone
-second-else alone n = rw (ne-eqb alone 512 n) refl
+  pub idle-ends : (j : ℕ) (any : Bool) → j ≤ 16 → 16 ≤ j → IdleUnless any halves lessers greaters start (start + j) → IdleUnless any halves lessers greaters start (start + 16)
+  idle-ends j any h k before = let s : j ≡ 16 = omega arith in subst (λ (j : ℕ). IdleUnless any halves lessers greaters start (start + j)) s before
 
-pub first-near : (alone : ℕ) → first alone ≤ 512
-first-near alone = by (eqb alone 0)
-  where
-    by : (t : Bool) → cond t 256 0 ≤ 512
-    by true = omega arith
-    by false = omega arith
+module _ {halves lessers greaters : List ℕ} where
+  pub leaves-start : {left : List ℕ} → length left ≡ 16 → Leaves halves lessers greaters left 0
+  leaves-start long = record { long = long; idle = λ b h. absurd (omega arith) }
 
-pub second-near : (alone : ℕ) → second alone ≤ 512
-second-near alone = by (eqb alone 512)
-  where
-    by : (t : Bool) → cond t 256 512 ≤ 512
-    by true = omega arith
-    by false = omega arith
+  pub leaves-on : {left : List ℕ} (b v : ℕ) (any : Bool) → b < 16 → Leaves halves lessers greaters left b → v ≡ cond any 1 0 → IdleUnless any halves lessers greaters (16 * b) (16 * b + 16) → Leaves halves lessers greaters (set left b v) (b + 1)
+  leaves-on {left} b v any inside before e idle = record { long = length-set left b v ∙ before .long; idle = λ k h z. go k h z (eqb k b) refl }
+    where
+      none : (any : Bool) → _≡_ {A = ℕ} (cond any 1 0) 0 → any ≡ false
+      none true h = absurd (omega arith)
+      none false h = refl
+
+      go : (k : ℕ) → k < b + 1 → getD (set left b v) k 0 ≡ 0 → (t : Bool) → eqb k b ≡ t → Idle halves lessers greaters (16 * k) (16 * k + 16)
+      go k h z true q =
+          let s : k ≡ b = eqb-true k b q in
+          let m : b < length left = omega (arith, before .long) in
+          let y : getD (set left b v) b 0 ≡ 0 = subst (λ (k : ℕ). getD (set left b v) k 0 ≡ 0) s z in
+          subst (λ (k : ℕ). Idle halves lessers greaters (16 * k) (16 * k + 16)) (sym s) (idle .idle (none any (sym e ∙ (sym (getD-set-same left b v 0 m) ∙ y))))
+      go k h z false q =
+          let d : k ≢ b = eqb-false k b q in
+          before .idle k (omega (arith, d)) (sym (getD-set-other left b k v 0 d) ∙ z)
+
+  pub leaves-end : {left : List ℕ} (b : ℕ) → b ≤ 16 → 16 ≤ b → Leaves halves lessers greaters left b → Leaves halves lessers greaters left 16
+  leaves-end {left} b h k at = let e : b ≡ 16 = omega arith in subst (λ (n : ℕ). Leaves halves lessers greaters left n) e at
 
 -- ---- a part that stays
 record Stays (start : ℕ) (old new : List ℕ) : Type 0 where
-  at : (i : ℕ) → i < 256 → getD new (start + i) 0 ≡ getD old (start + i) 0
+  at : (k : ℕ) → start ≤ k → k < start + 256 → getD new k 0 ≡ getD old k 0
 
-stays-below : {start : ℕ} {old new : List ℕ} (part : ℕ) → Beside start old new → part + 256 ≤ start → Stays part old new
-stays-below {start} part b h = record { at = λ i k. b .below (part + i) (omega arith) }
+stays-below : {here there : ℕ} {old new : List ℕ} (part : ℕ) → Beside here there old new → part + 256 ≤ here → Stays part old new
+stays-below {here} {there} part b h = record { at = λ k low less. b .below k (omega arith) }
 
-stays-above : {start : ℕ} {old new : List ℕ} (part : ℕ) → Beside start old new → start + 256 ≤ part → Stays part old new
-stays-above {start} part b h = record { at = λ i k. b .above (part + i) (omega arith) }
+stays-above : {here there : ℕ} {old new : List ℕ} (part : ℕ) → Beside here there old new → there ≤ part → Stays part old new
+stays-above {here} {there} part b h = record { at = λ k low less. b .above k (omega arith) }
 
-module _ {lows highs : List Float} {start shapes : ℕ} {old-lessers old-greaters lessers greaters : List ℕ} (few : shapes ≤ 256) (l : Stays start old-lessers lessers) (g : Stays start old-greaters greaters) where
-  said-stays : {origin component : Float} {good : Bool} → Said lows highs start shapes origin component old-lessers old-greaters good → Said lows highs start shapes origin component lessers greaters good
-  said-stays s = record { right = λ e i h. rw (l .at i (omega arith), g .at i (omega arith)) (s .right e i h) }
+module _ {shapes : ℕ} (few : shapes ≤ 256) {l₀ g₀ l g : List ℕ} where
+  said-stays : {lows highs : List Float} {start : ℕ} {along : Along} → Stays start l₀ l → Stays start g₀ g → Said lows highs start (start + shapes) along l₀ g₀ → Said lows highs start (start + shapes) along l g
+  said-stays el eg s = record { right = λ k low less. rw (el .at k low (omega arith), eg .at k low (omega arith)) (s .right k low less) }
 
-  keeps-stays : {kept : Kept} → Keeps lows highs start shapes kept old-lessers old-greaters → Keeps lows highs start shapes kept lessers greaters
-  keeps-stays k = record { origin-finite = k .origin-finite; component-finite = k .component-finite; said = λ h. said-stays (k .said h) }
-
-together-stays : {one other shapes : ℕ} {old-lessers old-greaters lessers greaters : List ℕ} → shapes ≤ 256 → Stays one old-lessers lessers → Stays other old-lessers lessers → Stays 768 old-lessers lessers
-    → Stays one old-greaters greaters → Stays other old-greaters greaters → Stays 768 old-greaters greaters → Together one other shapes old-lessers old-greaters → Together one other shapes lessers greaters
-together-stays few lo la lt go ga gt t = record {
-  lesser = λ i h. rw (lt .at i (omega arith), lo .at i (omega arith), la .at i (omega arith)) (t .lesser i h);
-  greater = λ i h. rw (gt .at i (omega arith), go .at i (omega arith), ga .at i (omega arith)) (t .greater i h);
-}
-
--- what is beside the axis that stands alone
-others-stay : {alone : ℕ} {old new : List ℕ} → IsAxis alone → Beside alone old new → (Stays (first alone) old new) × ((Stays (second alone) old new) × (Stays 768 old new))
-others-stay x-axis b = (stays-above 256 b (omega arith), (stays-above 512 b (omega arith), stays-above 768 b (omega arith)))
-others-stay y-axis b = (stays-below 0 b (omega arith), (stays-above 512 b (omega arith), stays-above 768 b (omega arith)))
-others-stay z-axis b = (stays-below 0 b (omega arith), (stays-below 256 b (omega arith), stays-above 768 b (omega arith)))
-
-beside-more : {start : ℕ} {a b c : List ℕ} → Beside start a b → Beside start b c → Beside start a c
-beside-more p q = record { sized = q .sized ∙ p .sized; below = λ j h. q .below j h ∙ p .below j h; above = λ j h. q .above j h ∙ p .above j h }
-
--- an axis that moved is the one that stands alone
-beside-alone : {start alone : ℕ} {old new : List ℕ} (moved : Bool) → Beside start old new → (moved ≡ false → new ≡ old) → (moved ≡ true → alone ≡ start) → Beside alone old new
-beside-alone {start} {alone} {old} {new} true b f g = subst (λ (s : ℕ). Beside s old new) (sym (g refl)) b
-beside-alone {start} {alone} {old} {new} false b f g = subst (λ (l : List ℕ). Beside alone old l) (sym (f refl)) beside-starts
-
--- ---- three axes, one after another
-abbrev pub axisOf : ℕ → ℕ → Float → Float → Axis
-axisOf start shapes origin component = record { start = start; shapes = shapes; origin = origin; component = component }
-
-module _ (shapes : ℕ) (axes : Axes) (lows highs : List Float) (l₀ g₀ : List ℕ) (marked : Marked shapes axes lows highs l₀ g₀) where
-  ready : (start : ℕ) (l g : List ℕ) → start ≤ 512 → length l ≡ length l₀ → length g ≡ length g₀ → Ready lows highs start shapes l g
-  ready start l g h el eg = record {
-    few = marked .few;
-    inside = h;
-    lows-length = marked .lows-length;
-    highs-length = marked .highs-length;
-    lessers-length = el ∙ marked .lessers-length;
-    greaters-length = eg ∙ marked .greaters-length;
+  joined-stays : (one other : ℕ) → Stays one l₀ l → Stays other l₀ l → Stays 768 l₀ l → Stays one g₀ g → Stays other g₀ g → Stays 768 g₀ g → Joined one other shapes l₀ g₀ → Joined one other shapes l g
+  joined-stays one other lo la lt go ga gt t = record {
+    lesser = λ i h. rw (lt .at (768 + i) (omega arith) (omega arith), lo .at (one + i) (omega arith) (omega arith), la .at (other + i) (omega arith) (omega arith)) (t .lesser i h);
+    greater = λ i h. rw (gt .at (768 + i) (omega arith) (omega arith), go .at (one + i) (omega arith) (omega arith), ga .at (other + i) (omega arith) (omega arith)) (t .greater i h);
   }
 
-  pub ready-x : Ready lows highs 0 shapes l₀ g₀
-  ready-x = ready 0 l₀ g₀ (omega arith) refl refl
+leaves-stay : {halves left l₀ g₀ l g : List ℕ} → Stays 768 l₀ l → Stays 768 g₀ g → Leaves halves l₀ g₀ left 16 → Leaves halves l g left 16
+leaves-stay lt gt v = record {
+  long = v .long;
+  idle = λ b h z. record {
+    none = λ i low less. rw (lt .at (768 + i) (omega arith) (omega arith), gt .at (768 + i) (omega arith) (omega arith)) (v .idle b h z .none i low less);
+  };
+}
 
-  module _ (ox dx : Float) (l₁ g₁ : List ℕ) (kx : Kept) (fx : Fresh lows highs (axisOf 0 shapes ox dx) l₀ g₀ l₁ g₁ kx) where
-    pub ready-y : Ready lows highs 256 shapes l₁ g₁
-    ready-y = ready 256 l₁ g₁ (omega arith) (fx .lessers-beside .sized) (fx .greaters-beside .sized)
+-- the axis that stands alone is beside the two others, and beside what they say together
+record Apart (alone : ℕ) (old new : List ℕ) : Type 0 where
+  one : Stays (first alone) old new
+  other : Stays (second alone) old new
+  both : Stays 768 old new
 
-    pub keeps-y-then : Keeps lows highs 256 shapes (axes .y) l₁ g₁
-    keeps-y-then = keeps-stays (marked .few) (stays-above 256 (fx .lessers-beside) (omega arith)) (stays-above 256 (fx .greaters-beside) (omega arith)) (marked .keeps-y)
+apart : {alone : ℕ} {old new : List ℕ} → IsAxis alone → Beside alone (alone + 256) old new → Apart alone old new
+apart x-axis b = record { one = stays-above 256 b (omega arith); other = stays-above 512 b (omega arith); both = stays-above 768 b (omega arith) }
+apart y-axis b = record { one = stays-below 0 b (omega arith); other = stays-above 512 b (omega arith); both = stays-above 768 b (omega arith) }
+apart z-axis b = record { one = stays-below 0 b (omega arith); other = stays-below 256 b (omega arith); both = stays-above 768 b (omega arith) }
 
-    keeps-z-still : Keeps lows highs 512 shapes (axes .z) l₁ g₁
-    keeps-z-still = keeps-stays (marked .few) (stays-above 512 (fx .lessers-beside) (omega arith)) (stays-above 512 (fx .greaters-beside) (omega arith)) (marked .keeps-z)
+still-sized : {lows highs : List Float} {l₀ g₀ l g : List ℕ} → Sized lows highs l₀ g₀ → length l ≡ length l₀ → length g ≡ length g₀ → Sized lows highs l g
+still-sized s el eg = record { lows-length = s .lows-length; highs-length = s .highs-length; lessers-length = el ∙ s .lessers-length; greaters-length = eg ∙ s .greaters-length }
 
-    module _ (oy dy : Float) (l₂ g₂ : List ℕ) (ky : Kept) (fy : Fresh lows highs (axisOf 256 shapes oy dy) l₁ g₁ l₂ g₂ ky) where
-      pub ready-z : Ready lows highs 512 shapes l₂ g₂
-      ready-z = ready 512 l₂ g₂ (omega arith) (fy .lessers-beside .sized ∙ fx .lessers-beside .sized) (fy .greaters-beside .sized ∙ fx .greaters-beside .sized)
+module _ {shapes : ℕ} {axes : Axes} {lows highs : List Float} {halves left l₀ g₀ l g : List ℕ} where
+  -- after the axis that stands alone was asked
+  pub marked-beside : Marked shapes axes lows highs halves left l₀ g₀ → Beside (axes .alone) (axes .alone + 256) l₀ l → Beside (axes .alone) (axes .alone + 256) g₀ g → Marked shapes axes lows highs halves left l g
+  marked-beside m bl bg =
+      let al = apart (m .axis) bl in
+      let ag = apart (m .axis) bg in
+      record {
+        few = m .few;
+        sized = still-sized (m .sized) (bl .sized) (bg .sized);
+        halves-length = m .halves-length;
+        left-length = m .left-length;
+        numbers = m .numbers;
+        axis = m .axis;
+        pairs = λ h.
+            let p = m .pairs h in
+            record {
+              said-first = said-stays (m .few) (al .one) (ag .one) (p .said-first);
+              said-second = said-stays (m .few) (al .other) (ag .other) (p .said-second);
+              joined = joined-stays (m .few) (first (axes .alone)) (second (axes .alone)) (al .one) (al .other) (al .both) (ag .one) (ag .other) (ag .both) (p .joined);
+              leaves = leaves-stay (al .both) (ag .both) (p .leaves);
+            };
+      }
 
-      pub keeps-z-then : Keeps lows highs 512 shapes (axes .z) l₂ g₂
-      keeps-z-then = keeps-stays (marked .few) (stays-above 512 (fy .lessers-beside) (omega arith)) (stays-above 512 (fy .greaters-beside) (omega arith)) keeps-z-still
+-- ---- two axes filled, one after the other, and put together
+first-near : {alone : ℕ} → IsAxis alone → first alone ≤ 512
+first-near x-axis = omega arith
+first-near y-axis = omega arith
+first-near z-axis = omega arith
 
-      module _ (oz dz : Float) (l g : List ℕ) (kz : Kept) (fz : Fresh lows highs (axisOf 512 shapes oz dz) l₂ g₂ l g kz) (choice : Choice) (chosen : Chosen (axes .alone) (kx .moved) (ky .moved) (kz .moved) choice) where
-        abbrev three : Axes
-        three = record { x = kx; y = ky; z = kz; alone = choice .alone; paired = axes .paired && choice .stands; sound = axes .sound }
+second-near : {alone : ℕ} → IsAxis alone → second alone ≤ 512
+second-near x-axis = omega arith
+second-near y-axis = omega arith
+second-near z-axis = omega arith
 
-        beside-all : choice .stands ≡ true → (Beside (axes .alone) l₀ l) × (Beside (axes .alone) g₀ g)
-        beside-all s = (
-          beside-more (beside-alone (kx .moved) (fx .lessers-beside) (fx .lessers-still) (chosen .only-x s))
-              (beside-more (beside-alone (ky .moved) (fy .lessers-beside) (fy .lessers-still) (chosen .only-y s)) (beside-alone (kz .moved) (fz .lessers-beside) (fz .lessers-still) (chosen .only-z s))),
-          beside-more (beside-alone (kx .moved) (fx .greaters-beside) (fx .greaters-still) (chosen .only-x s))
-              (beside-more (beside-alone (ky .moved) (fy .greaters-beside) (fy .greaters-still) (chosen .only-y s)) (beside-alone (kz .moved) (fz .greaters-beside) (fz .greaters-still) (chosen .only-z s))),
-        )
+-- filling the second leaves the first as it is
+first-stays : {alone there : ℕ} {old new : List ℕ} → IsAxis alone → Beside (second alone) there old new → Stays (first alone) old new
+first-stays x-axis b = stays-below 256 b (omega arith)
+first-stays y-axis b = stays-below 0 b (omega arith)
+first-stays z-axis b = stays-below 0 b (omega arith)
 
-        still-together : (axes .paired && choice .stands) ≡ true → Together (first (choice .alone)) (second (choice .alone)) shapes l g
-        still-together h =
-            let t = and-eq-true-iff (axes .paired) (choice .stands) .0 h in
-            let b = beside-all (t .1) in
-            let ls = others-stay (marked .axis) (b .0) in
-            let gs = others-stay (marked .axis) (b .1) in
-            subst (λ (a : ℕ). Together (first a) (second a) shapes l g) (sym (chosen .same (t .1)))
-            (together-stays (marked .few) (ls .0) (ls .1 .0) (ls .1 .1) (gs .0) (gs .1 .0) (gs .1 .1) (marked .together (t .0)))
+module _ {shapes : ℕ} (axes : Axes) {lows highs : List Float} {l₀ g₀ : List ℕ} (few : shapes ≤ 256) (axis : IsAxis (axes .alone)) (sized : Sized lows highs l₀ g₀) where
+  module _ {l₁ g₁ : List ℕ} (one : ℕ) (e : one ≡ first (axes .alone)) (a : Along) (ea : a ≡ alongAt axes one) (filled : Filled lows highs one (one + shapes) a l₀ g₀ l₁ g₁) where
+    pub sized-then : Sized lows highs l₁ g₁
+    sized-then = still-sized sized (filled .lessers-beside .sized) (filled .greaters-beside .sized)
 
-        x-through-y : Stays 0 l₁ l₂
-        x-through-y = stays-below 0 (fy .lessers-beside) (omega arith)
-
-        x-through-y′ : Stays 0 g₁ g₂
-        x-through-y′ = stays-below 0 (fy .greaters-beside) (omega arith)
-
-        x-through-z : Stays 0 l₂ l
-        x-through-z = stays-below 0 (fz .lessers-beside) (omega arith)
-
-        x-through-z′ : Stays 0 g₂ g
-        x-through-z′ = stays-below 0 (fz .greaters-beside) (omega arith)
-
-        y-through-z : Stays 256 l₂ l
-        y-through-z = stays-below 256 (fz .lessers-beside) (omega arith)
-
-        y-through-z′ : Stays 256 g₂ g
-        y-through-z′ = stays-below 256 (fz .greaters-beside) (omega arith)
-
-        pub three-kept : (probe : Probe) → ox ≡ probe .ox → dx ≡ probe .dx → oy ≡ probe .oy → dy ≡ probe .dy → oz ≡ probe .oz → dz ≡ probe .dz → Current probe shapes (axes .sound) three lows highs l g
-        three-kept probe eox edx eoy edy eoz edz = record {
-          marked = record {
-            few = marked .few;
-            lows-length = marked .lows-length;
-            highs-length = marked .highs-length;
-            lessers-length = fz .lessers-beside .sized ∙ fy .lessers-beside .sized ∙ fx .lessers-beside .sized ∙ marked .lessers-length;
-            greaters-length = fz .greaters-beside .sized ∙ fy .greaters-beside .sized ∙ fx .greaters-beside .sized ∙ marked .greaters-length;
-            keeps-x = keeps-stays (marked .few) x-through-z x-through-z′ (keeps-stays (marked .few) x-through-y x-through-y′ (fx .keeps));
-            keeps-y = keeps-stays (marked .few) y-through-z y-through-z′ (fy .keeps);
-            keeps-z = fz .keeps;
-            axis = chosen .axis (marked .axis);
-            together = still-together;
-          };
-          sound-still = refl;
-          said-x = rw (← eox, ← edx) (said-stays (marked .few) x-through-z x-through-z′ (said-stays (marked .few) x-through-y x-through-y′ (fx .said-now)));
-          said-y = rw (← eoy, ← edy) (said-stays (marked .few) y-through-z y-through-z′ (fy .said-now));
-          said-z = rw (← eoz, ← edz) (fz .said-now);
+    pub two-said : {l g : List ℕ} (other : ℕ) → other ≡ second (axes .alone) → (b : Along) → b ≡ alongAt axes other → Filled lows highs other (other + shapes) b l₁ g₁ l g → TwoSaid shapes axes lows highs l g
+    two-said {l} {g} other f b eb filled′ =
+        let s : Said lows highs one (one + shapes) (alongAt axes one) l₁ g₁ = subst (λ (a : Along). Said lows highs one (one + shapes) a l₁ g₁) ea (filled .said) in
+        let t = subst (λ (o : ℕ). Said lows highs o (o + shapes) (alongAt axes o) l₁ g₁) e s in
+        let u : Said lows highs other (other + shapes) (alongAt axes other) l g = subst (λ (b : Along). Said lows highs other (other + shapes) b l g) eb (filled′ .said) in
+        let bl = subst (λ (o : ℕ). Beside o (o + shapes) l₁ l) f (filled′ .lessers-beside) in
+        let bg = subst (λ (o : ℕ). Beside o (o + shapes) g₁ g) f (filled′ .greaters-beside) in
+        record {
+          sized = still-sized sized-then (filled′ .lessers-beside .sized) (filled′ .greaters-beside .sized);
+          said-first = said-stays few (first-stays axis bl) (first-stays axis bg) t;
+          said-second = subst (λ (o : ℕ). Said lows highs o (o + shapes) (alongAt axes o) l g) f u;
         }
 
--- ---- and two of them together
-module _ (probe : Probe) (shapes : ℕ) (sound : Bool) (axes : Axes) (lows highs : List Float) (l₀ g₀ l g : List ℕ) (current : Current probe shapes sound axes lows highs l₀ g₀) (one other : ℕ) (e : one ≡ first (axes .alone)) (f : other ≡ second (axes .alone))
-    (paired : Paired one other shapes l₀ g₀ l g) where
+pub one-near : (alone one : ℕ) → IsAxis alone → one ≡ first alone → one ≤ 512
+one-near alone one axis e = omega (arith, first-near axis)
+
+pub other-near : (alone other : ℕ) → IsAxis alone → other ≡ second alone → other ≤ 512
+other-near alone other axis e = omega (arith, second-near axis)
+
+pub one-room : (alone one shapes : ℕ) → IsAxis alone → one ≡ first alone → shapes ≤ 256 → one + shapes ≤ 768
+one-room alone one shapes axis e few = omega (arith, first-near axis)
+
+pub other-room : (alone other shapes : ℕ) → IsAxis alone → other ≡ second alone → shapes ≤ 256 → other + shapes ≤ 768
+other-room alone other shapes axis e few = omega (arith, second-near axis)
+
+module _ {shapes : ℕ} {axes : Axes} {lows highs : List Float} {halves left l₀ g₀ l₁ g₁ l g : List ℕ} (m : Marked shapes axes lows highs halves left l₀ g₀) (two : TwoSaid shapes axes lows highs l₁ g₁)
+    (one other : ℕ) (e : one ≡ first (axes .alone)) (f : other ≡ second (axes .alone)) (paired : Paired one other shapes l₁ g₁ l g) where
+  pub paired-sized : Sized lows highs l g
+  paired-sized = still-sized (two .sized) (paired .lessers-beside .sized) (paired .greaters-beside .sized)
+
   abbrev now-paired : Axes
   now-paired = record { x = axes .x; y = axes .y; z = axes .z; alone = axes .alone; paired = true; sound = axes .sound }
 
-  stays : (part : ℕ) → part ≤ 512 → Stays part l₀ l
-  stays part h = stays-below part (paired .lessers-beside) (omega arith)
+  pub now-together : Together axes now-paired
+  now-together = record { x = refl; y = refl; z = refl; paired = refl; sound = refl }
 
-  stays′ : (part : ℕ) → part ≤ 512 → Stays part g₀ g
-  stays′ part h = stays-below part (paired .greaters-beside) (omega arith)
-
-  pub pair-kept : Current probe shapes sound now-paired lows highs l g
-  pair-kept =
-      let few = current .marked .few in
-      let near : 0 ≤ 512 = omega arith in
-      let near-y : 256 ≤ 512 = omega arith in
-      let near-z : 512 ≤ 512 = omega arith in
+  pub now-marked : {left′ : List ℕ} → Leaves halves l g left′ 16 → Marked shapes now-paired lows highs halves left′ l g
+  now-marked leaves =
+      let near : first (axes .alone) + 256 ≤ 768 = omega (arith, first-near (m .axis)) in
+      let near′ : second (axes .alone) + 256 ≤ 768 = omega (arith, second-near (m .axis)) in
       record {
-        marked = record {
-          few = few;
-          lows-length = current .marked .lows-length;
-          highs-length = current .marked .highs-length;
-          lessers-length = paired .lessers-beside .sized ∙ current .marked .lessers-length;
-          greaters-length = paired .greaters-beside .sized ∙ current .marked .greaters-length;
-          keeps-x = keeps-stays few (stays 0 near) (stays′ 0 near) (current .marked .keeps-x);
-          keeps-y = keeps-stays few (stays 256 near-y) (stays′ 256 near-y) (current .marked .keeps-y);
-          keeps-z = keeps-stays few (stays 512 near-z) (stays′ 512 near-z) (current .marked .keeps-z);
-          axis = current .marked .axis;
-          together = λ h. subst (λ (a : ℕ). Together (first (axes .alone)) a shapes l g) f (subst (λ (a : ℕ). Together a other shapes l g) e (paired .together));
+        few = m .few;
+        sized = paired-sized;
+        halves-length = m .halves-length;
+        left-length = leaves .long;
+        numbers = record { x = m .numbers .x; y = m .numbers .y; z = m .numbers .z };
+        axis = m .axis;
+        pairs = λ h. record {
+          said-first = said-stays (m .few) (stays-below (first (axes .alone)) (paired .lessers-beside) near) (stays-below (first (axes .alone)) (paired .greaters-beside) near) (two .said-first);
+          said-second = said-stays (m .few) (stays-below (second (axes .alone)) (paired .lessers-beside) near′) (stays-below (second (axes .alone)) (paired .greaters-beside) near′) (two .said-second);
+          joined = subst (λ (o : ℕ). Joined (first (axes .alone)) o shapes l g) f (subst (λ (o : ℕ). Joined o other shapes l g) e (paired .joined));
+          leaves = leaves;
         };
-        sound-still = current .sound-still;
-        said-x = said-stays few (stays 0 near) (stays′ 0 near) (current .said-x);
-        said-y = said-stays few (stays 256 near-y) (stays′ 256 near-y) (current .said-y);
-        said-z = said-stays few (stays 512 near-z) (stays′ 512 near-z) (current .said-z);
       }
-
-pub first-within : (alone one : ℕ) → one ≡ first alone → one ≤ 512
-first-within alone one e = omega (arith, first-near alone)
-
-pub second-within : (alone other : ℕ) → other ≡ second alone → other ≤ 512
-second-within alone other e = omega (arith, second-near alone)
-
--- ---- the next line
-pub line-kept : (probe : Probe) (kinds : List ℕ) (numbers : List Float) (axes axes′ : Axes) (lows highs : List Float) (halves l₀ g₀ l g bytes keys : List ℕ) (row : Row)
-    → Drawing kinds numbers axes lows highs halves l₀ g₀ → Current probe (length kinds) (axes .sound) axes′ lows highs l g → Ends 16 (shapeCuts probe kinds numbers) bytes keys row
-    → LineKept probe kinds numbers lows highs halves l g bytes keys (record { axes = axes′; row = row })
-line-kept probe kinds numbers axes axes′ lows highs halves l₀ g₀ l g bytes keys row drawing current ends = record {
-  drawing = record { columns = subst (λ (s : Bool). Columns kinds numbers (length kinds) lows highs halves s) (sym (current .sound-still)) (drawing .columns); marked = current .marked };
-  ends = ends;
-}

@@ -1,20 +1,23 @@
 -- One line after another over one drawing: what is kept between them, and what a line gives.
-use Prim.Native.Nat.{ℕ, _+_, _<_, _≤_, min, max}
+use Prim.Native.Nat.{ℕ, _+_, _*_, _/_, _<_, _≤_, min, max}
 use mathlib.Core.Path.{_≡_}
-use mathlib.Core.Bool.{Bool, true, false, cond}
+use mathlib.Core.Bool.{Bool, true, false, cond, not, _||_}
 use mathlib.Core.List.{List}
-use lib.Dec.{eqb}
+use lib.Dec.{eqb, ltb}
 use lib.ListN.{length, getD}
 use lib.Ieee.{Float}
-use Rattle.cross_cuts.specs.Keys.{Ends}
+use Rattle.cross_cuts.specs.Keys.{Complete}
+use Rattle.cross_cuts.specs.declared.Row.{Row}
+use Rattle.cross_cuts.specs.declared.Row.the-variants as row
 use Rattle.cross_shapes.specs.Shapes.{finite}
 use Rattle.cross_shapes.specs.declared.Probe.{Probe}
-use Rattle.cross_line.specs.Crossing.{shapeCuts}
+use Rattle.outcome.specs.Outcome.{given}
+use Rattle.cross_cuts.specs.Cuts.{faultless}
+use Rattle.cross_line.specs.Crossing.{goodProbe, shapeCuts}
 use Rattle.cross_columns.specs.Columns.{Columns}
-use Rattle.cross_axis.specs.Axes.{Beside, Said, Keeps}
-use Rattle.cross_axis.specs.declared.Kept.{Kept}
+use Rattle.cross_axis.specs.Axes.{Sized, Said, Beside}
+use Rattle.cross_axis.specs.declared.Along.{Along}
 use Rattle.cross_kept.specs.declared.Axes.{Axes}
-use Rattle.cross_kept.specs.declared.Choice.{Choice}
 use Rattle.cross_kept.specs.declared.Lined.{Lined}
 
 -- One of the three axes, by where it starts.
@@ -30,66 +33,143 @@ first alone = cond (eqb alone 0) 256 0
 abbrev pub second : ℕ → ℕ
 second alone = cond (eqb alone 512) 256 512
 
+pub record AxisStill (before now : ℕ) : Type 0 where
+  pub is : IsAxis before → IsAxis now
+
+-- The numbers on the axis that starts there, and what is true of it.
+abbrev pub alongAt : Axes → ℕ → Along
+alongAt axes start = cond (eqb start 0) (axes .x) (cond (eqb start 256) (axes .y) (axes .z))
+
+abbrev pub keptOn : ℕ → Bool → Bool → Bool → Bool
+keptOn start x y z = cond (eqb start 0) x (cond (eqb start 256) y z)
+
+pub record Stay (before alone : ℕ) (x y z r : Bool) : Type 0 where
+  pub same : r ≡ true → alone ≡ before
+  pub one : r ≡ true → keptOn (first alone) x y z ≡ true
+  pub other : r ≡ true → keptOn (second alone) x y z ≡ true
+
+abbrev pub FiniteAlong : Along → Type 0
+FiniteAlong a = (finite (a .origin) ≡ true) × (finite (a .component) ≡ true)
+
+pub record Numbers (axes : Axes) : Type 0 where
+  pub x : FiniteAlong (axes .x)
+  pub y : FiniteAlong (axes .y)
+  pub z : FiniteAlong (axes .z)
+
+-- These are a line's own numbers.
+pub record Own (probe : Probe) (axes : Axes) : Type 0 where
+  pub x : axes .x ≡ record { origin = probe .ox; component = probe .dx }
+  pub y : axes .y ≡ record { origin = probe .oy; component = probe .dy }
+  pub z : axes .z ≡ record { origin = probe .oz; component = probe .dz }
+
+-- The next line's numbers; and where two axes are together still, they are those that were, with the numbers that they had.
+pub record Seen (probe : Probe) (axes r : Axes) : Type 0 where
+  pub own : Own probe r
+  pub numbers : Numbers r
+  pub axis : IsAxis (axes .alone) → IsAxis (r .alone)
+  pub sound-still : r .sound ≡ axes .sound
+  pub were : r .paired ≡ true → axes .paired ≡ true
+  pub same : r .paired ≡ true → r .alone ≡ axes .alone
+  pub first-still : r .paired ≡ true → alongAt axes (first (r .alone)) ≡ alongAt r (first (r .alone))
+  pub second-still : r .paired ≡ true → alongAt axes (second (r .alone)) ≡ alongAt r (second (r .alone))
+
 -- The last part is what two axes say together.
-pub record Together (one other shapes : ℕ) (lessers greaters : List ℕ) : Type 0 where
+pub record Joined (one other shapes : ℕ) (lessers greaters : List ℕ) : Type 0 where
   pub lesser : (i : ℕ) → i < shapes → getD lessers (768 + i) 0 ≡ max (getD lessers (one + i) 0) (getD lessers (other + i) 0)
   pub greater : (i : ℕ) → i < shapes → getD greaters (768 + i) 0 ≡ min (getD greaters (one + i) 0) (getD greaters (other + i) 0)
 
 -- Two axes are put together, and nothing else is changed.
 pub record Paired (one other shapes : ℕ) (old-lessers old-greaters lessers greaters : List ℕ) : Type 0 where
-  pub lessers-beside : Beside 768 old-lessers lessers
-  pub greaters-beside : Beside 768 old-greaters greaters
-  pub together : Together one other shapes lessers greaters
+  pub lessers-beside : Beside 768 1024 old-lessers lessers
+  pub greaters-beside : Beside 768 1024 old-greaters greaters
+  pub joined : Joined one other shapes lessers greaters
 
--- Which axis stands alone now; what the two others said together stands where none of the two moved.
-pub record Chosen (before : ℕ) (mx my mz : Bool) (choice : Choice) : Type 0 where
-  pub axis : IsAxis before → IsAxis (choice .alone)
-  pub same : choice .stands ≡ true → choice .alone ≡ before
-  pub only-x : choice .stands ≡ true → mx ≡ true → before ≡ 0
-  pub only-y : choice .stands ≡ true → my ≡ true → before ≡ 256
-  pub only-z : choice .stands ≡ true → mz ≡ true → before ≡ 512
+-- A half-space, or a box of which two axes together leave a length over.
+abbrev pub remains : List ℕ → List ℕ → List ℕ → ℕ → Bool
+remains halves lessers greaters i = not (eqb (getD halves i 0) 0) || ltb (getD lessers (768 + i) 0) (getD greaters (768 + i) 0)
 
--- What is kept of each axis, and of two together.
-pub record Marked (shapes : ℕ) (axes : Axes) (lows highs : List Float) (lessers greaters : List ℕ) : Type 0 where
+pub record Idle (halves lessers greaters : List ℕ) (start stop : ℕ) : Type 0 where
+  pub none : (i : ℕ) → start ≤ i → i < stop → remains halves lessers greaters i ≡ false
+
+-- A no means that nothing remains.
+pub record IdleUnless (any : Bool) (halves lessers greaters : List ℕ) (start stop : ℕ) : Type 0 where
+  pub idle : any ≡ false → Idle halves lessers greaters start stop
+
+-- Of each sixteen of the first n sixteens: where 0 stands nothing remains.
+pub record Leaves (halves lessers greaters left : List ℕ) (n : ℕ) : Type 0 where
+  pub long : length left ≡ 16
+  pub idle : (b : ℕ) → b < n → getD left b 0 ≡ 0 → Idle halves lessers greaters (16 * b) (16 * b + 16)
+
+-- What each of two axes says.
+pub record TwoSaid (shapes : ℕ) (axes : Axes) (lows highs : List Float) (lessers greaters : List ℕ) : Type 0 where
+  pub sized : Sized lows highs lessers greaters
+  pub said-first : Said lows highs (first (axes .alone)) (first (axes .alone) + shapes) (alongAt axes (first (axes .alone))) lessers greaters
+  pub said-second : Said lows highs (second (axes .alone)) (second (axes .alone) + shapes) (alongAt axes (second (axes .alone))) lessers greaters
+
+-- Two axes are together: what each says, what both say, and what remains.
+pub record Pairs (shapes : ℕ) (axes : Axes) (lows highs : List Float) (halves left lessers greaters : List ℕ) : Type 0 where
+  pub said-first : Said lows highs (first (axes .alone)) (first (axes .alone) + shapes) (alongAt axes (first (axes .alone))) lessers greaters
+  pub said-second : Said lows highs (second (axes .alone)) (second (axes .alone) + shapes) (alongAt axes (second (axes .alone))) lessers greaters
+  pub joined : Joined (first (axes .alone)) (second (axes .alone)) shapes lessers greaters
+  pub leaves : Leaves halves lessers greaters left 16
+
+-- What is kept.
+pub record Marked (shapes : ℕ) (axes : Axes) (lows highs : List Float) (halves left lessers greaters : List ℕ) : Type 0 where
   pub few : shapes ≤ 256
-  pub lows-length : length lows ≡ 768
-  pub highs-length : length highs ≡ 768
-  pub lessers-length : length lessers ≡ 1024
-  pub greaters-length : length greaters ≡ 1024
-  pub keeps-x : Keeps lows highs 0 shapes (axes .x) lessers greaters
-  pub keeps-y : Keeps lows highs 256 shapes (axes .y) lessers greaters
-  pub keeps-z : Keeps lows highs 512 shapes (axes .z) lessers greaters
+  pub sized : Sized lows highs lessers greaters
+  pub halves-length : length halves ≡ 256
+  pub left-length : length left ≡ 16
+  pub numbers : Numbers axes
   pub axis : IsAxis (axes .alone)
-  pub together : axes .paired ≡ true → Together (first (axes .alone)) (second (axes .alone)) shapes lessers greaters
+  pub pairs : axes .paired ≡ true → Pairs shapes axes lows highs halves left lessers greaters
 
--- The three axes say what they say of this line.
-pub record Current (probe : Probe) (shapes : ℕ) (sound : Bool) (axes : Axes) (lows highs : List Float) (lessers greaters : List ℕ) : Type 0 where
-  pub marked : Marked shapes axes lows highs lessers greaters
-  pub sound-still : axes .sound ≡ sound
-  pub said-x : Said lows highs 0 shapes (probe .ox) (probe .dx) lessers greaters (axes .x .good)
-  pub said-y : Said lows highs 256 shapes (probe .oy) (probe .dy) lessers greaters (axes .y .good)
-  pub said-z : Said lows highs 512 shapes (probe .oz) (probe .dz) lessers greaters (axes .z .good)
+-- The same numbers and the same axis alone, and two axes together.
+pub record Together (axes r : Axes) : Type 0 where
+  pub x : r .x ≡ axes .x
+  pub y : r .y ≡ axes .y
+  pub z : r .z ≡ axes .z
+  pub paired : r .paired ≡ true
+  pub sound : r .sound ≡ axes .sound
+
+-- The next line's numbers, and two axes together.
+pub record Follows (probe : Probe) (axes r : Axes) : Type 0 where
+  pub own : Own probe r
+  pub paired : r .paired ≡ true
+  pub sound : r .sound ≡ axes .sound
 
 -- The drawing in columns, and what is kept.
-pub record Drawing (kinds : List ℕ) (numbers : List Float) (axes : Axes) (lows highs : List Float) (halves lessers greaters : List ℕ) : Type 0 where
+pub record Drawing (kinds : List ℕ) (numbers : List Float) (axes : Axes) (lows highs : List Float) (halves left lessers greaters : List ℕ) : Type 0 where
   pub columns : Columns kinds numbers (length kinds) lows highs halves (axes .sound)
-  pub marked : Marked (length kinds) axes lows highs lessers greaters
+  pub marked : Marked (length kinds) axes lows highs halves left lessers greaters
+
+-- The axes are those of a line that is not at fault.
+pub record Over (probe : Probe) (kinds : List ℕ) (numbers : List Float) (axes : Axes) (lows highs : List Float) (halves left lessers greaters : List ℕ) : Type 0 where
+  pub good : goodProbe probe ≡ true
+  pub no-fault : faultless 16 0 (shapeCuts probe kinds numbers) ≡ given tt
+  pub own : Own probe axes
+  pub paired : axes .paired ≡ true
+  pub sound : axes .sound ≡ true
+  pub drawing : Drawing kinds numbers axes lows highs halves left lessers greaters
 
 -- Nothing is kept yet.
-pub record Unknown (kept : Kept) : Type 0 where
-  pub not-known : kept .known ≡ false
-  pub origin-finite : finite (kept .origin) ≡ true
-  pub component-finite : finite (kept .component) ≡ true
-
 pub record NothingKept (sound : Bool) (axes : Axes) : Type 0 where
   pub is-sound : axes .sound ≡ sound
-  pub x : Unknown (axes .x)
-  pub y : Unknown (axes .y)
-  pub z : Unknown (axes .z)
+  pub numbers : Numbers axes
   pub axis : IsAxis (axes .alone)
   pub apart : axes .paired ≡ false
 
+-- A line that is not at fault, what is kept of those before it, and room for what it has.
+pub record Next (probe : Probe) (kinds : List ℕ) (numbers : List Float) (axes : Axes) (lows highs : List Float) (halves left lessers greaters bytes keys : List ℕ) : Type 0 where
+  pub good : goodProbe probe ≡ true
+  pub no-fault : faultless 16 0 (shapeCuts probe kinds numbers) ≡ given tt
+  pub drawing : Drawing kinds numbers axes lows highs halves left lessers greaters
+  pub bytes-sized : length bytes ≡ 256
+  pub keys-sized : length keys ≡ 512
+
+pub record Counted (r : Row) (n : ℕ) : Type 0 where
+  pub is : (m : ℕ) → r ≡ row.Count m → n ≡ m
+
 -- The drawing as it was, kept for the next line, and what the job for one line gathers of this one.
-pub record LineKept (probe : Probe) (kinds : List ℕ) (numbers : List Float) (lows highs : List Float) (halves lessers greaters bytes keys : List ℕ) (r : Lined) : Type 0 where
-  pub drawing : Drawing kinds numbers (r .axes) lows highs halves lessers greaters
-  pub ends : Ends 16 (shapeCuts probe kinds numbers) bytes keys (r .row)
+pub record LineKept (probe : Probe) (kinds : List ℕ) (numbers : List Float) (lows highs : List Float) (halves left lessers greaters bytes keys : List ℕ) (r : Lined) : Type 0 where
+  pub drawing : Drawing kinds numbers (r .axes) lows highs halves left lessers greaters
+  pub gathered : Complete 16 (shapeCuts probe kinds numbers) bytes keys (length kinds) (r .count)

@@ -1,90 +1,50 @@
-// One line of many over one drawing: an axis is filled anew only where the line's numbers on it changed, what two axes say together is
-// kept while both stay, and the shapes are gathered as for one line.
-use cross_axis::Axis;
-use cross_axis::Kept;
+// One line of many over one drawing. Two axes of the line are put together and kept while both stay, with which of the shapes they leave
+// over; the third, which stands alone, is asked of those, and the shapes are gathered as for one line.
+use cross_axis::Along;
 use cross_cuts::Row;
+use cross_hits::Alone;
 use cross_shapes::Probe;
 ghost use mathlib.Core.Path.{_≡_};
-ghost use mathlib.Core.Bool.{true};
-ghost use Prim.Native.Nat.{_≤_};
+ghost use mathlib.Core.Bool.{true, false, cond, _&&_};
+ghost use Prim.Native.Nat.{_+_, _*_, _<_, _≤_};
 ghost use lib.ListN.{length};
-ghost use Rattle.cross_line.specs.Crossing.{goodProbe};
-ghost use Rattle.cross_kept.specs.Keeping.{first, second, Paired, Chosen, Marked, Current, Drawing, Unknown, NothingKept, LineKept};
+ghost use Rattle.cross_cuts.specs.Keys.{Complete};
+ghost use Rattle.cross_axis.specs.Axes.{Sized};
+ghost use Rattle.cross_line.specs.Crossing.{goodProbe, shapeCuts};
+ghost use Rattle.cross_kept.specs.Keeping.{IsAxis, AxisStill, first, second, alongAt, keptOn, Stay, Numbers, Seen, Paired, remains, IdleUnless, Leaves, TwoSaid, Marked, Together, Follows, Over, Drawing, NothingKept, Counted, Next, LineKept};
 
-// What is kept of the three axes; which of them stands alone, by where it starts, and whether the two others stand together in the last
-// part; whether no box of the drawing is at fault.
+// The last line's numbers on each axis; which axis stands alone, by where its part starts, and whether the two others are together;
+// whether no box of the drawing is at fault.
 pub struct Axes {
-    pub x: cross_axis::Kept,
-    pub y: cross_axis::Kept,
-    pub z: cross_axis::Kept,
+    pub x: Along,
+    pub y: Along,
+    pub z: Along,
     pub alone: usize,
     pub paired: bool,
     pub sound: bool,
 }
 
+// What is kept for the next line, and how many crossings this one has.
 pub struct Lined {
     pub axes: Axes,
-    pub row: Row,
-}
-
-// The axis that stands alone, and whether the two others are together as they were.
-struct Choice {
-    alone: usize,
-    stands: bool,
-}
-
-fn unknown() -> Kept
-    ensures { λ r. ⌜ Unknown r ⌝ }
-{
-    Kept {
-        known: false,
-        moved: false,
-        origin: 0.0,
-        component: 0.0,
-        good: false,
-    }
+    pub count: usize,
 }
 
 // Before the first line.
 pub fn nothing_kept(sound: bool) -> Axes
     ensures { λ r. ⌜ NothingKept sound r ⌝ }
 {
-    let none = unknown();
+    let none = Along {
+        origin: 0.0,
+        component: 0.0,
+    };
     Axes {
         x: none,
         y: none,
         z: none,
         alone: 0,
         paired: false,
-        sound: sound,
-    }
-}
-
-// The last axis that moved stands alone.
-fn choose(before: usize, x: bool, y: bool, z: bool) -> Choice
-    ensures { λ r. ⌜ Chosen before x y z r ⌝ }
-{
-    if z {
-        return Choice {
-            alone: 512,
-            stands: (before == 512) & (!x & !y),
-        };
-    }
-    if y {
-        return Choice {
-            alone: 256,
-            stands: (before == 256) & !x,
-        };
-    }
-    if x {
-        return Choice {
-            alone: 0,
-            stands: before == 0,
-        };
-    }
-    Choice {
-        alone: before,
-        stands: true,
+        sound,
     }
 }
 
@@ -104,6 +64,91 @@ fn second_of(alone: usize) -> usize
         return 256;
     }
     512
+}
+
+fn along_on(axes: Axes, start: usize) -> Along
+    ensures { λ r. ⌜ r ≡ alongAt axes start ⌝ }
+{
+    if start == 0 {
+        return axes.x;
+    }
+    if start == 256 {
+        return axes.y;
+    }
+    axes.z
+}
+
+fn kept_on(start: usize, x: bool, y: bool, z: bool) -> bool
+    ensures { λ r. ⌜ r ≡ keptOn start x y z ⌝ }
+{
+    if start == 0 {
+        return x;
+    }
+    if start == 256 {
+        return y;
+    }
+    z
+}
+
+// The axis that stands alone goes on to where it moved, or where none did; else the last that moved stands alone.
+fn choose(before: usize, x: bool, y: bool, z: bool) -> usize
+    ensures { λ r. ⌜ AxisStill before r ⌝ }
+{
+    if !kept_on(before, x, y, z) {
+        return before;
+    }
+    if !z {
+        return 512;
+    }
+    if !y {
+        return 256;
+    }
+    if !x {
+        return 0;
+    }
+    before
+}
+
+// Whether the two axes beside the one that stands alone are those that were, and stayed.
+fn stay(before: usize, alone: usize, x: bool, y: bool, z: bool) -> bool
+    ensures { λ r. ⌜ Stay before alone x y z r ⌝ }
+{
+    let one = kept_on(first_of(alone), x, y, z);
+    let other = kept_on(second_of(alone), x, y, z);
+    (alone == before) & (one & other)
+}
+
+// The next line's numbers, which axis stands alone, and whether the two others are together as they were.
+fn see(probe: Probe, axes: Axes) -> Axes
+    requires { ⌜ goodProbe probe ≡ true ⌝ }
+    requires { ⌜ Numbers axes ⌝ }
+    ensures { λ r. ⌜ Seen probe axes r ⌝ }
+{
+    let ax = Along {
+        origin: probe.ox,
+        component: probe.dx,
+    };
+    let ay = Along {
+        origin: probe.oy,
+        component: probe.dy,
+    };
+    let az = Along {
+        origin: probe.oz,
+        component: probe.dz,
+    };
+    let x = cross_axis::same(axes.x, ax);
+    let y = cross_axis::same(axes.y, ay);
+    let z = cross_axis::same(axes.z, az);
+    let alone = choose(axes.alone, x, y, z);
+    let still = stay(axes.alone, alone, x, y, z);
+    Axes {
+        x: ax,
+        y: ay,
+        z: az,
+        alone,
+        paired: axes.paired & still,
+        sound: axes.sound,
+    }
 }
 
 // Puts two axes together.
@@ -129,85 +174,155 @@ fn pair(
     }
 }
 
-fn keep_three(
-    probe: Probe,
+fn remains(i: usize, halves: &[u32; 256], lessers: &[u32; 1024], greaters: &[u32; 1024]) -> bool
+    requires { ⌜ (i < 256) × (length (now halves) ≡ 256) × (length (now lessers) ≡ 1024) × (length (now greaters) ≡ 1024) ⌝ }
+    ensures { λ r. ⌜ r ≡ remains (now (halves .entry)) (now (lessers .entry)) (now (greaters .entry)) i ⌝ }
+{
+    let together = 768 + i;
+    (halves[i] != 0) | (lessers[together] < greaters[together])
+}
+
+// Whether two axes leave one of sixteen shapes over, or one is a half-space.
+fn any_left(
+    start: usize,
+    halves: &[u32; 256],
+    lessers: &[u32; 1024],
+    greaters: &[u32; 1024],
+) -> bool
+    requires { ⌜ (start + 16 ≤ 256) × (length (now halves) ≡ 256) × (length (now lessers) ≡ 1024) × (length (now greaters) ≡ 1024) ⌝ }
+    ensures { λ r. ⌜ IdleUnless r (now (halves .entry)) (now (lessers .entry)) (now (greaters .entry)) start (start + 16) ⌝ }
+{
+    let mut any = false;
+    let mut j = 0usize;
+    while j < 16 {
+        any = any | remains(start + j, halves, lessers, greaters);
+        j += 1;
+    }
+    any
+}
+
+fn bit(b: bool) -> u8
+    ensures { λ r. ⌜ r ≡ cond b 1 0 ⌝ }
+{
+    if b {
+        return 1;
+    }
+    0
+}
+
+// Of which sixteen shapes something is left over.
+fn leave(halves: &[u32; 256], lessers: &[u32; 1024], greaters: &[u32; 1024], left: &mut [u8; 16])
+    requires { ⌜ (length (now halves) ≡ 256) × (length (now lessers) ≡ 1024) × (length (now greaters) ≡ 1024) × (length (now left) ≡ 16) ⌝ }
+    ensures { λ _. ⌜ Leaves (now (halves .entry)) (now (lessers .entry)) (now (greaters .entry)) (now (left .exit)) 16 ⌝ }
+{
+    let mut b = 0usize;
+    while b < 16 {
+        left[b] = bit(any_left(16 * b, halves, lessers, greaters));
+        b += 1;
+    }
+}
+
+// What the two axes beside the one that stands alone say.
+fn fill_two(
     axes: Axes,
     shapes: usize,
     lows: &[f64; 768],
     highs: &[f64; 768],
     lessers: &mut [u32; 1024],
     greaters: &mut [u32; 1024],
-) -> Axes
-    requires { ⌜ goodProbe probe ≡ true ⌝ }
-    requires { ⌜ Marked shapes axes (now lows) (now highs) (now lessers) (now greaters) ⌝ }
-    ensures { λ r. ⌜ Current probe shapes (axes .sound) r (now (lows .entry)) (now (highs .entry)) (now (lessers .exit)) (now (greaters .exit)) ⌝ }
+)
+    requires { ⌜ (shapes ≤ 256) × IsAxis (axes .alone) × Sized (now lows) (now highs) (now lessers) (now greaters) ⌝ }
+    ensures { λ _. ⌜ TwoSaid shapes axes (now (lows .entry)) (now (highs .entry)) (now (lessers .exit)) (now (greaters .exit)) ⌝ }
 {
-    let x_axis = Axis {
-        start: 0,
-        shapes: shapes,
-        origin: probe.ox,
-        component: probe.dx,
-    };
-    let y_axis = Axis {
-        start: 256,
-        shapes: shapes,
-        origin: probe.oy,
-        component: probe.dy,
-    };
-    let z_axis = Axis {
-        start: 512,
-        shapes: shapes,
-        origin: probe.oz,
-        component: probe.dz,
-    };
-    let x = cross_axis::keep_axis(axes.x, x_axis, lows, highs, lessers, greaters);
-    let y = cross_axis::keep_axis(axes.y, y_axis, lows, highs, lessers, greaters);
-    let z = cross_axis::keep_axis(axes.z, z_axis, lows, highs, lessers, greaters);
-    let choice = choose(axes.alone, x.moved, y.moved, z.moved);
+    let one = first_of(axes.alone);
+    let other = second_of(axes.alone);
+    let first = along_on(axes, one);
+    let second = along_on(axes, other);
+    cross_axis::fill(one, shapes, first, lows, highs, lessers, greaters);
+    cross_axis::fill(other, shapes, second, lows, highs, lessers, greaters);
+}
+
+// The two axes beside the one that stands alone, filled and put together.
+fn pair_axes(
+    axes: Axes,
+    shapes: usize,
+    lows: &[f64; 768],
+    highs: &[f64; 768],
+    halves: &[u32; 256],
+    left: &mut [u8; 16],
+    lessers: &mut [u32; 1024],
+    greaters: &mut [u32; 1024],
+) -> Axes
+    requires { ⌜ Marked shapes axes (now lows) (now highs) (now halves) (now left) (now lessers) (now greaters) ⌝ }
+    ensures { λ r. ⌜ Together axes r × Marked shapes r (now (lows .entry)) (now (highs .entry)) (now (halves .entry)) (now (left .exit)) (now (lessers .exit)) (now (greaters .exit)) ⌝ }
+{
+    fill_two(axes, shapes, lows, highs, lessers, greaters);
+    let one = first_of(axes.alone);
+    let other = second_of(axes.alone);
+    pair(one, other, shapes, lessers, greaters);
+    leave(halves, lessers, greaters, left);
+    let x = axes.x;
+    let y = axes.y;
+    let z = axes.z;
     Axes {
-        x: x,
-        y: y,
-        z: z,
-        alone: choice.alone,
-        paired: axes.paired & choice.stands,
+        x,
+        y,
+        z,
+        alone: axes.alone,
+        paired: true,
         sound: axes.sound,
     }
 }
 
 fn keep_axes(
+    axes: Axes,
+    shapes: usize,
+    lows: &[f64; 768],
+    highs: &[f64; 768],
+    halves: &[u32; 256],
+    left: &mut [u8; 16],
+    lessers: &mut [u32; 1024],
+    greaters: &mut [u32; 1024],
+) -> Axes
+    requires { ⌜ Marked shapes axes (now lows) (now highs) (now halves) (now left) (now lessers) (now greaters) ⌝ }
+    ensures { λ r. ⌜ Together axes r × Marked shapes r (now (lows .entry)) (now (highs .entry)) (now (halves .entry)) (now (left .exit)) (now (lessers .exit)) (now (greaters .exit)) ⌝ }
+{
+    if axes.paired {
+        return axes;
+    }
+    pair_axes(axes, shapes, lows, highs, halves, left, lessers, greaters)
+}
+
+// The next line's numbers, and two of its axes together.
+fn follow(
     probe: Probe,
     axes: Axes,
     shapes: usize,
     lows: &[f64; 768],
     highs: &[f64; 768],
+    halves: &[u32; 256],
+    left: &mut [u8; 16],
     lessers: &mut [u32; 1024],
     greaters: &mut [u32; 1024],
 ) -> Axes
-    requires { ⌜ goodProbe probe ≡ true ⌝ }
-    requires { ⌜ Marked shapes axes (now lows) (now highs) (now lessers) (now greaters) ⌝ }
-    ensures { λ r. ⌜ r .paired ≡ true ⌝ }
-    ensures { λ r. ⌜ Current probe shapes (axes .sound) r (now (lows .entry)) (now (highs .entry)) (now (lessers .exit)) (now (greaters .exit)) ⌝ }
+    requires { ⌜ (goodProbe probe ≡ true) × Marked shapes axes (now lows) (now highs) (now halves) (now left) (now lessers) (now greaters) ⌝ }
+    ensures { λ r. ⌜ Follows probe axes r × Marked shapes r (now (lows .entry)) (now (highs .entry)) (now (halves .entry)) (now (left .exit)) (now (lessers .exit)) (now (greaters .exit)) ⌝ }
 {
-    let kept = keep_three(probe, axes, shapes, lows, highs, lessers, greaters);
-    if kept.paired {
-        return kept;
-    }
-    let one = first_of(kept.alone);
-    let other = second_of(kept.alone);
-    pair(one, other, shapes, lessers, greaters);
-    let x = kept.x;
-    let y = kept.y;
-    let z = kept.z;
-    Axes {
-        x: x,
-        y: y,
-        z: z,
-        alone: kept.alone,
-        paired: true,
-        sound: kept.sound,
+    let seen = see(probe, axes);
+    keep_axes(seen, shapes, lows, highs, halves, left, lessers, greaters)
+}
+
+// How many crossings there are in a row that is not at fault.
+fn counted(row: Row) -> usize
+    ensures { λ r. ⌜ Counted row r ⌝ }
+{
+    match row {
+        Row::Fault(_) => 0,
+        Row::Count(m) => m,
     }
 }
 
+// What a line has of its shapes, over its axes.
 fn over_axes(
     probe: Probe,
     kinds: &[u8],
@@ -216,43 +331,40 @@ fn over_axes(
     lows: &[f64; 768],
     highs: &[f64; 768],
     halves: &[u32; 256],
+    left: &[u8; 16],
     lessers: &mut [u32; 1024],
     greaters: &mut [u32; 1024],
     bytes: &mut [u8],
     keys: &mut [u64],
-) -> Lined
-    requires { ⌜ goodProbe probe ≡ true ⌝ }
-    requires { ⌜ Drawing (now kinds) (now numbers) axes (now lows) (now highs) (now halves) (now lessers) (now greaters) ⌝ }
+) -> usize
+    requires { ⌜ Over probe (now kinds) (now numbers) axes (now lows) (now highs) (now halves) (now left) (now lessers) (now greaters) ⌝ }
     requires { ⌜ (length (now bytes) ≡ 256) × (length (now keys) ≡ 512) ⌝ }
-    ensures { λ r. ⌜ LineKept probe (now (kinds .entry)) (now (numbers .entry)) (now (lows .entry)) (now (highs .entry)) (now (halves .entry)) (now (lessers .exit)) (now (greaters .exit)) (now (bytes .exit)) (now (keys .exit)) r ⌝ }
+    ensures { λ r. ⌜ Complete 16 (shapeCuts probe (now (kinds .entry)) (now (numbers .entry))) (now (bytes .exit)) (now (keys .exit)) (length (now (kinds .entry))) r ⌝ }
+    ensures { λ _. ⌜ Drawing (now (kinds .entry)) (now (numbers .entry)) axes (now (lows .entry)) (now (highs .entry)) (now (halves .entry)) (now (left .entry)) (now (lessers .exit)) (now (greaters .exit)) ⌝ }
 {
-    let kept = keep_axes(probe, axes, kinds.len(), lows, highs, lessers, greaters);
-    if kept.sound & (kept.x.good & (kept.y.good & kept.z.good)) {
-        let alone = kept.alone;
-        let quick = cross_hits::gather(
-            probe,
-            kinds,
-            numbers,
-            alone,
-            halves,
-            lessers,
-            greaters,
-            bytes,
-            keys,
-        );
-        return Lined {
-            axes: kept,
-            row: quick,
-        };
-    }
-    let slow = cross_line::gather(probe, kinds, numbers, bytes, keys);
-    Lined {
-        axes: kept,
-        row: slow,
-    }
+    let along = along_on(axes, axes.alone);
+    let alone = Alone {
+        start: axes.alone,
+        along,
+    };
+    let row = cross_hits::gather(
+        probe,
+        kinds,
+        numbers,
+        alone,
+        left,
+        halves,
+        lows,
+        highs,
+        lessers,
+        greaters,
+        bytes,
+        keys,
+    );
+    counted(row)
 }
 
-// The next line of many: its row as cross_line::gather gives it, over the axes if the drawing is sound.
+// The next line of many, which is not at fault: gathered as cross_line::gather does it, over the axes if the drawing is sound.
 pub fn next_line(
     probe: Probe,
     kinds: &[u8],
@@ -261,34 +373,44 @@ pub fn next_line(
     lows: &[f64; 768],
     highs: &[f64; 768],
     halves: &[u32; 256],
+    left: &mut [u8; 16],
     lessers: &mut [u32; 1024],
     greaters: &mut [u32; 1024],
     bytes: &mut [u8],
     keys: &mut [u64],
 ) -> Lined
-    requires { ⌜ goodProbe probe ≡ true ⌝ }
-    requires { ⌜ Drawing (now kinds) (now numbers) axes (now lows) (now highs) (now halves) (now lessers) (now greaters) ⌝ }
-    requires { ⌜ (length (now bytes) ≡ 256) × (length (now keys) ≡ 512) ⌝ }
-    ensures { λ r. ⌜ LineKept probe (now (kinds .entry)) (now (numbers .entry)) (now (lows .entry)) (now (highs .entry)) (now (halves .entry)) (now (lessers .exit)) (now (greaters .exit)) (now (bytes .exit)) (now (keys .exit)) r ⌝ }
+    requires { ⌜ Next probe (now kinds) (now numbers) axes (now lows) (now highs) (now halves) (now left) (now lessers) (now greaters) (now bytes) (now keys) ⌝ }
+    ensures { λ r. ⌜ LineKept probe (now (kinds .entry)) (now (numbers .entry)) (now (lows .entry)) (now (highs .entry)) (now (halves .entry)) (now (left .exit)) (now (lessers .exit)) (now (greaters .exit)) (now (bytes .exit)) (now (keys .exit)) r ⌝ }
 {
     if axes.sound {
-        return over_axes(
+        let kept = follow(
             probe,
-            kinds,
-            numbers,
             axes,
+            kinds.len(),
             lows,
             highs,
             halves,
+            left,
+            lessers,
+            greaters,
+        );
+        let count = over_axes(
+            probe,
+            kinds,
+            numbers,
+            kept,
+            lows,
+            highs,
+            halves,
+            left,
             lessers,
             greaters,
             bytes,
             keys,
         );
+        return Lined { axes: kept, count };
     }
-    let slow = cross_line::gather(probe, kinds, numbers, bytes, keys);
-    Lined {
-        axes: axes,
-        row: slow,
-    }
+    let row = cross_line::gather(probe, kinds, numbers, bytes, keys);
+    let count = counted(row);
+    Lined { axes, count }
 }

@@ -12,8 +12,6 @@ use Rattle.outcome.proofs.LentLaws.{filled-more, length-filled}
 use Rattle.lines.specs.Lines.{LineLists, lineLists}
 use Rattle.cross_cuts.specs.Cuts.{Cut, startOf, startRow, positionOf, shapeOf, lineCrossings, LineCrossing}
 use Rattle.cross_cuts.specs.Keys.{Held, Complete}
-use Rattle.cross_cuts.specs.declared.Row.{Row}
-use Rattle.cross_cuts.specs.declared.Row.the-variants as row
 use Rattle.cross_answer.specs.Answer.{madeLists}
 use Rattle.cross_answer.specs.Giving.{Written}
 use Rattle.cross_answer.proofs.GiveLaws.{starts-written, positions-written, shapes-written}
@@ -21,14 +19,16 @@ use Rattle.cross_shapes.specs.declared.Probe.{Probe}
 use Rattle.cross_line.specs.Crossing.{shapeCuts}
 use Rattle.cross_line.proofs.LentLaws.{length-cuts, cuts-in-range}
 use Rattle.cross_drawn.specs.Drawn.{Drawn, rowsOf, linesFrom, positionsIn, shapesIn, drawn}
-use Rattle.cross_drawn.specs.Gathered.{Sound, LineEnds}
+use Rattle.cross_kept.specs.Keeping.{Drawing, Next}
+use Rattle.cross_kept.specs.declared.Axes.{Axes}
+use Rattle.cross_drawn.specs.Gathered.{Sound}
 use Rattle.cross_drawn.specs.Judging.{linesJudged}
 use Rattle.cross_drawn.specs.Lent.{probeFrom, probesOf}
 use Rattle.cross_drawn.specs.Refusing.{gives}
 use Rattle.cross_drawn.proofs.DrawnLaws.{positions-many, shapes-many, rows-more, lines-more, positions-more, shapes-more, rows-part, lines-part, rows-count}
 use Rattle.cross_drawn.proofs.LineLaws.{sound-held, sound-count, drawn-next, map-append}
 use Rattle.cross_pass.specs.Passing.{RoomFor, Fits, filledFrom, LinePut, Holding, AllWritten}
-use Rattle.cross_pass.proofs.CountLaws.{Counting, counting-starts, more-lines, none-wrong, sound-here, counting-fits, counting-on, counting-ends}
+use Rattle.cross_pass.proofs.CountLaws.{Counting, counting-starts, line-next, more-lines, sound-here, counting-fits, counting-on, counting-ends}
 
 -- ---- a line's number beside each of its crossings
 pub record Numbering (line m : ℕ) (old new : List ℕ) (i : ℕ) : Type 0 where
@@ -133,16 +133,16 @@ writing-starts kinds numbers lines count R N P S bytes keys all few shapes-few j
 
 module _ (kinds : List ℕ) (numbers lines : List Float) (count : ℕ) (R₀ N₀ : List ℕ) (P₀ : List ℤ) (S₀ R N : List ℕ) (P : List ℤ) (S bytes₀ keys₀ : List ℕ) (k at : ℕ)
     (writing : Writing kinds numbers lines count (lineLists R₀ N₀ P₀ S₀) (lineLists R N P S) bytes₀ keys₀ k at) where
-  module _ (more : k < count) (probe : Probe) (read : probe ≡ probeFrom (drop (6 * k) lines)) (bytes keys : List ℕ) (r : Row) (ends : LineEnds kinds numbers probe bytes keys r) where
-    pub writing-wrong : (place : ℕ) → r ≡ row.Fault place → AllWritten (drawn kinds numbers (probesOf lines)) (lineLists R₀ N₀ P₀ S₀) at (lineLists R N P S)
-    writing-wrong place e = absurd (none-wrong kinds numbers lines count bytes₀ keys₀ k at (writing .counting) more probe read bytes keys r ends place e)
+  module _ (more : k < count) (probe : Probe) (read : probe ≡ probeFrom (drop (6 * k) lines)) where
+    pub writing-next : {axes : Axes} {lows highs : List Float} {halves left l g : List ℕ} → Drawing kinds numbers axes lows highs halves left l g → Next probe kinds numbers axes lows highs halves left l g bytes₀ keys₀
+    writing-next drawing = line-next kinds numbers lines count bytes₀ keys₀ k at (writing .counting) more probe read drawing
 
-    module _ (m : ℕ) (e : r ≡ row.Count m) where
+    module _ (bytes keys : List ℕ) (m : ℕ) (gathered : Complete 16 (shapeCuts probe kinds numbers) bytes keys (length kinds) m) where
       before-here : k < length (probesOf lines)
-      before-here = more-lines kinds numbers lines count bytes₀ keys₀ k at (writing .counting) more probe read bytes keys r ends
+      before-here = more-lines kinds numbers lines count bytes₀ keys₀ k at (writing .counting) more probe read
 
       sound : Sound kinds numbers probe bytes keys m
-      sound = sound-here kinds numbers lines count bytes₀ keys₀ k at (writing .counting) more probe read bytes keys r ends m e
+      sound = sound-here kinds numbers lines count bytes₀ keys₀ k at (writing .counting) more probe read bytes keys m gathered
 
       abbrev before : Drawn
       before = drawn kinds numbers (take k (probesOf lines))
@@ -217,17 +217,17 @@ module _ (kinds : List ℕ) (numbers lines : List Float) (count : ℕ) (R₀ N�
       }
 
       pub writing-fits : at + m < 18446744073709551616
-      writing-fits = counting-fits kinds numbers lines count bytes₀ keys₀ k at (writing .counting) more probe read bytes keys r ends m e
+      writing-fits = counting-fits kinds numbers lines count bytes₀ keys₀ k at (writing .counting) more probe read bytes keys m gathered
 
       pub writing-on : (R′ N′ : List ℕ) (P′ : List ℤ) (S′ keys′ : List ℕ)
           → ((p : Probe) (ks : List ℕ) (ns : List Float) → Sound ks ns p bytes keys m → length kinds ≡ length ks → LinePut (shapeCuts p ks ns) k at (length kinds * k) (lineLists R N P S) (lineLists R′ N′ P′ S′))
-          → length bytes ≡ 256 → length keys′ ≡ 512 → length R′ ≡ length R → length N′ ≡ length N → length P′ ≡ length P → length S′ ≡ length S
+          → length keys′ ≡ 512 → length R′ ≡ length R → length N′ ≡ length N → length P′ ≡ length P → length S′ ≡ length S
           → Writing kinds numbers lines count (lineLists R₀ N₀ P₀ S₀) (lineLists R′ N′ P′ S′) bytes keys′ (k + 1) (at + m)
-      writing-on R′ N′ P′ S′ keys′ puts b s lr ln lp ls =
+      writing-on R′ N′ P′ S′ keys′ puts s lr ln lp ls =
           let put = puts probe kinds numbers sound refl in
           let next = drawn-next kinds numbers lines k probe read before-here in
           record {
-            counting = counting-on kinds numbers lines count bytes₀ keys₀ k at (writing .counting) more probe read bytes keys r ends m e b keys′ s;
+            counting = counting-on kinds numbers lines count bytes₀ keys₀ k at (writing .counting) more probe read bytes keys m gathered keys′ s;
             few-shapes = writing .few-shapes;
             fits = writing .fits;
             holding =

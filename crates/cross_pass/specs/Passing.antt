@@ -3,20 +3,10 @@ use Prim.Native.Nat.{ℕ, _+_, _*_, _<_, _≤_}
 use mathlib.Core.Path.{_≡_}
 use mathlib.Core.List.{List, _++_, map}
 use lib.ListN.{length, take, drop}
-use lib.Ieee.{Float}
 use Rattle.outcome.specs.Lent.{filled}
 use Rattle.lines.specs.Lines.{LineLists}
 use Rattle.cross_cuts.specs.Cuts.{Cut, startRow, lineCrossings, positionOf, shapeOf}
-use Rattle.cross_shapes.specs.declared.Probe.{Probe}
-use Rattle.cross_kept.specs.Keeping.{Drawing}
-use Rattle.cross_kept.specs.declared.Lined.{Lined}
-use Rattle.cross_drawn.specs.Gathered.{LineEnds}
 use Rattle.cross_drawn.specs.Drawn.{Drawn, rowsOf, linesFrom, positionsIn, shapesIn}
-
--- What is kept for the next line, and what the code has of this one.
-pub record KeptEnds (probe : Probe) (kinds : List ℕ) (numbers : List Float) (lows highs : List Float) (halves lessers greaters bytes keys : List ℕ) (r : Lined) : Type 0 where
-  pub drawing : Drawing kinds numbers (r .axes) lows highs halves lessers greaters
-  pub ends : LineEnds kinds numbers probe bytes keys (r .row)
 
 -- There is room for line k, a row of n and m crossings, where k rows and so many crossings are before it.
 pub record RoomFor (k before n m : ℕ) (lent : LineLists) : Type 0 where

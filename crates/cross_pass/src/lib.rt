@@ -1,8 +1,4 @@
 // The passes over many lines, none of which is at fault: their crossings counted, and all lines written one after another.
-use cross_cuts::Row;
-use cross_kept::Axes;
-use cross_kept::Lined;
-use cross_shapes::Probe;
 ghost use mathlib.Core.Path.{_≡_};
 ghost use Prim.Native.Nat.{ℕ, _*_, _≤_};
 ghost use mathlib.Core.List.{List};
@@ -18,9 +14,8 @@ ghost use Rattle.cross_drawn.specs.Refusing.{gives};
 ghost use Rattle.cross_drawn.specs.Drawn.{linesFrom, drawn};
 ghost use Rattle.cross_drawn.specs.Judging.{linesJudged};
 ghost use Rattle.cross_drawn.specs.Gathered.{Sound};
-ghost use Rattle.cross_columns.specs.Columns.{Columns};
-ghost use Rattle.cross_kept.specs.Keeping.{Drawing};
-ghost use Rattle.cross_pass.specs.Passing.{KeptEnds, RoomFor, Fits, LinePut, AllWritten};
+ghost use Rattle.cross_columns.specs.Columns.{Columns, Sized};
+ghost use Rattle.cross_pass.specs.Passing.{RoomFor, Fits, LinePut, AllWritten};
 
 fn box_at(kind: u8) -> usize
     ensures { λ r. ⌜ r ≤ 1 ⌝ }
@@ -42,43 +37,22 @@ fn enough(kinds: &[u8]) -> bool {
     3 <= boxes
 }
 
-// One line judged, and what it has of its shapes gathered over what is kept.
-fn kept_line(
-    probe: Probe,
+// The drawing's columns where they are sooner gone through; whether they are filled and no box is at fault.
+fn columns_of(
     kinds: &[u8],
     numbers: &[f64],
-    axes: Axes,
-    lows: &[f64; 768],
-    highs: &[f64; 768],
-    halves: &[u32; 256],
-    lessers: &mut [u32; 1024],
-    greaters: &mut [u32; 1024],
-    bytes: &mut [u8],
-    keys: &mut [u64],
-) -> Lined
-    requires { ⌜ Drawing (now kinds) (now numbers) axes (now lows) (now highs) (now halves) (now lessers) (now greaters) ⌝ }
-    requires { ⌜ (length (now bytes) ≡ 256) × (length (now keys) ≡ 512) ⌝ }
-    ensures { λ r. ⌜ KeptEnds probe (now (kinds .entry)) (now (numbers .entry)) (now (lows .entry)) (now (highs .entry)) (now (halves .entry)) (now (lessers .exit)) (now (greaters .exit)) (now (bytes .exit)) (now (keys .exit)) r ⌝ }
+    lows: &mut [f64; 768],
+    highs: &mut [f64; 768],
+    halves: &mut [u32; 256],
+) -> bool
+    requires { ⌜ length (now kinds) ≤ 256 ⌝ }
+    requires { ⌜ Sized (now lows) (now highs) (now halves) ⌝ }
+    ensures { λ r. ⌜ Columns (now (kinds .entry)) (now (numbers .entry)) (length (now (kinds .entry))) (now (lows .exit)) (now (highs .exit)) (now (halves .exit)) r ⌝ }
 {
-    if cross_line::good_probe(probe) {
-        return cross_kept::next_line(
-            probe,
-            kinds,
-            numbers,
-            axes,
-            lows,
-            highs,
-            halves,
-            lessers,
-            greaters,
-            bytes,
-            keys,
-        );
+    if enough(kinds) {
+        return cross_columns::fill_columns(kinds, numbers, lows, highs, halves);
     }
-    Lined {
-        axes: axes,
-        row: Row::Fault(65535),
-    }
+    false
 }
 
 // Counts over the drawing's columns.
@@ -97,6 +71,7 @@ fn count_over(
     requires { ⌜ Columns (now kinds) (now numbers) (length (now kinds)) (now lows) (now highs) (now halves) sound ⌝ }
     ensures { λ r. ⌜ r ≡ length (linesFrom 0 (drawn (now (kinds .entry)) (now (numbers .entry)) (probesOf (now (lines .entry))))) ⌝ }
 {
+    let mut left = [0u8; 16];
     let mut lessers = [0u32; 1024];
     let mut greaters = [0u32; 1024];
     let mut bytes = [0u8; 256];
@@ -106,7 +81,8 @@ fn count_over(
     let mut k = 0usize;
     while k < count {
         let probe = cross_drawn::probe_at(lines, k);
-        let lined = kept_line(
+        let next = k + 1;
+        let lined = cross_kept::next_line(
             probe,
             kinds,
             numbers,
@@ -114,47 +90,15 @@ fn count_over(
             lows,
             highs,
             halves,
+            &mut left,
             &mut lessers,
             &mut greaters,
             &mut bytes,
             &mut keys,
         );
         axes = lined.axes;
-        let row = lined.row;
-        match row {
-            Row::Fault(_) => {
-                return total;
-            }
-            Row::Count(m) => {
-                total += m;
-                k += 1;
-            }
-        }
-    }
-    total
-}
-
-// Counts one shape after another.
-fn count_few(kinds: &[u8], numbers: &[f64], lines: &[f64], count: usize) -> usize
-    requires { ⌜ (length (now kinds) ≤ 256) × (count ≡ length (probesOf (now lines))) × (count ≤ 4294967296) ⌝ }
-    requires { ⌜ linesJudged 0 (now kinds) (now numbers) (probesOf (now lines)) ≡ gives tt ⌝ }
-    ensures { λ r. ⌜ r ≡ length (linesFrom 0 (drawn (now (kinds .entry)) (now (numbers .entry)) (probesOf (now (lines .entry))))) ⌝ }
-{
-    let mut bytes = [0u8; 256];
-    let mut keys = [0u64; 512];
-    let mut total = 0usize;
-    let mut k = 0usize;
-    while k < count {
-        let probe = cross_drawn::probe_at(lines, k);
-        match cross_drawn::one_line(probe, kinds, numbers, &mut bytes, &mut keys) {
-            Row::Fault(_) => {
-                return total;
-            }
-            Row::Count(m) => {
-                total += m;
-                k += 1;
-            }
-        }
+        total += lined.count;
+        k = next;
     }
     total
 }
@@ -165,14 +109,11 @@ pub fn count_lines(kinds: &[u8], numbers: &[f64], lines: &[f64], count: usize) -
     requires { ⌜ linesJudged 0 (now kinds) (now numbers) (probesOf (now lines)) ≡ gives tt ⌝ }
     ensures { λ r. ⌜ r ≡ length (linesFrom 0 (drawn (now (kinds .entry)) (now (numbers .entry)) (probesOf (now (lines .entry))))) ⌝ }
 {
-    if enough(kinds) {
-        let mut lows = [0.0f64; 768];
-        let mut highs = [0.0f64; 768];
-        let mut halves = [0u32; 256];
-        let sound = cross_columns::fill_columns(kinds, numbers, &mut lows, &mut highs, &mut halves);
-        return count_over(kinds, numbers, lines, count, sound, &lows, &highs, &halves);
-    }
-    count_few(kinds, numbers, lines, count)
+    let mut lows = [0.0f64; 768];
+    let mut highs = [0.0f64; 768];
+    let mut halves = [0u32; 256];
+    let sound = columns_of(kinds, numbers, &mut lows, &mut highs, &mut halves);
+    count_over(kinds, numbers, lines, count, sound, &lows, &highs, &halves)
 }
 
 fn write_numbers(line: u32, m: usize, line_numbers: &mut [u32])
@@ -237,6 +178,7 @@ fn write_over(
     requires { ⌜ Columns (now kinds) (now numbers) (length (now kinds)) (now lows) (now highs) (now halves) sound ⌝ }
     ensures { λ r. ⌜ AllWritten (drawn (now (kinds .entry)) (now (numbers .entry)) (probesOf (now (lines .entry)))) (lineLists (now (rows .entry)) (now («line_numbers» .entry)) (now (positions .entry)) (now (shapes .entry))) r (lineLists (now (rows .exit)) (now («line_numbers» .exit)) (now (positions .exit)) (now (shapes .exit))) ⌝ }
 {
+    let mut left = [0u8; 16];
     let mut lessers = [0u32; 1024];
     let mut greaters = [0u32; 1024];
     let mut bytes = [0u8; 256];
@@ -246,7 +188,8 @@ fn write_over(
     let mut k = 0usize;
     while k < count {
         let probe = cross_drawn::probe_at(lines, k);
-        let lined = kept_line(
+        let next = k + 1;
+        let lined = cross_kept::next_line(
             probe,
             kinds,
             numbers,
@@ -254,82 +197,28 @@ fn write_over(
             lows,
             highs,
             halves,
+            &mut left,
             &mut lessers,
             &mut greaters,
             &mut bytes,
             &mut keys,
         );
         axes = lined.axes;
-        let row = lined.row;
-        match row {
-            Row::Fault(_) => {
-                return at;
-            }
-            Row::Count(m) => {
-                let next = at + m;
-                write_line(
-                    k,
-                    at,
-                    kinds.len(),
-                    m,
-                    &bytes,
-                    &mut keys,
-                    rows,
-                    line_numbers,
-                    positions,
-                    shapes,
-                );
-                at = next;
-                k += 1;
-            }
-        }
-    }
-    at
-}
-
-// Writes one shape after another.
-fn write_few(
-    kinds: &[u8],
-    numbers: &[f64],
-    lines: &[f64],
-    count: usize,
-    rows: &mut [u8],
-    line_numbers: &mut [u32],
-    positions: &mut [i32],
-    shapes: &mut [u16],
-) -> usize
-    requires { ⌜ (length (now kinds) ≤ 256) × (count ≡ length (probesOf (now lines))) × (count ≤ 4294967296) ⌝ }
-    requires { ⌜ linesJudged 0 (now kinds) (now numbers) (probesOf (now lines)) ≡ gives tt ⌝ }
-    requires { ⌜ Fits (drawn (now kinds) (now numbers) (probesOf (now lines))) (lineLists (now rows) (now «line_numbers») (now positions) (now shapes)) ⌝ }
-    ensures { λ r. ⌜ AllWritten (drawn (now (kinds .entry)) (now (numbers .entry)) (probesOf (now (lines .entry)))) (lineLists (now (rows .entry)) (now («line_numbers» .entry)) (now (positions .entry)) (now (shapes .entry))) r (lineLists (now (rows .exit)) (now («line_numbers» .exit)) (now (positions .exit)) (now (shapes .exit))) ⌝ }
-{
-    let mut bytes = [0u8; 256];
-    let mut keys = [0u64; 512];
-    let mut at = 0usize;
-    let mut k = 0usize;
-    while k < count {
-        let probe = cross_drawn::probe_at(lines, k);
-        match cross_drawn::one_line(probe, kinds, numbers, &mut bytes, &mut keys) {
-            Row::Fault(_) => {
-                return at;
-            }
-            Row::Count(m) => {
-                write_line(
-                    k,
-                    at,
-                    kinds.len(),
-                    m,
-                    &bytes,
-                    &mut keys,
-                    rows,
-                    line_numbers,
-                    positions,
-                    shapes,
-                );
-                at += m;
-                k += 1;
-            }
-        }
+        let end = at + lined.count;
+        write_line(
+            k,
+            at,
+            kinds.len(),
+            lined.count,
+            &bytes,
+            &mut keys,
+            rows,
+            line_numbers,
+            positions,
+            shapes,
+        );
+        at = end;
+        k = next;
     }
     at
 }
@@ -350,31 +239,19 @@ pub fn write_lines(
     requires { ⌜ Fits (drawn (now kinds) (now numbers) (probesOf (now lines))) (lineLists (now rows) (now «line_numbers») (now positions) (now shapes)) ⌝ }
     ensures { λ r. ⌜ AllWritten (drawn (now (kinds .entry)) (now (numbers .entry)) (probesOf (now (lines .entry)))) (lineLists (now (rows .entry)) (now («line_numbers» .entry)) (now (positions .entry)) (now (shapes .entry))) r (lineLists (now (rows .exit)) (now («line_numbers» .exit)) (now (positions .exit)) (now (shapes .exit))) ⌝ }
 {
-    if enough(kinds) {
-        let mut lows = [0.0f64; 768];
-        let mut highs = [0.0f64; 768];
-        let mut halves = [0u32; 256];
-        let sound = cross_columns::fill_columns(kinds, numbers, &mut lows, &mut highs, &mut halves);
-        return write_over(
-            kinds,
-            numbers,
-            lines,
-            count,
-            sound,
-            &lows,
-            &highs,
-            &halves,
-            rows,
-            line_numbers,
-            positions,
-            shapes,
-        );
-    }
-    write_few(
+    let mut lows = [0.0f64; 768];
+    let mut highs = [0.0f64; 768];
+    let mut halves = [0u32; 256];
+    let sound = columns_of(kinds, numbers, &mut lows, &mut highs, &mut halves);
+    write_over(
         kinds,
         numbers,
         lines,
         count,
+        sound,
+        &lows,
+        &highs,
+        &halves,
         rows,
         line_numbers,
         positions,

@@ -193,7 +193,8 @@ pub fn print(rows: Vec<Row>) {
     println!(
         "- `plain`: safe Rust of the method for many lines, which judges all of them before it writes too: faces in columns by axis, what"
     );
-    println!("  an axis says kept while a line's numbers on it stay the same, and what two axes say together while both do.");
+    println!("  two axes say together, and of which shapes they leave something over, kept while a line's numbers on both stay the same, and the");
+    println!("  third axis asked of those.");
     println!("- `plain, one by one`: safe Rust of the method for one line, for each.\n");
     println!(
         "| lines | shapes | number | crossings a line | many | one by one | plain | plain, one by one | one by one / many | many / plain |"

@@ -22,11 +22,17 @@ returns c = search (met-twice, needs)
 returns-2 : tie.Need-returns-2
 returns-2 c = search (met-never, needs)
 
-shape-at-requires : tie.Need-shape-at-requires
-shape-at-requires c κs = search needs
+shared-slice-read-half-met : tie.Need-shared-slice-read-half-met
+shared-slice-read-half-met c = search needs
 
-meet-shape-requires : tie.Need-meet-shape-requires
-meet-shape-requires c κs = search needs
+mul-number-at : tie.Need-mul-number-at
+mul-number-at c = search needs
+
+number-at-requires : tie.Need-number-at-requires
+number-at-requires c κs = search needs
+
+half-met-requires : tie.Need-half-met-requires
+half-met-requires c κs = search needs
 
 returns-3 : tie.Need-returns-3
 returns-3 c = search (met-half, needs)
@@ -41,6 +47,8 @@ met-at-spec =
     left-requires
     returns
     returns-2
-    shape-at-requires
-    meet-shape-requires
+    shared-slice-read-half-met
+    mul-number-at
+    number-at-requires
+    half-met-requires
     returns-3)

@@ -4,13 +4,14 @@ use Prim.Native.Nat.{_≤_, _-_}
 use lib.ListN.{length}
 use Rattle.cross_cuts.specs.Keys.{Going}
 use Rattle.cross_line.specs.Crossing.{shapeCuts}
-use Rattle.cross_hits.proofs.HitLaws.{visit-fault, visit-on, visited}
+use Rattle.cross_hits.specs.Hits.{Blocked}
+use Rattle.cross_hits.proofs.HitLaws.{blocked-at, visit-fault, visit-on, visited}
 use borrow.Author.Needs.{needs}
 use Rattle.cross_hits.proofs.visit.Statement.{statement}
 use Rattle.cross_hits.proofs.visit.Tie as tie
 
 abbrev Inv-loop : tie.InvT-loop
-Inv-loop probe kinds numbers alone halves lessers greaters bytes₀ keys₀ stop i₀ m₀ bytes keys i m = (i ≤ stop) × ((stop ≤ length kinds) × ((stop ≤ 256) × Going 16 (shapeCuts probe kinds numbers) bytes keys i m))
+Inv-loop probe kinds numbers alone halves lessers greaters bytes₀ keys₀ stop i₀ m₀ bytes keys i m = (i₀ ≤ i) × ((i ≤ stop) × ((stop ≤ length kinds) × ((stop ≤ 256) × (Blocked (shapeCuts probe kinds numbers) kinds alone halves lessers greaters i₀ stop × Going 16 (shapeCuts probe kinds numbers) bytes keys i m))))
 
 abbrev μ-loop : tie.MeasureT-loop
 μ-loop probe kinds numbers alone halves lessers greaters bytes₀ keys₀ stop i₀ m₀ bytes keys i m = stop - i
@@ -19,7 +20,7 @@ loop-holds : tie.Need-loop-holds Inv-loop μ-loop
 loop-holds c = search needs
 
 met-at-requires : tie.Need-met-at-requires Inv-loop μ-loop
-met-at-requires c κs = search needs
+met-at-requires c κs = ((omega arith, omega arith, search needs), search (blocked-at, needs))
 
 add-requires : tie.Need-add-requires Inv-loop μ-loop
 add-requires c κs = search needs
@@ -34,7 +35,7 @@ same-length-2 : tie.Need-same-length-2 Inv-loop μ-loop
 same-length-2 c = search needs
 
 returns : tie.Need-returns Inv-loop μ-loop
-returns c = let s = c .before .before .before .before .before .before in let t = s .before .before .before in visit-fault _ _ _ _ (omega arith) _ _ _ (t .before .before .loop .inv .1 .1 .1) (t .met-at .result) (s .add .last .1 .1 .1 .0) (s .add .last .1 .1 .1 .1 .0) (s .add .result) (t .met-at .ensures) (s .add .ensures) (t .before .before .before .before .before .before .before .args .block .stop) (search needs)
+returns c = search (visit-fault, needs)
 
 enum-known-n : tie.Need-enum-known-n Inv-loop μ-loop
 enum-known-n c = search needs
@@ -46,7 +47,7 @@ loop-less : tie.Need-loop-less Inv-loop μ-loop
 loop-less c = search needs
 
 loop-again : tie.Need-loop-again Inv-loop μ-loop
-loop-again c = (omega arith, (omega arith, (omega arith, let s = c .before .before .before .before .before .before .before in let t = s .before .before .before in visit-on _ _ _ _ (omega arith) _ _ _ (t .before .before .loop .inv .1 .1 .1) (t .met-at .result) _ _ (s .add .result) (t .met-at .ensures) (s .add .ensures) _ (search needs))))
+loop-again c = (omega arith, (omega arith, (search needs, (search needs, (search needs, search (visit-on, needs))))))
 
 same-length-3 : tie.Need-same-length-3 Inv-loop μ-loop
 same-length-3 c = search needs

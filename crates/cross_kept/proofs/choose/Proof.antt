@@ -1,20 +1,26 @@
--- `cross_kept::choose` meets its contract: by the last axis that moved.
-use Rattle.cross_kept.proofs.KeepLaws.{chosen-z, chosen-y, chosen-x, chosen-none}
+-- `cross_kept::choose` meets its contract: each answer is an axis.
+use Rattle.cross_kept.proofs.KeepLaws.{still-alone, alone-x, alone-y, alone-z}
 use borrow.Author.Needs.{needs}
 use Rattle.cross_kept.proofs.choose.Statement.{statement}
 use Rattle.cross_kept.proofs.choose.Tie as tie
 
+kept-on-requires : tie.Need-kept-on-requires
+kept-on-requires c κs = search needs
+
 returns : tie.Need-returns
-returns c = search (chosen-z, needs)
+returns c = still-alone
 
 returns-2 : tie.Need-returns-2
-returns-2 c = search (chosen-y, needs)
+returns-2 c = alone-z
 
 returns-3 : tie.Need-returns-3
-returns-3 c = search (chosen-x, needs)
+returns-3 c = alone-y
 
 returns-4 : tie.Need-returns-4
-returns-4 c = search (chosen-none, needs)
+returns-4 c = alone-x
+
+returns-5 : tie.Need-returns-5
+returns-5 c = still-alone
 
 pub choose-spec : {M : Type 1} → statement M
-choose-spec = tie.close (tie.spec returns returns-2 returns-3 returns-4)
+choose-spec = tie.close (tie.spec kept-on-requires returns returns-2 returns-3 returns-4 returns-5)

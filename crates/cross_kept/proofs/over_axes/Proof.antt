@@ -1,15 +1,17 @@
--- `cross_kept::over_axes` meets its contract: by whether all that is asked of the columns may be given.
-use Rattle.cross_kept.proofs.KeepLaws.{line-kept}
-use Rattle.cross_kept.proofs.CrossesLaws.{crosses}
+-- `cross_kept::over_axes` meets its contract: two axes together and the third say what the line has of each box.
+use Rattle.cross_kept.proofs.CrossesLaws.{over-crosses, over-drawing, over-few, over-complete}
 use borrow.Author.Needs.{needs}
 use Rattle.cross_kept.proofs.over_axes.Statement.{statement}
 use Rattle.cross_kept.proofs.over_axes.Tie as tie
 
-keep-axes-requires : tie.Need-keep-axes-requires
-keep-axes-requires c κs = search needs
+along-on-requires : tie.Need-along-on-requires
+along-on-requires c κs = search needs
 
 gather-requires : tie.Need-gather-requires
-gather-requires c κs = let p = c .before .before .before .before .before .before .before .before .before .before .before .before .before .before .before .pre in let k = c .before .before .before .before .before .before .before .before .keep-axes .ensures in ((p .1 .0 .marked .few, p .1 .1), crosses _ _ _ _ _ _ _ _ _ _ (p .0) (p .1 .0 .columns) (k .1) (k .0) (c .before .before .before .before .if1 .taken))
+gather-requires c κs = ((search (over-few, needs), search needs), search (over-crosses, needs))
+
+counted-requires : tie.Need-counted-requires
+counted-requires c κs = search needs
 
 same-length : tie.Need-same-length
 same-length c = search needs
@@ -18,30 +20,9 @@ same-length-2 : tie.Need-same-length-2
 same-length-2 c = search needs
 
 returns : tie.Need-returns
-returns c = line-kept _ _ _ _ _ _ _ _ _ _ _ _ _ _ _ (c .before .before .before .before .before .before .before .before .before .before .before .before .before .before .before .before .before .before .before .before .pre .1 .0) (c .before .before .before .before .before .before .before .before .before .before .before .before .before .keep-axes .ensures .1) (c .before .before .before .before .gather .ensures)
-
-gather-requires-2 : tie.Need-gather-requires-2
-gather-requires-2 c κs = let p = c .before .before .before .before .before .before .before .before .before .before .before .before .before .pre in (p .1 .0 .marked .few, p .1 .1 .0, p .1 .1 .1)
-
-same-length-3 : tie.Need-same-length-3
-same-length-3 c = search needs
-
-same-length-4 : tie.Need-same-length-4
-same-length-4 c = search needs
-
-returns-2 : tie.Need-returns-2
-returns-2 c = line-kept _ _ _ _ _ _ _ _ _ _ _ _ _ _ _ (c .before .before .before .before .before .before .before .before .before .before .before .before .before .before .before .before .before .before .pre .1 .0) (c .before .before .before .before .before .before .before .before .before .before .before .keep-axes .ensures .1) (c .before .before .before .before .gather2 .ensures)
+returns c = (search (over-complete, needs), search (over-drawing, needs))
 
 pub over-axes-spec : {M : Type 1} → statement M
 over-axes-spec =
     tie.close
-    (tie.spec
-    keep-axes-requires
-    gather-requires
-    same-length
-    same-length-2
-    returns
-    gather-requires-2
-    same-length-3
-    same-length-4
-    returns-2)
+    (tie.spec along-on-requires gather-requires counted-requires same-length same-length-2 returns)

@@ -2,16 +2,16 @@
 use Prim.Native.Nat.{_-_}
 use Rattle.cross_kept.specs.Keeping.{Drawing}
 use Rattle.cross_kept.proofs.KeepLaws.{drawing-starts}
-use Rattle.cross_pass.proofs.CountLaws.{Counting, counting-starts, counting-wrong, counting-fits, counting-on, counting-ends}
+use Rattle.cross_pass.proofs.CountLaws.{Counting, counting-starts, line-next, counting-fits, counting-next, counting-ends}
 use borrow.Author.Needs.{needs}
 use Rattle.cross_pass.proofs.count_over.Statement.{statement}
 use Rattle.cross_pass.proofs.count_over.Tie as tie
 
 abbrev Inv-loop : tie.InvT-loop
-Inv-loop kinds numbers lines count sound lows highs halves lessers₀ greaters₀ bytes₀ keys₀ axes₀ total₀ k₀ lessers greaters bytes keys axes total k = Counting kinds numbers lines count bytes keys k total × Drawing kinds numbers axes lows highs halves lessers greaters
+Inv-loop kinds numbers lines count sound lows highs halves left₀ lessers₀ greaters₀ bytes₀ keys₀ axes₀ total₀ k₀ left lessers greaters bytes keys axes total k = Counting kinds numbers lines count bytes keys k total × Drawing kinds numbers axes lows highs halves left lessers greaters
 
 abbrev μ-loop : tie.MeasureT-loop
-μ-loop kinds numbers lines count sound lows highs halves lessers₀ greaters₀ bytes₀ keys₀ axes₀ total₀ k₀ lessers greaters bytes keys axes total k = count - k
+μ-loop kinds numbers lines count sound lows highs halves left₀ lessers₀ greaters₀ bytes₀ keys₀ axes₀ total₀ k₀ left lessers greaters bytes keys axes total k = count - k
 
 nothing-kept-requires : tie.Need-nothing-kept-requires Inv-loop μ-loop
 nothing-kept-requires c κs = search needs
@@ -22,38 +22,29 @@ loop-holds c = search (counting-starts, drawing-starts, needs)
 probe-at-requires : tie.Need-probe-at-requires Inv-loop μ-loop
 probe-at-requires c κs = search needs
 
-slice-aggregate-kept-line : tie.Need-slice-aggregate-kept-line Inv-loop μ-loop
-slice-aggregate-kept-line c = search needs
+add-next : tie.Need-add-next Inv-loop μ-loop
+add-next c = search needs
 
-slice-aggregate-kept-line-2 : tie.Need-slice-aggregate-kept-line-2 Inv-loop μ-loop
-slice-aggregate-kept-line-2 c = search needs
+slice-aggregate-next-line : tie.Need-slice-aggregate-next-line Inv-loop μ-loop
+slice-aggregate-next-line c = search needs
 
-kept-line-requires : tie.Need-kept-line-requires Inv-loop μ-loop
-kept-line-requires c κs = search needs
+slice-aggregate-next-line-2 : tie.Need-slice-aggregate-next-line-2 Inv-loop μ-loop
+slice-aggregate-next-line-2 c = search needs
 
-enum-told : tie.Need-enum-told Inv-loop μ-loop
-enum-told c = search needs
-
-returns : tie.Need-returns Inv-loop μ-loop
-returns c = search (counting-wrong, needs)
-
-enum-known-row : tie.Need-enum-known-row Inv-loop μ-loop
-enum-known-row c = search needs
+next-line-requires : tie.Need-next-line-requires Inv-loop μ-loop
+next-line-requires c κs = search (line-next, needs)
 
 add-total : tie.Need-add-total Inv-loop μ-loop
 add-total c = search (counting-fits, needs)
-
-add-k : tie.Need-add-k Inv-loop μ-loop
-add-k c = search needs
 
 loop-less : tie.Need-loop-less Inv-loop μ-loop
 loop-less c = search needs
 
 loop-again : tie.Need-loop-again Inv-loop μ-loop
-loop-again c = let s = c .before .before .before .before .before .before in let t = s .before .before .before .before .before in (counting-on _ _ _ _ _ _ _ _ (t .before .before .loop .inv .0) (t .before .loop-test .taken) _ (t .probe-at .ensures) _ _ (s .kept-line .result .row) (s .kept-line .ensures .ends) _ (search needs) (search needs) _ (search needs), s .kept-line .ensures .drawing)
+loop-again c = let s = c .before .before .before .before in let t = s .before .before .before .before .before .before in let w = t .before .before .loop .inv in let more = t .before .loop-test .taken in let read = t .probe-at .ensures in let kept = s .next-line .ensures in (counting-next _ _ _ _ _ _ _ _ (w .0) more _ read _ _ _ (kept .gathered), kept .drawing)
 
-returns-2 : tie.Need-returns-2 Inv-loop μ-loop
-returns-2 c = search (counting-ends, needs)
+returns : tie.Need-returns Inv-loop μ-loop
+returns c = search (counting-ends, needs)
 
 pub count-over-spec : {M : Type 1} → statement M
 count-over-spec =
@@ -64,14 +55,11 @@ count-over-spec =
     nothing-kept-requires
     loop-holds
     probe-at-requires
-    slice-aggregate-kept-line
-    slice-aggregate-kept-line-2
-    kept-line-requires
-    enum-told
-    returns
-    enum-known-row
+    add-next
+    slice-aggregate-next-line
+    slice-aggregate-next-line-2
+    next-line-requires
     add-total
-    add-k
     loop-less
     loop-again
-    returns-2)
+    returns)
