@@ -3,7 +3,7 @@
  * For Linux on x86-64 or Arm (aarch64). Where bindings/install has put the library: cc prog.c $(pkg-config --cflags --libs kressedach).
  * Else link libkressedach.a, which bindings/archive writes: cc prog.c libkressedach.a. It is position independent, keeps no state,
  * allocates nothing, calls nothing back, never unwinds, and may be called from any number of threads at once. Of the C library it needs
- * memcpy, memmove and memset at most. Its working memory is on the stack, which the proofs do not count: 512 kilobytes are enough.
+ * memcpy, memmove and memset at most. Its working memory is on the stack, which the proofs do not count: 256 kilobytes are enough.
  * docs/TRUST.md has what was measured, job by job and on both processors.
  *
  * Each function but kressedach_version writes its report, a struct, where its first argument says, and returns nothing: on every processor

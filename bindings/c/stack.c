@@ -12,7 +12,7 @@
 #include <string.h>
 
 #define STACK (1024 * 1024)
-#define ENOUGH (512 * 1024)
+#define ENOUGH (256 * 1024)
 
 #define LENGTH(array) (sizeof(array) / sizeof *(array))
 #define LIST(array) (array), LENGTH(array)

@@ -7,11 +7,11 @@ import platform
 import threading
 from typing import NamedTuple
 
-#: Bytes of stack that a thread has to have, for the library and for what Python has on it: twice the 512 kilobytes of the header.
+#: Bytes of stack that a thread has to have, for the library and for what Python has on it: four times the 256 kilobytes of the header.
 ENOUGH_STACK = 1 << 20
 
 #: Bytes that have to be left of it at a call: the header's, and some for the way there.
-ENOUGH_LEFT = (512 + 64) << 10
+ENOUGH_LEFT = (256 + 64) << 10
 
 #: Where getcontext of glibc writes the address that the stack has come to.
 _POINTER_AT = {"x86_64": 160, "aarch64": 432}.get(platform.machine())

@@ -120,8 +120,8 @@ def test_a_call_from_too_deep_down_is_refused(block):
         said = in_a_thread(_caller.ENOUGH_STACK, lambda: deeper(lambda: kressedach.lent.read(block)))
     finally:
         sys.setrecursionlimit(limit)
-    left = int(re.match(r"this thread has (\d+) bytes of its stack left, and the library needs 589824: ", said)[1])
-    assert 589824 - 65536 < left < 589824
+    left = int(re.match(r"this thread has (\d+) bytes of its stack left, and the library needs 327680: ", said)[1])
+    assert 327680 - 65536 < left < 327680
 
 
 def test_the_stack_pointer_is_where_it_is_looked_for():

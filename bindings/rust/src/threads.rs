@@ -16,7 +16,7 @@ use std::{panic, thread};
 /// More threads than these are not begun.
 const MOST_THREADS: usize = 1024;
 
-/// The stack of a thread in bytes: four times what the library takes at most.
+/// The stack of a thread in bytes: eight times what the header says is enough.
 const STACK: usize = 2 << 20;
 
 /// How many parts there are for so many threads, of which each takes one of so many things at least.

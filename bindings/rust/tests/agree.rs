@@ -426,7 +426,7 @@ fn a_small_stack_is_enough() {
             }
         }
     };
-    std::thread::Builder::new().stack_size(512 * 1024).spawn(calls).unwrap().join().unwrap();
+    std::thread::Builder::new().stack_size(256 * 1024).spawn(calls).unwrap().join().unwrap();
 }
 
 /// Lists far longer than any block: a million toggles, a million crossings on one line, half a million lines, one position for all.

@@ -270,7 +270,7 @@ fn the_largest_sheets() {
             let mut lists = EditedLists { run, edit_counts: &mut edit_counts };
             assert!(kressedach::run_edited_into(case.sheet.ours(), &case.toggles, edits(&case.design), &mut lists).is_ok());
         };
-        std::thread::Builder::new().stack_size(512 * 1024).spawn(call).unwrap().join().unwrap();
+        std::thread::Builder::new().stack_size(256 * 1024).spawn(call).unwrap().join().unwrap();
     }
 }
 

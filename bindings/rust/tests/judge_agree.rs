@@ -332,5 +332,5 @@ fn a_small_stack_is_enough() {
     let lines = Lines::of(vec![1; 40 * 256], &make::crossings(dice, 256, 40, 1000));
     let case = Case { theirs: classified(&sheet, &lines), sheet, lines };
     let call = move || assert_eq!(ours(&case), Ok(Opinion::Right));
-    std::thread::Builder::new().stack_size(512 * 1024).spawn(call).unwrap().join().unwrap();
+    std::thread::Builder::new().stack_size(256 * 1024).spawn(call).unwrap().join().unwrap();
 }

@@ -4,13 +4,6 @@ ghost use Prim.Native.Nat.{_-_, _<_, _≤_, max};
 ghost use lib.ListN.{length, take};
 ghost use Rattle.outcome.specs.Lent.{filled};
 
-// A byte as an index.
-pub fn wide_byte(x: u8) -> usize
-    ensures { λ r. ⌜ (r ≡ x) × (r < 256) ⌝ }
-{
-    x as usize
-}
-
 // An entry of 16 bits as an index.
 pub fn wide(x: u16) -> usize
     ensures { λ r. ⌜ r ≡ x ⌝ }

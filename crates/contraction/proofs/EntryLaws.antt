@@ -6,7 +6,7 @@ use native.Mathlib.Omega.{arith}
 use mathlib.Core.Path.{_≡_, refl, sym, ap, ap₂, _∙_}
 use mathlib.Core.Bool.{Bool, true, false}
 use mathlib.Core.List.{List, [], _∷_, _++_, map, map-append, append-assoc}
-use lib.ListN.{length, length-map}
+use lib.ListN.{length}
 use lib.Dec.{ltb, eqb}
 use borrow.Author.Tests.{lt-ltb, le-ltb, ltb-true, ltb-false, eqb-true, eqb-false}
 use Rattle.formula.specs.Formula.{union, intersection, difference, exclusive, opAt}
@@ -117,6 +117,3 @@ module _ (ks fs ss : List ℕ) where
 
   pub recs-next : (n : ℕ) → recs ks fs ss 0 (n + 1) ≡ recs ks fs ss 0 n ++ (recAt ks fs ss n ∷ [])
   recs-next n = ap (map recOf) (entries-next n) ∙ map-append recOf (entries ks fs ss 0 n) (entryAt ks fs ss n ∷ [])
-
-  pub length-recs : (n i : ℕ) → length (recs ks fs ss i n) ≡ n
-  length-recs n i = length-map (entries ks fs ss i n) recOf ∙ length-entries n i

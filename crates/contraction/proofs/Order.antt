@@ -16,7 +16,7 @@ use Rattle.contraction.proofs.Rounds.{allMade, dwarf-all, length-leafRe
 use Rattle.contraction.proofs.Worked.{each-append, Good, Steady, worked-good}
 
 -- every dwarf root in the tree is below n
-abbrev pub Below : ℕ → Work → Type 0
+abbrev Below : ℕ → Work → Type 0
 Below n (tip d) = d < n
 Below n (one d c) = (d < n) × Below n c
 Below n (two o l r) = Below n l × Below n r

@@ -67,7 +67,7 @@ small (tip d) n h t = (d, refl, t)
 small (one d c) n h t = absurd (omega (arith, nodes-pos c))
 small (two o l r) n h t = absurd (omega (arith, nodes-pos l, nodes-pos r))
 
-pub ends : (k : ℕ) (w : Work) (n : ℕ) → nodes w ≤ suc k → Top n w → (d : ℕ) × (remains k w n ≡ tip d) × (suc d ≡ n + length (allMade k w n))
+ends : (k : ℕ) (w : Work) (n : ℕ) → nodes w ≤ suc k → Top n w → (d : ℕ) × (remains k w n ≡ tip d) × (suc d ≡ n + length (allMade k w n))
 ends zero w n h t = let e = small w n h t in (e .0, e .1, omega arith)
 ends (suc k) w n h t =
     let e = ends k (roundLeaves w n) (n + length (roundMakes w n)) (fewer w n k h) (round-top w n t) in

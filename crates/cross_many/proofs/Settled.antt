@@ -2,7 +2,7 @@
 -- writes nothing; a refusal has number 16, 14 or 9.
 use Prim.Native.Nat.{ℕ, suc, _+_, _<_, _≤_}
 use native.Mathlib.Omega.{arith}
-use mathlib.Core.Path.{_≡_, refl, sym, ap, _∙_}
+use mathlib.Core.Path.{_≡_, refl}
 use mathlib.Core.Bool.{Bool, true, false}
 use mathlib.Core.List.{List, [], _∷_}
 use mathlib.Core.Logic.{_⊎_, inl, inr}
@@ -10,10 +10,12 @@ use borrow.Author.Tests.{leb-true}
 use lib.Dec.{leb}
 use lib.ListN.{length}
 use lib.Ieee.{Float}
-use Rattle.outcome.specs.Outcome.{Outcome, given, refused, unfit, need, room, _>>_ as _then_}
+use Rattle.outcome.specs.Outcome.{Outcome, given, refused, unfit, need}
 use Rattle.outcome.specs.Numbered.{Numbered}
-use Rattle.outcome.proofs.Known.{known-by}
+use Rattle.outcome.specs.Settled.{Unique, Refusal, Refuses}
 use Rattle.outcome.proofs.NumberedLaws.{given-numbered, refused-numbered}
+use Rattle.outcome.proofs.Refusals.{Asks, asks-need, asks-then, asks-room}
+use Rattle.outcome.proofs.Settling.{known-by, Settled, settled}
 use Rattle.lines.specs.Lines.{LineLists}
 use Rattle.cross_cuts.specs.Cuts.{Cut, sound, faultless}
 use Rattle.cross_shapes.specs.declared.Probe.{Probe}
@@ -23,7 +25,7 @@ use Rattle.cross_drawn.specs.Drawn.{Drawn, drawnLists, drawn}
 use Rattle.cross_drawn.specs.Judging.{linesJudged}
 use Rattle.cross_drawn.specs.Lent.{probesOf}
 use Rattle.cross_drawn.specs.Refusing.{OfLines, gives, refuses, partOf, ofLine, ofNone, outcomeOf, _>>_}
-use Rattle.cross_many.specs.Answer.{ManyCounts, manyCounts, manyCountsOf, manyOf, ManyLists, CrossedMany}
+use Rattle.cross_many.specs.Answer.{ManyCounts, manyCounts, manyCountsOf, manyOf, CrossedMany}
 use Rattle.cross_many.specs.Crossing.{crossingProbes, crossingMany}
 use Rattle.cross_many.specs.declared.ManyAnswer.{ManyAnswer}
 use Rattle.cross_many.specs.declared.ManyAnswer.the-variants as answer
@@ -39,36 +41,29 @@ manyOf-same = known-by manyOf back same
     same (answer.Crossed lines crossings) = refl
     same (answer.Refused number place line) = refl
 
-part-refuses : (o : OfLines Drawn) (number place line : ℕ) → partOf manyCountsOf o ≡ refuses number place line → o ≡ refuses number place line
-part-refuses (gives d) number place line e = let z : _≡_ {A = ℕ} 0 1 = cc in absurd (omega arith)
-part-refuses (refuses k p l) number place line e =
+part-refuses : (line : ℕ) (o : OfLines Drawn) (number place : ℕ) → refuses number place line ≡ partOf manyCountsOf o → o ≡ refuses number place line
+part-refuses line (gives d) number place e = let z : _≡_ {A = ℕ} 0 1 = cc in absurd (omega arith)
+part-refuses line (refuses k p l) number place e =
     let a : k ≡ number = cc in
     let b : p ≡ place = cc in
     let c : l ≡ line = cc in
     rw (a, b, c)
 
-module _ (o : OfLines Drawn) (lent : LineLists) where
-  pub many-lists-unique : (after other : LineLists) → ManyLists o lent after → ManyLists o lent other → after ≡ other
-  many-lists-unique after other a b =
-      λ i.
-      record {
-        rows = (a .rows-list ∙ sym (b .rows-list)) i;
-        lines = (a .lines-list ∙ sym (b .lines-list)) i;
-        positions = (a .positions-list ∙ sym (b .positions-list)) i;
-        shapes = (a .shapes-list ∙ sym (b .shapes-list)) i;
-      }
+many-settled : (line : ℕ) → Settled CrossedMany (λ number place. refuses number place line) (λ number place. answer.Refused number place line)
+many-settled line =
+    settled manyOf (partOf manyCountsOf) manyOf-same (λ o lent r after a. a .answer)
+    (λ o lent r after a i. record { rows = a .lists .rows-list i; lines = a .lists .lines-list i; positions = a .lists .positions-list i; shapes = a .lists .shapes-list i })
+    (λ k p. refl) (part-refuses line) (λ k p lent. refl)
 
-  pub many-unique : (r q : ManyAnswer) (after other : LineLists) → CrossedMany o lent r after → CrossedMany o lent q other → (r ≡ q) × (after ≡ other)
-  many-unique r q after other a b = (manyOf-same r q (a .answer ∙ sym (b .answer)), many-lists-unique after other (a .lists) (b .lists))
+pub many-unique : Unique CrossedMany
+many-unique = many-settled 0 .unique
 
-  module _ (number place line : ℕ) (r : ManyAnswer) (after : LineLists) (a : CrossedMany o lent r after) where
-    pub many-refusal : r ≡ answer.Refused number place line → (o ≡ refuses number place line) × (after ≡ lent)
-    many-refusal is-refused =
-        let is = part-refuses o number place line (sym (a .answer) ∙ ap manyOf is-refused) in
-        (is, many-lists-unique after lent (a .lists) (record { rows-list = rw is; lines-list = rw is; positions-list = rw is; shapes-list = rw is }))
+-- on the line with this number
+pub many-refusal : (line : ℕ) → Refusal CrossedMany (λ number place. refuses number place line) (λ number place. answer.Refused number place line)
+many-refusal line = many-settled line .refusal
 
-    pub many-refuses : o ≡ refuses number place line → r ≡ answer.Refused number place line
-    many-refuses is = manyOf-same r (answer.Refused number place line) (a .answer ∙ ap (partOf manyCountsOf) is)
+pub many-refuses : (line : ℕ) → Refuses CrossedMany (λ number place. refuses number place line) (λ number place. answer.Refused number place line)
+many-refuses line = many-settled line .refuses
 
 -- ---- which refusals there are
 
@@ -76,20 +71,6 @@ module _ (o : OfLines Drawn) (lent : LineLists) where
 abbrev Says : {A : Type 0} → (ℕ → ℕ → Type 0) → OfLines A → Type 0
 Says P (gives a) = Unit {0}
 Says P (refuses number place line) = P number line
-
-abbrev Asks : {A : Type 0} → (ℕ → Type 0) → Outcome A → Type 0
-Asks P (given a) = Unit {0}
-Asks P (refused number place) = P number
-Asks P (unfit number place) = P number
-
-asks-need : (P : ℕ → Type 0) (b : Bool) (number place : ℕ) → P number → Asks P (need b number place)
-asks-need P true number place h = tt
-asks-need P false number place h = h
-
-asks-then : {A B : Type 0} (P : ℕ → Type 0) (o : Outcome A) (q : Outcome B) → Asks P o → Asks P q → Asks P (o then q)
-asks-then P (given a) q h i = i
-asks-then P (refused k p) q h i = h
-asks-then P (unfit k p) q h i = h
 
 says-of : {A : Type 0} (P : ℕ → ℕ → Type 0) (line : ℕ) (o : Outcome A) → Asks (λ k. P k line) o → Says P (ofLine line o)
 says-of P line (given a) h = tt
@@ -113,10 +94,9 @@ line-asks P kinds numbers probe h =
 room-asks : (P : ℕ → Type 0) (needed lent : LineLists) → P 9 → Asks P (listRoom needed lent)
 unfolding listRoom
 room-asks P needed lent h =
-    asks-then P (room (length (needed .rows)) (length (lent .rows))) _ (asks-need P (leb (length (needed .rows)) (length (lent .rows))) 9 (length (needed .rows)) h)
-    (asks-then P (room (length (needed .lines)) (length (lent .lines))) _ (asks-need P (leb (length (needed .lines)) (length (lent .lines))) 9 (length (needed .lines)) h)
-    (asks-then P (room (length (needed .positions)) (length (lent .positions))) _ (asks-need P (leb (length (needed .positions)) (length (lent .positions))) 9 (length (needed .positions)) h)
-    (asks-need P (leb (length (needed .shapes)) (length (lent .shapes))) 9 (length (needed .shapes)) h)))
+    asks-room P (length (needed .rows)) (length (lent .rows)) _ h
+    (asks-room P (length (needed .lines)) (length (lent .lines)) _ h
+    (asks-room P (length (needed .positions)) (length (lent .positions)) _ h (asks-need P (leb (length (needed .shapes)) (length (lent .shapes))) 9 (length (needed .shapes)) h)))
 
 lines-say : (P : ℕ → ℕ → Type 0) (i : ℕ) (kinds : List ℕ) (numbers : List Float) (probes : List Probe) → ((line : ℕ) → P 16 line) → Says P (linesJudged i kinds numbers probes)
 unfolding linesJudged

@@ -2,7 +2,7 @@
 use Prim.Native.Nat.{ℕ, suc, _+_, _*_, _/_, _%_, _<_, _≤_}
 use native.Mathlib.Nat.{mul-div-cancel, mul-mod-left}
 use native.Mathlib.Omega.{arith}
-use mathlib.Core.Path.{_≡_, refl, sym, ap, _∙_}
+use mathlib.Core.Path.{_≡_, refl, ap}
 use mathlib.Core.Bool.{Bool, true, false, _&&_, false≢true}
 use mathlib.Core.List.{List, [], _∷_, _++_, map}
 use mathlib.Core.Option.{Option, none, some}
@@ -12,7 +12,8 @@ use lib.IntN.{ℤ}
 use lib.Ieee.{Float}
 use lib.ListN.{length, length-append, length-map}
 use lib.Signed.{ltZ}
-use Rattle.outcome.specs.Outcome.{Outcome, given, refused, unfit, need, _>>_}
+use Rattle.outcome.specs.Outcome.{given, refused, _>>_}
+use Rattle.outcome.proofs.Refusals.{Asks, asks-need, asks-then, asks-room, asked}
 use Rattle.formula.specs.Formula.{Formula}
 use Rattle.lines.specs.Lines.{LineLists, Crossing, crossings, low, high, rowCount, falls, bits, strays, ordered, judged, AnswerLists, roomyLists, walls, classified}
 use Rattle.lines.proofs.Keys.{lt→no}
@@ -139,42 +140,21 @@ drawn-taken names named lines few f =
 
 -- ---- So only room can be wanting
 
-abbrev Nine : {A : Type 0} → Outcome A → Type 0
-Nine o = (k p : ℕ) → o ≡ refused k p → k ≡ 9
-
-numbered-9 : {A : Type 0} (n k p : ℕ) → _≡_ {A = Outcome A} (refused 9 n) (refused k p) → k ≡ 9
-numbered-9 n k p e = let same : 9 ≡ k = cc in sym same
-
-nine-given : {A : Type 0} (a : A) → Nine (given a)
-nine-given a k p e = let z : _≡_ {A = ℕ} 0 1 = cc in absurd (omega arith)
-
-nine-need : {A : Type 0} (b : Bool) (n : ℕ) (o : Outcome A) → Nine o → Nine (need b 9 n >> o)
-nine-need true n o h = h
-nine-need false n o h = numbered-9 n
-
-nine-last : (b : Bool) (n : ℕ) → Nine (need b 9 n)
-nine-last true n = nine-given tt
-nine-last false n = numbered-9 n
-
-nine-then : {A : Type 0} (o : Outcome (Unit {0})) (a : A) → Nine o → Nine (o >> given a)
-nine-then (given tt) a h = nine-given a
-nine-then (refused i q) a h = λ k p e. let same : i ≡ k = cc in sym same ∙ h i q refl
-nine-then (unfit i q) a h = λ k p e. let z : _≡_ {A = ℕ} 0 1 = cc in absurd (omega arith)
-
-nine-room : (n : ℕ) (lent : AnswerLists) → Nine (roomyLists n lent)
+nine-room : (n : ℕ) (lent : AnswerLists) → Asks (λ k. k ≡ 9) (roomyLists n lent)
 nine-room n lent =
-    nine-need (leb n (length (lent .lines))) n _
-    (nine-need (leb n (length (lent .starts))) n _
-    (nine-need (leb n (length (lent .ends))) n _
-    (nine-need (leb n (length (lent .startShapes))) n _ (nine-last (leb n (length (lent .endShapes))) n))))
+    asks-room (λ k. k ≡ 9) n (length (lent .lines)) _ refl
+    (asks-room (λ k. k ≡ 9) n (length (lent .starts)) _ refl
+    (asks-room (λ k. k ≡ 9) n (length (lent .ends)) _ refl
+    (asks-room (λ k. k ≡ 9) n (length (lent .startShapes)) _ refl (asks-need (λ k. k ≡ 9) (leb n (length (lent .endShapes))) 9 n refl))))
 
 -- Of such lines classifying is refused 9 or not at all, once the sheet is accepted.
 pub drawn-classified : (f : Formula) (names : ℕ) → 0 < names → (lines : Drawn) → length lines ≤ 4294967296 → AllFit names lines → (lent : AnswerLists) (k p : ℕ)
     → classified f names (drawnLists lines) lent ≡ refused k p → k ≡ 9
 unfolding classified
 drawn-classified f names named lines few fit lent k p e =
-    nine-then (roomyLists (length (linesFrom 0 lines) / 2 + rowCount names (rowsOf lines)) lent) (walls f names (drawnLists lines)) (nine-room _ lent) k p
-    (rw (drawn-taken names named lines few fit) at e)
+    let rooms = roomyLists (length (linesFrom 0 lines) / 2 + rowCount names (rowsOf lines)) lent in
+    let all = given (walls f names (drawnLists lines)) in
+    asked (λ n. n ≡ 9) (rooms >> all) (asks-then (λ n. n ≡ 9) rooms all (nine-room _ lent) tt) k p (rw (drawn-taken names named lines few fit) at e)
 
 -- ---- and so for what the job for many lines gives
 

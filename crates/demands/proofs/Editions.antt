@@ -15,7 +15,7 @@ use Rattle.order_mixing.specs.Order.{mixes}
 use Rattle.job_both.specs.Sharing.{sharing, serving}
 use Rattle.job_edit.specs.Editing.{Lists as EditLists, runningEdited}
 use Rattle.job_classify.specs.Classifying.{classifying}
-use Rattle.line_judging.specs.Judging.{TheirLists}
+use Rattle.line_opinion.specs.Judging.{TheirLists}
 use Rattle.job_judge.specs.Judging.{judging}
 use Rattle.job_move.specs.Moving.{other}
 use Rattle.job_move.specs.Journey.{movedIn, inEdition}

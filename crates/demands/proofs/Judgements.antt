@@ -15,9 +15,9 @@ use Rattle.accepting.proofs.Accepted.{accepted-read}
 use Rattle.lines.specs.Lines.{LineLists, entries, rowCount, startState, judged, Wall, walls}
 use Rattle.lines.specs.Right.{Right}
 use Rattle.lines.proofs.Theorems.{walls-right, right-only}
-use Rattle.line_judging.specs.Judging.{bare, TheirLists, theirs, joined, Opinion, right, opinion, judgement}
-use Rattle.line_judging.specs.Meaning.{Means}
-use Rattle.line_judging.proofs.Opinions.{opinion-means, one-opinion}
+use Rattle.line_opinion.specs.Judging.{bare, TheirLists, theirs, joined, Opinion, right, opinion, judgement}
+use Rattle.line_opinion.specs.Meaning.{Means}
+use Rattle.line_opinion.proofs.Opinions.{opinion-means, one-opinion}
 use Rattle.job_judge.specs.Judging.{judging}
 use Rattle.job_judge.proofs.JudgeLaws.{judging-accepted}
 

@@ -11,7 +11,7 @@ use Rattle.sheet.proofs.Guaranteed.{guaranteed}
 use Rattle.accepting.specs.Accepting.{accepted}
 use Rattle.accepting.proofs.Accepted.{accepted-read}
 use Rattle.lines.specs.Lines.{LineLists, rowCount, AnswerLists, roomyLists, Wall, classified}
-use Rattle.line_judging.specs.Judging.{TheirLists, Opinion, judgement}
+use Rattle.line_opinion.specs.Judging.{TheirLists, Opinion, judgement}
 use Rattle.line_cuts.specs.Cuts.{partsOf, AllBelow, Cuttable, EachGiven, joinWalls, roomFor}
 use Rattle.line_cuts.specs.Theirs.{theirPartsOf, EachJudged, joinOpinions}
 use Rattle.line_cuts.proofs.PartLaws.{classified-parts, classified-whole, judgement-parts, judgement-all}

@@ -8,7 +8,7 @@ use Rattle.lines.specs.Lines.{crossed, bits, ordered, lowestFrom, shapeAt, wall
 use Rattle.job_build.specs.Building.{giving, building}
 use Rattle.job_run.specs.Running.{toggling, running}
 use Rattle.job_classify.specs.Classifying.{classifying}
-use Rattle.line_judging.specs.Judging.{opinionFrom, judgement}
+use Rattle.line_opinion.specs.Judging.{opinionFrom, judgement}
 use Rattle.job_judge.specs.Judging.{judging}
 use Rattle.demands.specs.Table.{All, table}
 

@@ -12,7 +12,7 @@ use Rattle.lines.specs.Lines.{lineLists, answerLists}
 use Rattle.job_build.specs.Building.{building, Summary, summary, summaryOf}
 use Rattle.job_run.specs.Running.{running}
 use Rattle.job_classify.specs.Classifying.{classifying}
-use Rattle.line_judging.specs.Judging.{theirLists, Opinion, right, wrongAt}
+use Rattle.line_opinion.specs.Judging.{theirLists, Opinion, right, wrongAt}
 use Rattle.job_judge.specs.Judging.{judging}
 use Rattle.demands.specs.Worked.{A, B, C, D, E, sheet, worked, room, lentNumbers, lentPlaces}
 

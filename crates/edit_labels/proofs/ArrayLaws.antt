@@ -229,9 +229,9 @@ module _ (ks ks′ fs ss : List ℕ) where
           seek-past p j (recAt ks′ fs ss j) (recs ks′ fs ss (suc j) n) (h j (omega arith) (omega arith) ∙ e) ∙ ih
           ∙ sym (seek-past p j (recAt ks fs ss j) (recs ks fs ss (suc j) n) e)
 
-  pub chains-kept : (leaves nodes : ℕ) (heads nexts : List ℕ) → Shaped ks fs ss leaves nodes → Shaped ks′ fs ss leaves nodes
-      → Chains ks fs ss leaves nodes heads nexts → Chains ks′ fs ss leaves nodes heads nexts
-  chains-kept leaves nodes heads nexts a b u =
+  pub chains-kept : (leaves nodes : ℕ) (links : List ℕ) → Shaped ks fs ss leaves nodes → Shaped ks′ fs ss leaves nodes
+      → Chains ks fs ss leaves nodes links → Chains ks′ fs ss leaves nodes links
+  chains-kept leaves nodes links a b u =
       record {
         first = λ s l. u .first s l ∙ sym (seek-same (isOf s) nodes 0 (λ i g h. same s i (omega arith)));
         next = λ i l. u .next i l ∙ sym (seek-same (isOf (getD fs i 0)) (nodes - suc i) (suc i) (λ j g h. same (getD fs i 0) j (omega (arith, a .within))));

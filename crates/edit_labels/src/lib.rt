@@ -1,4 +1,5 @@
 // One edit on a dwarf tree in arrays: the kind of its node changes, and labels are reworked from that node up.
+use labels::Size;
 ghost use Prim.Native.Nat.{_<_};
 ghost use Rattle.edit_labels.specs.Edited.{Rekinded, Editable, EditDone};
 
@@ -23,15 +24,14 @@ pub fn edit(
     kinds: &mut [u16; 3072],
     firsts: &[u16; 3072],
     seconds: &[u16; 3072],
-    leaves: usize,
-    nodes: usize,
-    parents: &[u16; 3072],
+    size: Size,
+    links: &[u16; 4352],
     labels: &mut [u8; 3072],
     e: usize,
     o: u16,
 ) -> u32
-    requires { ⌜ Editable (now rules) (now kinds) (now firsts) (now seconds) leaves nodes (now parents) (now labels) e × (o < 4) ⌝ }
-    ensures { λ r. ⌜ EditDone (now (kinds .entry)) (now (firsts .entry)) (now (seconds .entry)) leaves nodes (now (parents .entry)) (now (labels .entry)) e o (now (kinds .exit)) (now (labels .exit)) r ⌝ }
+    requires { ⌜ Editable (now rules) (now kinds) (now firsts) (now seconds) (size .leaves) (size .nodes) (now links) (now labels) e × (o < 4) ⌝ }
+    ensures { λ r. ⌜ EditDone (now (kinds .entry)) (now (firsts .entry)) (now (seconds .entry)) (size .leaves) (size .nodes) (now (links .entry)) (now (labels .entry)) e o (now (kinds .exit)) (now (labels .exit)) r ⌝ }
 {
     kinds[e] = rekind(kinds[e], o);
     let v = labels::work(rules, kinds, firsts, seconds, labels, e);
@@ -39,16 +39,6 @@ pub fn edit(
         return 1;
     }
     labels[e] = v;
-    let more = toggle_passes::walk(
-        rules,
-        kinds,
-        firsts,
-        seconds,
-        leaves,
-        nodes,
-        parents,
-        labels,
-        e,
-    );
+    let more = toggle_passes::walk(rules, kinds, firsts, seconds, size, links, labels, e);
     more + 1
 }

@@ -1,12 +1,12 @@
--- Edits and toggles turn about: a toggle between the edits of two moments, and what the last edits leave.
-use Prim.Native.Nat.{ℕ, suc, _+_, _<_, _≤_}
+-- Edits and toggles turn about: an edit whose moment has come, a toggle where none is there, and what is left when all have acted.
+use Prim.Native.Nat.{ℕ, suc, _+_, _-_, _<_, _≤_}
 use native.Mathlib.Numerals.{add-one}
 use native.Mathlib.Omega.{arith}
 use mathlib.Core.Path.{_≡_, refl, sym, ap, ap₂, _∙_}
 use mathlib.Core.Bool.{Bool, true, false}
 use mathlib.Core.List.{List, [], _∷_, _++_}
-use lib.Dec.{leb}
-use borrow.Author.Tests.{leb-true, leb-false}
+use lib.Dec.{ltb}
+use borrow.Author.Tests.{ltb-true, ltb-false}
 use lib.ListN.{length, getD, set, take, drop, length-set, drop-of-length-le}
 use lib.Seq.{sets, drop-cons, take-suc, take-all, length-take-le}
 use Rattle.formula.specs.Formula.{Formula, inside}
@@ -16,19 +16,26 @@ use Rattle.contraction.specs.Height.{last}
 use Rattle.contraction.specs.Entries.{recs}
 use Rattle.labels.specs.Labels.{bit, labels}
 use Rattle.labels.specs.Linked.{Chains}
+use Rattle.labels.specs.declared.Size.{Size}
 use Rattle.labels.proofs.Root.{root-label}
 use Rattle.labels.proofs.Held.{held-records, held-shaped}
 use Rattle.toggle_passes.specs.Reworking.{Steps, steps}
 use Rattle.toggles.specs.Toggles.{toggle}
+use Rattle.toggles.specs.Flipping.{Toggles}
 use Rattle.toggles.proofs.Runs.{toggle-more}
 use Rattle.toggle_run.specs.Ran.{ToggleRoom}
+use Rattle.edit_labels.specs.Edited.{Editable, EditDone}
 use Rattle.edit_labels.proofs.ArrayLaws.{chains-kept}
 use Rattle.edit_moments.specs.Edits.{editedBy, editCounts}
 use Rattle.edit_moments.specs.Listed.{Rises}
-use Rattle.edit_moments.specs.Waiting.{Desk, desk, waiting, Plan, At, Running, running, Standing, ActsDone, acts-done}
-use Rattle.edit_moments.proofs.Lists.{waiting-here, waiting-none, by-later}
+use Rattle.edit_moments.specs.Waiting.{Readable, Due, Later, NextSays, Desk, desk, waiting, At}
+use Rattle.edit_moments.specs.declared.Next.{Next}
+use Rattle.edit_moments.specs.declared.Next.the-variants as next
+use Rattle.edit_moments.proofs.Lists.{waiting-none, by-later}
+use Rattle.edit_moments.proofs.ActLaws.{can-edit, can-operate, acted-now, readable, all-later}
 use Rattle.edit_mix.specs.Edits.{rootsAfter, countsAfter}
-use Rattle.edit_mix.specs.TurnAbout.{plan, Begun, begun, CanToggle, ToggleDone, CanTurn, can-turn, TurnHere, Told, TurnDone, turn-done, MixLeft, MixDone}
+use Rattle.edit_mix.specs.declared.Toggled.{Toggled}
+use Rattle.edit_mix.specs.TurnAbout.{plan, CanToggle, ToggleDone, CanTurn, can-turn, Told, TurnDone, turn-done, MixLeft}
 
 -- ---- one toggle, where every edit that waits is of a later moment
 module _ {d : Desk} {f : Formula} {toggles lent : List ℕ} {i k : ℕ} {ks ls counts : List ℕ} (a : At d (plan f toggles lent) i k ks ls counts)
@@ -42,11 +49,11 @@ module _ {d : Desk} {f : Formula} {toggles lent : List ℕ} {i k : ℕ} {ks ls c
   one-more = take-suc toggles i 0 h
 
   module _ (ls′ : List ℕ) {s n : ℕ} (is : s ≡ getD toggles i 0) (long : length ls′ ≡ 3072)
-      (turned : steps (take (d .nodes) ls′) n ≡ toggle (recs ks (d .firsts) (d .seconds) 0 (d .nodes)) s (take (d .nodes) ls)) where
-    steps-are : steps (take (d .nodes) ls′) n ≡ toggle (dwarf (a .now)) (getD toggles i 0) (labels (toggledBy (take i toggles)) (dwarf (a .now)))
-    steps-are = turned ∙ rw (held-records ks (d .firsts) (d .seconds) (d .leaves) (d .nodes) (a .now) (a .holds), is, a .labels-are)
+      (turned : steps (take (d .size .nodes) ls′) n ≡ toggle (recs ks (d .firsts) (d .seconds) 0 (d .size .nodes)) s (take (d .size .nodes) ls)) where
+    steps-are : steps (take (d .size .nodes) ls′) n ≡ toggle (dwarf (a .now)) (getD toggles i 0) (labels (toggledBy (take i toggles)) (dwarf (a .now)))
+    steps-are = turned ∙ rw (held-records ks (d .firsts) (d .seconds) (d .size .leaves) (d .size .nodes) (a .now) (a .holds), is, a .labels-are)
 
-    labels-now : take (d .nodes) ls′ ≡ labels (toggledBy (take i toggles ++ (getD toggles i 0 ∷ []))) (dwarf (a .now))
+    labels-now : take (d .size .nodes) ls′ ≡ labels (toggledBy (take i toggles ++ (getD toggles i 0 ∷ []))) (dwarf (a .now))
     labels-now = ap (λ (x : Steps). x .labels) steps-are ∙ toggle-more (a .now) (take i toggles) (getD toggles i 0)
 
     toggled : At d (plan f toggles lent) (i + 1) k ks ls′ counts
@@ -69,7 +76,7 @@ module _ {d : Desk} {f : Formula} {toggles lent : List ℕ} {i k : ℕ} {ks ls c
           counted = a .counted;
         }
 
-    told : {roots₀ counts₀ roots answers : List ℕ} {x : ℕ} → x ≡ last (take (d .nodes) ls′) → Told d f toggles i roots₀ counts₀ roots answers
+    told : {roots₀ counts₀ roots answers : List ℕ} {x : ℕ} → x ≡ last (take (d .size .nodes) ls′) → Told d f toggles i roots₀ counts₀ roots answers
         → Told d f toggles (i + 1) roots₀ counts₀ (set roots i x) (set answers i n)
     told {roots = roots} {answers = answers} {x = x} root t =
         let es = waiting d 0 in
@@ -89,155 +96,210 @@ module _ {d : Desk} {f : Formula} {toggles lent : List ℕ} {i k : ℕ} {ks ls c
               ∙ ap₂ (λ y ts. sets (set answers i y) (suc i) (countsAfter f es ts rest)) (sym is-count) (sym one-more);
         }
 
--- ---- a turn: the edits of a moment, then a toggle
-module _ {d : Desk} {m from r : ℕ} {ks ls counts ks′ ls′ counts′ : List ℕ} where
-  acts-so : ActsDone d m from r ks ls counts ks′ ls′ counts′ → (p : Plan) → At d p m from ks ls counts → At d p m r ks′ ls′ counts′
-  acts-so (acts-done so later) = so
+-- ---- a turn
+module _ {d : Desk} {toggles : List ℕ} {j k : ℕ} {ks ls roots counts edits : List ℕ} where
+  formula-of : CanTurn d toggles j k ks ls roots counts edits → Formula
+  formula-of (can-turn f lent a chains room few within) = f
 
-  acts-later : ActsDone d m from r ks ls counts ks′ ls′ counts′ → Rises (suc m) (waiting d r)
-  acts-later (acts-done so later) = later
+  lent-of : CanTurn d toggles j k ks ls roots counts edits → List ℕ
+  lent-of (can-turn f lent a chains room few within) = lent
 
-  acts-begun : {toggles : List ℕ} → ActsDone d m from r ks ls counts ks′ ls′ counts′ → Begun d toggles m from ks ls counts → Begun d toggles m r ks′ ls′ counts′
-  acts-begun {toggles} done (begun f lent a) = begun f lent (acts-so done (plan f toggles lent) a)
+  at-of : (c : CanTurn d toggles j k ks ls roots counts edits) → At d (plan (formula-of c) toggles (lent-of c)) (j - k) k ks ls edits
+  unfolding formula-of lent-of
+  at-of (can-turn f lent a chains room few within) = a
 
-  acts-chains : {toggles hs ns : List ℕ} → ActsDone d m from r ks ls counts ks′ ls′ counts′ → Begun d toggles m from ks ls counts
-      → Chains ks (d .firsts) (d .seconds) (d .leaves) (d .nodes) hs ns → Chains ks′ (d .firsts) (d .seconds) (d .leaves) (d .nodes) hs ns
-  acts-chains {toggles} {hs} {ns} done (begun f lent a) chains =
-      let b = acts-so done (plan f toggles lent) a in
-      chains-kept ks ks′ (d .firsts) (d .seconds) (d .leaves) (d .nodes) hs ns
-      (held-shaped ks (d .firsts) (d .seconds) (d .leaves) (d .nodes) (a .now) (a .holds))
-      (held-shaped ks′ (d .firsts) (d .seconds) (d .leaves) (d .nodes) (b .now) (b .holds)) chains
+  chains-of : CanTurn d toggles j k ks ls roots counts edits → Chains ks (d .firsts) (d .seconds) (d .size .leaves) (d .size .nodes) (d .links)
+  chains-of (can-turn f lent a chains room few within) = chains
 
-module _ {d : Desk} {hs ns toggles : List ℕ} {i k : ℕ} {ks ls roots counts edits : List ℕ} where
-  turn-begun : CanTurn d hs ns toggles i k ks ls roots counts edits → Begun d toggles i k ks ls edits
-  turn-begun (can-turn run chains room) = run
+  room-of : CanTurn d toggles j k ks ls roots counts edits → ToggleRoom toggles roots counts
+  room-of (can-turn f lent a chains room few within) = room
 
-  turn-chains : CanTurn d hs ns toggles i k ks ls roots counts edits → Chains ks (d .firsts) (d .seconds) (d .leaves) (d .nodes) hs ns
-  turn-chains (can-turn run chains room) = chains
+  few-of : CanTurn d toggles j k ks ls roots counts edits → k ≤ j
+  few-of (can-turn f lent a chains room few within) = few
 
-  turn-room : CanTurn d hs ns toggles i k ks ls roots counts edits → ToggleRoom toggles roots counts
-  turn-room (can-turn run chains room) = room
+  within-of : CanTurn d toggles j k ks ls roots counts edits → j - k ≤ length toggles
+  within-of (can-turn f lent a chains room few within) = within
 
-  pub turn-running : CanTurn d hs ns toggles i k ks ls roots counts edits → Running d i k ks ls edits
-  turn-running g = go (turn-begun g)
-    where
-      go : Begun d toggles i k ks ls edits → Running d i k ks ls edits
-      go (begun f lent a) = running (plan f toggles lent) a
+  module _ (c : CanTurn d toggles j k ks ls roots counts edits) where
+    -- where no edit's moment has come, a toggle is there
+    toggle-there : j < length toggles + length (d .moments) → Later (d .moments) k (j - k) → j - k < length toggles
+    toggle-there more none = go (ltb k (length (d .moments))) refl
+      where
+        go : (b : Bool) → ltb k (length (d .moments)) ≡ b → j - k < length toggles
+        go true e = let h = ltb-true k (length (d .moments)) e in omega (arith, none .so h, at-of c .listed .in-time k h)
+        go false e = omega (arith, ltb-false k (length (d .moments)) e, at-of c .within, few-of c)
 
-  -- the edits and then the toggle have acted
-  pub turned-on : {r : ℕ} {ks′ ls′ edits′ ls″ roots′ counts′ : List ℕ} → TurnHere d hs ns toggles i k ks ls roots counts edits → ActsDone d i k r ks ls edits ks′ ls′ edits′
-      → ToggleDone ks′ (d .firsts) (d .seconds) (d .nodes) toggles i ls′ roots counts ls″ roots′ counts′
-      → TurnDone d hs ns toggles i k r ks ls roots counts edits ks′ ls″ roots′ counts′ edits′
-  turned-on {r} {ks′} {ls′} {edits′} {ls″} given acts t =
-      let g = given .can in
-      let h = given .here in
-      let x = last (take (d .nodes) ls″) in
-      let room = turn-room g in
-      rw (t .roots-are, t .counts-are)
-      (turn-done
-      (can-turn (go (acts-begun acts (turn-begun g))) (acts-chains acts (turn-begun g) (turn-chains g))
-      record {
-        named = room .named;
-        for-roots = omega (arith, room .for-roots, length-set roots i x);
-        for-counts = omega (arith, room .for-counts, length-set counts i (t .count));
-      })
-      (λ f lent a. toggled (acts-so acts (plan f toggles lent) a) (acts-later acts) h ls″ refl (t .long) (t .is))
-      (λ f lent roots₀ counts₀ a s. told (acts-so acts (plan f toggles lent) a) (acts-later acts) h ls″ refl (t .long) (t .is) refl s))
-    where
-      go : Begun d toggles i r ks′ ls′ edits′ → Begun d toggles (i + 1) r ks′ ls″ edits′
-      go (begun f lent a) = begun f lent (toggled a (acts-later acts) (given .here) ls″ refl (t .long) (t .is))
+    edited-on : {e o n : ℕ} {ks′ ls′ : List ℕ} → Due (d .moments) (d .positions) (d .codes) (d .places) k (j - k) e o
+        → EditDone ks (d .firsts) (d .seconds) (d .size .leaves) (d .size .nodes) (d .links) ls e o ks′ ls′ n
+        → TurnDone d toggles j k (k + 1) ks ls roots counts edits ks′ ls′ roots counts (set edits k n)
+    edited-on due x =
+        let same : j + 1 - (k + 1) ≡ j - k = omega arith in
+        turn-done (omega (arith, few-of c)) (rw same (within-of c))
+        (λ f lent a. rw same (acted-now a (due .here) due x))
+        (λ f lent roots₀ counts₀ a told-so. rw same told-so)
 
-module _ {rules fs xs : List ℕ} {leaves nodes : ℕ} {ps places ms pos cs hs ns toggles : List ℕ} {i k : ℕ} {ks ls roots counts edits ks′ ls′ : List ℕ} where
-  pub turn-toggle : Standing rules ks′ fs xs leaves nodes ps ls′ → TurnHere (desk rules fs xs leaves nodes ps places ms pos cs) hs ns toggles i k ks ls roots counts edits
-      → CanToggle rules ks′ fs xs leaves nodes ps hs ns ls′ toggles roots counts i
-  turn-toggle s h =
-      let shaped = s .linked .shaped in
-      let room = turn-room (h .can) in
-      record {
-        toggles-so = record { ruled = s .ruled; ready = record { linked = s .linked; chains = go (turn-begun (h .can)) }; long = s .long; shape = room .named i };
-        answers = room;
-        here = h .here;
-        some = shaped .some;
-        room = shaped .room;
-      }
-    where
-      go : Begun (desk rules fs xs leaves nodes ps places ms pos cs) toggles i k ks ls edits → Chains ks′ fs xs leaves nodes hs ns
-      go (begun f lent a) = chains-kept ks ks′ fs xs leaves nodes hs ns (held-shaped ks fs xs leaves nodes (a .now) (a .holds)) (s .linked .shaped) (turn-chains (h .can))
+    toggled-on : j < length toggles + length (d .moments) → Later (d .moments) k (j - k) → (ls′ : List ℕ) {r : Toggled} → ToggleDone ks (d .firsts) (d .seconds) (d .size) toggles (j - k) ls ls′ r
+        → TurnDone d toggles j k k ks ls roots counts edits ks ls′ (set roots (j - k) (r .root)) (set counts (j - k) (r .count)) edits
+    toggled-on more none ls′ t =
+        let h = toggle-there more none in
+        let next : j + 1 - k ≡ j - k + 1 = omega (arith, few-of c) in
+        turn-done (omega (arith, few-of c)) (rw next (omega arith))
+        (λ f lent a. rw next (toggled a (all-later a none) h ls′ refl (t .long) (t .is)))
+        (λ f lent roots₀ counts₀ a told-so. rw next (told a (all-later a none) h ls′ refl (t .long) (t .is) (t .root-is) told-so))
 
--- ---- the loop: i toggles and k edits have acted
-module _ (d : Desk) (hs ns toggles ks₀ ls₀ roots₀ counts₀ edits₀ : List ℕ) where
-  pub record Mixing (i k : ℕ) (ks ls roots counts edits : List ℕ) : Type 0 where
-    pub can : CanTurn d hs ns toggles i k ks ls roots counts edits
-    pub within : i ≤ length toggles
+-- ---- the same as the function meets it
+module _ {rules fs xs : List ℕ} {size : Size} {links places ms ps cs toggles : List ℕ} {j k : ℕ} {ks ls roots counts edits : List ℕ}
+    (c : CanTurn (desk rules fs xs size links places ms ps cs) toggles j k ks ls roots counts edits) where
+  pub edits-few : k ≤ j
+  edits-few = few-of c
+
+  pub turn-readable : Readable ms ps cs k
+  turn-readable = readable (at-of c)
+
+  module _ {r : Next} (says : NextSays ms ps cs places k (j - k) r) where
+    module _ {e o : ℕ} (is : r ≡ next.Edit e o) where
+      due : Due ms ps cs places k (j - k) e o
+      due = rw is at says
+
+      pub turn-edits : Editable rules ks fs xs (size .leaves) (size .nodes) links ls e
+      turn-edits = can-edit (at-of c) (due .here) due
+
+      pub turn-operates : o < 4
+      turn-operates = can-operate (at-of c) (due .here) due
+
+      pub edit-room : k < length edits
+      edit-room = omega (arith, due .here, at-of c .room)
+
+      pub turn-edited : {n m : ℕ} {ks′ ls′ edits′ : List ℕ} → EditDone ks fs xs (size .leaves) (size .nodes) links ls e o ks′ ls′ n → edits′ ≡ set edits k n → m ≡ k + 1
+          → TurnDone (desk rules fs xs size links places ms ps cs) toggles j k m ks ls roots counts edits ks′ ls′ roots counts edits′
+      turn-edited x put on = rw (put, on) (edited-on c due x)
+
+    module _ (is : r ≡ next.Wait) (more : j < length toggles + length ms) where
+      later : Later ms k (j - k)
+      later = rw is at says
+
+      pub turn-toggles : CanToggle rules ks fs xs size links ls toggles (j - k)
+      turn-toggles =
+          let a = at-of c in
+          let shaped = held-shaped ks fs xs (size .leaves) (size .nodes) (a .now) (a .holds) in
+          record {
+            can =
+                record {
+                  ruled = a .ruled;
+                  ready = record { linked = record { shaped = shaped; ups = a .ups }; chains = chains-of c };
+                  long = a .long;
+                  shape = room-of c .named (j - k);
+                };
+            here = toggle-there c more later;
+            some = shaped .some;
+            room = shaped .room;
+          }
+
+      pub root-room : j - k < length roots
+      root-room = omega (arith, toggle-there c more later, room-of c .for-roots)
+
+      pub count-room : j - k < length counts
+      count-room = omega (arith, toggle-there c more later, room-of c .for-counts)
+
+      pub turn-toggled : (ls′ : List ℕ) {t : Toggled} {counts′ : List ℕ} → ToggleDone ks fs xs size toggles (j - k) ls ls′ t → counts′ ≡ set counts (j - k) (t .count)
+          → TurnDone (desk rules fs xs size links places ms ps cs) toggles j k k ks ls roots counts edits ks ls′ (set roots (j - k) (t .root)) counts′ edits
+      turn-toggled ls′ done put = rw put (toggled-on c more later ls′ done)
+
+-- ---- one toggle's function
+module _ {rules ks fs xs : List ℕ} {size : Size} {links ls toggles : List ℕ} {i : ℕ} (c : CanToggle rules ks fs xs size links ls toggles i) where
+  pub shape-toggles : {s : ℕ} → s ≡ getD toggles i 0 → Toggles rules ks fs xs (size .leaves) (size .nodes) links ls s
+  shape-toggles e = rw e (c .can)
+
+  pub toggle-done : {s n x : ℕ} {ls′ : List ℕ} → s ≡ getD toggles i 0 → length ls′ ≡ 3072
+      → steps (take (size .nodes) ls′) n ≡ toggle (recs ks fs xs 0 (size .nodes)) s (take (size .nodes) ls) → x ≡ last (take (size .nodes) ls′)
+      → ToggleDone ks fs xs size toggles i ls ls′ (record { root = x; count = n })
+  toggle-done e long is root = record { long = long; is = is ∙ ap (λ t. toggle (recs ks fs xs 0 (size .nodes)) t (take (size .nodes) ls)) e; root-is = root }
+
+-- ---- the turns one after the other: what they begin with,
+pub data Begins (d : Desk) (toggles ks ls roots counts edits : List ℕ) : Type 0 where
+  begins : (f : Formula) → At d (plan f toggles edits) 0 0 ks ls edits → Chains ks (d .firsts) (d .seconds) (d .size .leaves) (d .size .nodes) (d .links) → ToggleRoom toggles roots counts
+      → Begins d toggles ks ls roots counts edits
+
+-- and of j turns k were edits
+module _ (d : Desk) (toggles ks₀ ls₀ roots₀ counts₀ edits₀ : List ℕ) where
+  pub record Mixing (j k : ℕ) (ks ls roots counts edits : List ℕ) : Type 0 where
+    pub from : Begins d toggles ks₀ ls₀ roots₀ counts₀ edits₀
+    pub few : k ≤ j
+    pub within : j - k ≤ length toggles
+    pub total : j ≤ length toggles + length (d .moments)
     pub roots-long : length roots ≡ length roots₀
     pub counts-long : length counts ≡ length counts₀
     pub edits-long : length edits ≡ length edits₀
-    pub so : (f : Formula) → At d (plan f toggles edits₀) 0 0 ks₀ ls₀ edits₀ → At d (plan f toggles edits₀) i k ks ls edits × Told d f toggles i roots₀ counts₀ roots counts
+    pub so : (f : Formula) → At d (plan f toggles edits₀) 0 0 ks₀ ls₀ edits₀ → At d (plan f toggles edits₀) (j - k) k ks ls edits × Told d f toggles (j - k) roots₀ counts₀ roots counts
 
-module _ {d : Desk} {hs ns toggles ks₀ ls₀ roots₀ counts₀ edits₀ : List ℕ} where
-  pub mixing-start : CanTurn d hs ns toggles 0 0 ks₀ ls₀ roots₀ counts₀ edits₀ → Mixing d hs ns toggles ks₀ ls₀ roots₀ counts₀ edits₀ 0 0 ks₀ ls₀ roots₀ counts₀ edits₀
-  mixing-start c =
+module _ {d : Desk} {toggles ks₀ ls₀ roots₀ counts₀ edits₀ : List ℕ} where
+  pub mixing-start : (f : Formula) → At d (plan f toggles edits₀) 0 0 ks₀ ls₀ edits₀ → Chains ks₀ (d .firsts) (d .seconds) (d .size .leaves) (d .size .nodes) (d .links)
+      → ToggleRoom toggles roots₀ counts₀ → Mixing d toggles ks₀ ls₀ roots₀ counts₀ edits₀ 0 0 ks₀ ls₀ roots₀ counts₀ edits₀
+  mixing-start f a chains room =
       record {
-        can = c;
+        from = begins f a chains room;
+        few = omega arith;
         within = omega arith;
+        total = omega arith;
         roots-long = refl;
         counts-long = refl;
         edits-long = refl;
         so = λ f a. (a, record { roots-so = refl; counts-so = refl });
       }
 
-  module _ {i k : ℕ} {ks ls roots counts edits : List ℕ} (g : Mixing d hs ns toggles ks₀ ls₀ roots₀ counts₀ edits₀ i k ks ls roots counts edits) where
-    pub mixing-more : {r : ℕ} {ks′ ls′ roots′ counts′ edits′ : List ℕ} → i < length toggles → length roots′ ≡ length roots → length counts′ ≡ length counts → length edits′ ≡ length edits
-        → TurnDone d hs ns toggles i k r ks ls roots counts edits ks′ ls′ roots′ counts′ edits′
-        → Mixing d hs ns toggles ks₀ ls₀ roots₀ counts₀ edits₀ (i + 1) r ks′ ls′ roots′ counts′ edits′
-    mixing-more h a b c (turn-done can so told) =
+  module _ {j k : ℕ} {ks ls roots counts edits : List ℕ} (g : Mixing d toggles ks₀ ls₀ roots₀ counts₀ edits₀ j k ks ls roots counts edits) where
+    pub mixing-turn : CanTurn d toggles j k ks ls roots counts edits
+    mixing-turn = go (g .from)
+      where
+        go : Begins d toggles ks₀ ls₀ roots₀ counts₀ edits₀ → CanTurn d toggles j k ks ls roots counts edits
+        go (begins f a chains room) =
+            let b = g .so f a .0 in
+            can-turn f edits₀ b
+            (chains-kept ks₀ ks (d .firsts) (d .seconds) (d .size .leaves) (d .size .nodes) (d .links)
+            (held-shaped ks₀ (d .firsts) (d .seconds) (d .size .leaves) (d .size .nodes) (a .now) (a .holds))
+            (held-shaped ks (d .firsts) (d .seconds) (d .size .leaves) (d .size .nodes) (b .now) (b .holds)) chains)
+            record {
+              named = room .named;
+              for-roots = omega (arith, room .for-roots, g .roots-long);
+              for-counts = omega (arith, room .for-counts, g .counts-long);
+            }
+            (g .few) (g .within)
+
+    pub mixing-on : {r : ℕ} {ks′ ls′ roots′ counts′ edits′ : List ℕ} → j < length toggles + length (d .moments)
+        → length roots′ ≡ length roots → length counts′ ≡ length counts → length edits′ ≡ length edits → TurnDone d toggles j k r ks ls roots counts edits ks′ ls′ roots′ counts′ edits′
+        → Mixing d toggles ks₀ ls₀ roots₀ counts₀ edits₀ (j + 1) r ks′ ls′ roots′ counts′ edits′
+    mixing-on more a b c (turn-done few within at told) =
         record {
-          can = can;
-          within = omega arith;
+          from = g .from;
+          few = few;
+          within = within;
+          total = omega arith;
           roots-long = a ∙ g .roots-long;
           counts-long = b ∙ g .counts-long;
           edits-long = c ∙ g .edits-long;
-          so = λ f x. let w = g .so f x in (so f edits₀ (w .0), told f edits₀ roots₀ counts₀ (w .0) (w .1));
+          so = λ f x. let w = g .so f x in (at f edits₀ (w .0), told f edits₀ roots₀ counts₀ (w .0) (w .1));
         }
 
-    module _ {r : ℕ} {ks′ ls′ edits′ : List ℕ} (acts : ActsDone d i k r ks ls edits ks′ ls′ edits′) where
-      -- the last edits: no edit waits any more
-      none-left : (f : Formula) → At d (plan f toggles edits₀) i r ks′ ls′ edits′ → length toggles ≤ i → waiting d r ≡ []
-      none-left f a h = go (leb (length (d .moments)) r) refl
-        where
-          go : (b : Bool) → leb (length (d .moments)) r ≡ b → waiting d r ≡ []
-          go true e = waiting-none d (a .listed) r (leb-true (length (d .moments)) r e)
-          go false e =
-              let l = leb-false (length (d .moments)) r e in
-              let late = rw (waiting-here d (a .listed) r l) at (acts-later acts) in
-              absurd (omega (arith, late .0, a .listed .in-time r l))
-
-      pub mixing-end : length toggles ≤ i → MixDone d toggles ks₀ ls₀ roots₀ counts₀ edits₀ ls′ roots counts edits′
-      mixing-end h = record { so = left }
-        where
-          left : (f : Formula) → At d (plan f toggles edits₀) 0 0 ks₀ ls₀ edits₀ → MixLeft d f toggles roots₀ counts₀ edits₀ ls′ roots counts edits′
-          left f a =
-              let b = acts-so acts (plan f toggles edits₀) (g .so f a .0) in
-              let t = g .so f a .1 in
-              let none = none-left f b h in
-              let end : i ≡ length toggles = omega (arith, g .within) in
-              let all : take i toggles ≡ toggles = take-all i toggles h in
-              let out : drop i toggles ≡ [] = drop-of-length-le toggles h in
-              let es = waiting d 0 in
-              record {
-                roots-are = sym (t .roots-so ∙ ap (λ ss. sets roots i (rootsAfter f es (take i toggles) ss)) out);
-                counts-are = sym (t .counts-so ∙ ap (λ ss. sets counts i (countsAfter f es (take i toggles) ss)) out);
-                labels-are =
-                    b .labels-are
-                    ∙ ap₂ (λ ts e. labels (toggledBy ts) (dwarf e)) all
-                    (sym (ap (λ m. editedBy m es f) (sym end) ∙ b .left i (omega arith) ∙ ap (λ e. editedBy i e (b .now)) none));
-                edits-are = sym (b .counted ∙ ap (λ e. sets edits′ r (editCounts toggles (b .now) e)) none);
-              }
-
--- ---- one toggle's function
-module _ {rules ks fs xs : List ℕ} {leaves nodes : ℕ} {ps hs ns ls toggles roots counts : List ℕ} {i : ℕ}
-    (c : CanToggle rules ks fs xs leaves nodes ps hs ns ls toggles roots counts i) where
-  pub toggle-done : {s n x : ℕ} {ls′ : List ℕ} → s ≡ getD toggles i 0 → length ls′ ≡ 3072 → steps (take nodes ls′) n ≡ toggle (recs ks fs xs 0 nodes) s (take nodes ls) → x ≡ last (take nodes ls′)
-      → ToggleDone ks fs xs nodes toggles i ls roots counts ls′ (set roots i x) (set counts i n)
-  toggle-done {s} {n} e long is root =
-      record { count = n; long = long; is = is ∙ ap (λ t. toggle (recs ks fs xs 0 nodes) t (take nodes ls)) e; roots-are = ap (set roots i) root; counts-are = refl }
+    -- all toggles and edits have acted
+    pub mixing-end : length toggles + length (d .moments) ≤ j → (f : Formula) → At d (plan f toggles edits₀) 0 0 ks₀ ls₀ edits₀
+        → MixLeft d f toggles roots₀ counts₀ edits₀ ls roots counts edits
+    mixing-end end f a =
+        let b = g .so f a .0 in
+        let t = g .so f a .1 in
+        let i = j - k in
+        let last-edit : length (d .moments) ≤ k = omega (arith, b .within, g .within, g .few) in
+        let none : waiting d k ≡ [] = waiting-none d (b .listed) k last-edit in
+        let last-toggle : i ≡ length toggles = omega (arith, b .within, g .within, g .few) in
+        let past : length toggles ≤ i = omega arith in
+        let all : take i toggles ≡ toggles = take-all i toggles past in
+        let out : drop i toggles ≡ [] = drop-of-length-le toggles past in
+        let es = waiting d 0 in
+        record {
+          roots-are = sym (t .roots-so ∙ ap (λ ss. sets roots i (rootsAfter f es (take i toggles) ss)) out);
+          counts-are = sym (t .counts-so ∙ ap (λ ss. sets counts i (countsAfter f es (take i toggles) ss)) out);
+          labels-are =
+              b .labels-are
+              ∙ ap₂ (λ ts e. labels (toggledBy ts) (dwarf e)) all
+              (sym (ap (λ m. editedBy m es f) (sym last-toggle) ∙ b .left i (omega arith) ∙ ap (λ e. editedBy i e (b .now)) none));
+          edits-are = sym (b .counted ∙ ap (λ e. sets edits k (editCounts toggles (b .now) e)) none);
+        }

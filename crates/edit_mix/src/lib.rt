@@ -1,56 +1,56 @@
-// Edits and toggles on a dwarf tree in arrays: the edits of a moment, then the next toggle, turn about.
-ghost use Rattle.edit_moments.specs.Waiting.{desk, Standing};
-ghost use Rattle.edit_mix.specs.TurnAbout.{CanToggle, ToggleDone, CanTurn, TurnHere, TurnDone, MixDone};
+// A turn of a run on a dwarf tree in arrays: the edit whose moment has come, or the next toggle.
+use edit_moments::Next;
+use labels::Size;
+ghost use mathlib.Core.Path.{_≡_};
+ghost use Prim.Native.Nat.{_+_, _<_};
+ghost use lib.ListN.{length, set};
+ghost use Rattle.edit_moments.specs.Waiting.{desk};
+ghost use Rattle.edit_mix.specs.TurnAbout.{CanToggle, ToggleDone, CanTurn, TurnDone};
 
-// Toggle i of the list, with its root and its count.
+// What a toggle gives.
+struct Toggled {
+    root: u8,
+    count: u32,
+}
+
+// Toggle i of the list.
 fn toggle_one(
     rules: &[u8; 256],
     kinds: &[u16; 3072],
     firsts: &[u16; 3072],
     seconds: &[u16; 3072],
-    leaves: usize,
-    nodes: usize,
-    parents: &[u16; 3072],
-    heads: &[u16; 256],
-    nexts: &[u16; 1024],
+    size: Size,
+    links: &[u16; 4352],
     labels: &mut [u8; 3072],
     toggles: &[u16],
-    roots: &mut [u8],
-    counts: &mut [u32],
     i: usize,
-)
-    requires { ⌜ CanToggle (now rules) (now kinds) (now firsts) (now seconds) leaves nodes (now parents) (now heads) (now nexts) (now labels) (now toggles) (now roots) (now counts) i ⌝ }
-    ensures { λ _. ⌜ ToggleDone (now (kinds .entry)) (now (firsts .entry)) (now (seconds .entry)) nodes (now (toggles .entry)) i
-        (now (labels .entry)) (now (roots .entry)) (now (counts .entry)) (now (labels .exit)) (now (roots .exit)) (now (counts .exit)) ⌝ }
+) -> Toggled
+    requires { ⌜ CanToggle (now rules) (now kinds) (now firsts) (now seconds) size (now links) (now labels) (now toggles) i ⌝ }
+    ensures { λ r. ⌜ ToggleDone (now (kinds .entry)) (now (firsts .entry)) (now (seconds .entry)) size (now (toggles .entry)) i (now (labels .entry)) (now (labels .exit)) r ⌝ }
 {
     let s = labels::wide(toggles[i]);
-    counts[i] = toggles::toggle(
-        rules,
-        kinds,
-        firsts,
-        seconds,
-        leaves,
-        nodes,
-        parents,
-        heads,
-        nexts,
-        labels,
-        s,
-    );
-    roots[i] = toggle_run::root(labels, nodes);
+    let count = toggles::toggle(rules, kinds, firsts, seconds, size, links, labels, s);
+    let root = toggle_run::root(labels, size.nodes);
+    Toggled { root, count }
 }
 
-// The edits after i toggles, from edit number k on, and then toggle i: the number of the first edit that waits.
-fn turn(
+// Count i given: the number of the next.
+fn give(list: &mut [u32], i: usize, count: u32) -> usize
+    requires { ⌜ i < length (now list) ⌝ }
+    ensures { λ r. ⌜ (now (list .exit) ≡ set (now (list .entry)) i count) × (r ≡ i + 1) ⌝ }
+{
+    list[i] = count;
+    i + 1
+}
+
+// Another turn, after j turns of which k were edits: the number of edits then.
+pub fn turn(
     rules: &[u8; 256],
     kinds: &mut [u16; 3072],
     firsts: &[u16; 3072],
     seconds: &[u16; 3072],
-    leaves: usize,
-    nodes: usize,
-    parents: &[u16; 3072],
-    heads: &[u16; 256],
-    nexts: &[u16; 1024],
+    size: Size,
+    links: &[u16; 4352],
     places: &[u16; 2048],
     labels: &mut [u8; 3072],
     toggles: &[u16],
@@ -60,121 +60,47 @@ fn turn(
     roots: &mut [u8],
     counts: &mut [u32],
     edit_counts: &mut [u32],
-    i: usize,
+    j: usize,
     k: usize,
 ) -> usize
-    requires { ⌜ TurnHere (desk (now rules) (now firsts) (now seconds) leaves nodes (now parents) (now places) (now moments) (now positions) (now codes)) (now heads) (now nexts) (now toggles) i k (now kinds) (now labels) (now roots) (now counts) (now «edit_counts») ⌝ }
-    ensures { λ r. ⌜ TurnDone (desk (now (rules .entry)) (now (firsts .entry)) (now (seconds .entry)) leaves nodes (now (parents .entry)) (now (places .entry)) (now (moments .entry)) (now (positions .entry)) (now (codes .entry))) (now (heads .entry)) (now (nexts .entry)) (now (toggles .entry)) i k r
-        (now (kinds .entry)) (now (labels .entry)) (now (roots .entry)) (now (counts .entry)) (now («edit_counts» .entry))
+    requires { ⌜ CanTurn (desk (now rules) (now firsts) (now seconds) size (now links) (now places) (now moments) (now positions) (now codes)) (now toggles) j k
+        (now kinds) (now labels) (now roots) (now counts) (now «edit_counts») ⌝ }
+    requires { ⌜ j < length (now toggles) + length (now moments) ⌝ }
+    ensures { λ r. ⌜ TurnDone (desk (now (rules .entry)) (now (firsts .entry)) (now (seconds .entry)) size (now (links .entry)) (now (places .entry)) (now (moments .entry)) (now (positions .entry)) (now (codes .entry)))
+        (now (toggles .entry)) j k r (now (kinds .entry)) (now (labels .entry)) (now (roots .entry)) (now (counts .entry)) (now («edit_counts» .entry))
         (now (kinds .exit)) (now (labels .exit)) (now (roots .exit)) (now (counts .exit)) (now («edit_counts» .exit)) ⌝ }
 {
-    let m = i as u64;
-    let waits = edit_moments::act(
-        rules,
-        kinds,
-        firsts,
-        seconds,
-        leaves,
-        nodes,
-        parents,
-        places,
-        labels,
-        moments,
-        positions,
-        codes,
-        edit_counts,
-        m,
-        k,
-    );
-    toggle_one(
-        rules,
-        kinds,
-        firsts,
-        seconds,
-        leaves,
-        nodes,
-        parents,
-        heads,
-        nexts,
-        labels,
-        toggles,
-        roots,
-        counts,
-        i,
-    );
-    waits
-}
-
-// The edits of each moment and then the next toggle, with a root and a count; at last the edits after all toggles.
-pub fn mix(
-    rules: &[u8; 256],
-    kinds: &mut [u16; 3072],
-    firsts: &[u16; 3072],
-    seconds: &[u16; 3072],
-    leaves: usize,
-    nodes: usize,
-    parents: &[u16; 3072],
-    heads: &[u16; 256],
-    nexts: &[u16; 1024],
-    places: &[u16; 2048],
-    labels: &mut [u8; 3072],
-    toggles: &[u16],
-    moments: &[u64],
-    positions: &[u16],
-    codes: &[u16],
-    roots: &mut [u8],
-    counts: &mut [u32],
-    edit_counts: &mut [u32],
-)
-    requires { ⌜ CanTurn (desk (now rules) (now firsts) (now seconds) leaves nodes (now parents) (now places) (now moments) (now positions) (now codes)) (now heads) (now nexts) (now toggles) 0 0 (now kinds) (now labels) (now roots) (now counts) (now «edit_counts») ⌝ }
-    ensures { λ _. ⌜ Standing (now (rules .entry)) (now (kinds .exit)) (now (firsts .entry)) (now (seconds .entry)) leaves nodes (now (parents .entry)) (now (labels .exit)) ⌝ }
-    ensures { λ _. ⌜ MixDone (desk (now (rules .entry)) (now (firsts .entry)) (now (seconds .entry)) leaves nodes (now (parents .entry)) (now (places .entry)) (now (moments .entry)) (now (positions .entry)) (now (codes .entry))) (now (toggles .entry))
-        (now (kinds .entry)) (now (labels .entry)) (now (roots .entry)) (now (counts .entry)) (now («edit_counts» .entry)) (now (labels .exit)) (now (roots .exit)) (now (counts .exit)) (now («edit_counts» .exit)) ⌝ }
-{
-    let mut i = 0;
-    let mut k = 0;
-    while i < toggles.len() {
-        let next = i + 1;
-        k = turn(
-            rules,
-            kinds,
-            firsts,
-            seconds,
-            leaves,
-            nodes,
-            parents,
-            heads,
-            nexts,
-            places,
-            labels,
-            toggles,
-            moments,
-            positions,
-            codes,
-            roots,
-            counts,
-            edit_counts,
-            i,
-            k,
-        );
-        i = next;
+    let i = j - k;
+    match edit_moments::next_edit(moments, positions, codes, places, k, i) {
+        Next::Edit { node, operation } => {
+            let count = edit_labels::edit(
+                rules,
+                kinds,
+                firsts,
+                seconds,
+                size,
+                links,
+                labels,
+                node,
+                operation,
+            );
+            give(edit_counts, k, count)
+        }
+        Next::Wait => {
+            let t = toggle_one(
+                rules,
+                kinds,
+                firsts,
+                seconds,
+                size,
+                links,
+                labels,
+                toggles,
+                i,
+            );
+            give(counts, i, t.count);
+            roots[i] = t.root;
+            k
+        }
     }
-    let last = i as u64;
-    edit_moments::act(
-        rules,
-        kinds,
-        firsts,
-        seconds,
-        leaves,
-        nodes,
-        parents,
-        places,
-        labels,
-        moments,
-        positions,
-        codes,
-        edit_counts,
-        last,
-        k,
-    );
 }

@@ -1,10 +1,10 @@
--- A run with edits from its tables on, and what it leaves in the lent lists.
-use Prim.Native.Nat.{ℕ, suc, _<_, _≤_}
+-- A run with edits: what it begins with, and what it leaves in the lent lists.
+use Prim.Native.Nat.{ℕ, suc, _+_, _<_, _≤_}
 use native.Mathlib.Nat.{zero-add}
 use native.Mathlib.Omega.{arith}
 use mathlib.Core.Path.{_≡_, refl, sym, ap, _∙_}
 use mathlib.Core.List.{List, [], _∷_, _++_}
-use lib.ListN.{length, getD, drop}
+use lib.ListN.{length, getD, take, drop}
 use lib.Seq.{sets, sets-eq}
 use Rattle.outcome.specs.Lent.{filled}
 use Rattle.formula.specs.Formula.{firstOperation, Formula, Over, postfix}
@@ -13,6 +13,7 @@ use Rattle.formula.specs.States.{outside}
 use Rattle.contraction.specs.Rounds.{dwarf}
 use Rattle.labels.specs.Labels.{labels}
 use Rattle.labels.specs.Arrays.{Tree}
+use Rattle.labels.specs.declared.Size.{Size}
 use Rattle.labels.proofs.Held.{held-records}
 use Rattle.toggles.proofs.Runs.{none-done}
 use Rattle.toggle_run.specs.Tables.{Tables}
@@ -21,10 +22,10 @@ use Rattle.edit_places.specs.Places.{Built, Buildable, PlacesFilled}
 use Rattle.edit_moments.specs.Edits.{Edit, editsOf, after, editCounts}
 use Rattle.edit_moments.specs.Listed.{Operations}
 use Rattle.edit_moments.specs.Waiting.{desk, At}
-use Rattle.edit_mix.specs.Edits.{rootsAfter, countsAfter}
-use Rattle.edit_mix.specs.TurnAbout.{plan, begun, can-turn}
-use Rattle.edit_run.specs.Ran.{EditFits, EditRoom, edit-room, EditedRuns}
-use Rattle.edit_run.specs.Tabled.{CanRun, RunDone, RunFits, Runnable, RunsOf}
+use Rattle.edit_mix.specs.Edits.{rootsAfter, countsAfter, answersOf}
+use Rattle.edit_mix.specs.TurnAbout.{plan, CanTurn, TurnDone}
+use Rattle.edit_mix.proofs.MixLaws.{Mixing, mixing-start, mixing-turn, mixing-on, mixing-end}
+use Rattle.edit_run.specs.Ran.{EditFits, EditRoom, edit-room, EditedRun, EditedRuns}
 
 -- ---- lengths
 pub length-roots : (f : Formula) (es : List Edit) (done ss : List ℕ) → length (rootsAfter f es done ss) ≡ length ss
@@ -51,61 +52,14 @@ all-operations f v (m ∷ ms) [] cs h = tt
 all-operations f v (m ∷ ms) (p ∷ ps) [] h = tt
 all-operations f v (m ∷ ms) (p ∷ ps) (c ∷ cs) h = (is-operation f v p (h 0 (omega arith)), all-operations f v ms ps cs (λ k l. h (suc k) (omega arith)))
 
--- ---- the run, from the places on
-module _ {ks fs ss : List ℕ} {leaves nodes : ℕ} {places toggles ms ps cs roots counts list edits : List ℕ} where
-  pub runnable-tree : Runnable ks fs ss leaves nodes places toggles ms ps cs roots counts list edits → Tree ks fs ss leaves nodes
-  runnable-tree r = record { formula = r .formula; holds = r .fits .holds }
-
-  module _ {rules ls parents hs ns : List ℕ} (t : Tables rules ks fs ss leaves nodes ls parents hs ns) where
-    start : (f : Formula) → RunFits f ks fs ss leaves nodes places toggles ms ps cs roots counts list edits
-        → At (desk rules fs ss leaves nodes parents places ms ps cs) (plan f toggles edits) 0 0 ks ls edits
-    start f h =
-        record {
-          now = f;
-          ruled = t .ruled;
-          listed = h .listed;
-          holds = h .holds;
-          ups = t .ready .linked .ups;
-          placed = h .placed;
-          long = t .long;
-          labels-are =
-              t .labels-are ∙ ap (labels outside) (held-records ks fs ss leaves nodes f (h .holds)) ∙ ap (λ state. labels state (dwarf f)) (sym none-done);
-          within = omega arith;
-          operated = h .operated;
-          left = λ m l. refl;
-          waits = h .rises;
-          room = h .for-edits;
-          counted = refl;
-        }
-
-    pub ready-to-run : Runnable ks fs ss leaves nodes places toggles ms ps cs roots counts list edits
-        → CanRun (desk rules fs ss leaves nodes parents places ms ps cs) hs ns toggles ks ls roots counts list edits
-    ready-to-run r =
-        record { can = can-turn (begun (r .formula) edits (start (r .formula) (r .fits))) (t .ready .chains) (r .fits .answers); for-labels = r .fits .for-labels }
-
-    pub runs-of : {ls′ roots′ counts′ list′ edits′ : List ℕ}
-        → RunDone (desk rules fs ss leaves nodes parents places ms ps cs) toggles ks ls roots counts list edits ls′ roots′ counts′ list′ edits′
-        → RunsOf ks fs ss leaves nodes places toggles ms ps cs roots counts list edits roots′ counts′ list′ edits′
-    runs-of done =
-        record {
-          so = λ f h.
-              let w = done .mixed .so f (start f h) in
-              let es = editsOf ms ps cs in
-              record {
-                roots-are = w .roots-are ∙ sets-filled (rootsAfter f es [] toggles) roots (omega (arith, h .answers .for-roots, length-roots f es [] toggles));
-                counts-are = w .counts-are ∙ sets-filled (countsAfter f es [] toggles) counts (omega (arith, h .answers .for-counts, length-counts f es [] toggles));
-                labels-are = done .given ∙ ap (λ l. filled l list) (w .labels-are);
-                edit-counts-are = w .edits-are ∙ sets-filled (editCounts toggles f es) edits (omega (arith, h .for-edits, length-edits toggles f ms ps cs));
-              };
-        }
-
--- ---- the run, from the formula's codes on
-module _ {formula : List ℕ} {n : ℕ} {ks fs ss : List ℕ} {leaves nodes : ℕ} {toggles ms ps cs roots counts list edits : List ℕ} where
-  fits-of : EditRoom formula n ks fs ss leaves nodes toggles ms ps cs roots counts list edits → EditFits formula n ks fs ss leaves nodes toggles ms ps cs roots counts list edits
+-- ---- the run, step by step
+module _ {formula : List ℕ} {n : ℕ} {ks fs ss : List ℕ} {size : Size} {toggles ms ps cs roots counts list edits : List ℕ} where
+  fits-of : EditRoom formula n ks fs ss (size .leaves) (size .nodes) toggles ms ps cs roots counts list edits
+      → EditFits formula n ks fs ss (size .leaves) (size .nodes) toggles ms ps cs roots counts list edits
   fits-of (edit-room h) = h
 
-  module _ (given : EditRoom formula n ks fs ss leaves nodes toggles ms ps cs roots counts list edits) where
-    h : EditFits formula n ks fs ss leaves nodes toggles ms ps cs roots counts list edits
+  module _ (given : EditRoom formula n ks fs ss (size .leaves) (size .nodes) toggles ms ps cs roots counts list edits) where
+    h : EditFits formula n ks fs ss (size .leaves) (size .nodes) toggles ms ps cs roots counts list edits
     h = fits-of given
 
     pub room-formula : length formula ≡ 2048
@@ -114,26 +68,91 @@ module _ {formula : List ℕ} {n : ℕ} {ks fs ss : List ℕ} {leaves nodes : �
     pub room-few : n ≤ 2047
     room-few = h .formula-few
 
-    pub room-built : Buildable formula n ks fs ss leaves nodes
+    pub room-built : Buildable formula n ks fs ss (size .leaves) (size .nodes)
     room-built = h .built
 
-    module _ {places : List ℕ} (placed : PlacesFilled formula n ks fs ss leaves nodes places) where
-      run-fits : (f : Formula) → Built formula n ks fs ss leaves nodes f → RunFits f ks fs ss leaves nodes places toggles ms ps cs roots counts list edits
-      run-fits f b =
+    pub room-tree : Tree ks fs ss (size .leaves) (size .nodes)
+    room-tree = record { formula = h .built .formula; holds = h .built .built .holds }
+
+    module _ {places rules ls links : List ℕ} (placed : PlacesFilled formula n ks fs ss (size .leaves) (size .nodes) places) (t : Tables rules ks fs ss (size .leaves) (size .nodes) ls links) where
+      start : (f : Formula) → Built formula n ks fs ss (size .leaves) (size .nodes) f → At (desk rules fs ss size links places ms ps cs) (plan f toggles edits) 0 0 ks ls edits
+      start f b =
           record {
-            holds = b .holds;
-            placed = placed .so f b;
+            now = f;
+            ruled = t .ruled;
             listed = h .listed;
-            rises = h .rises;
+            holds = b .holds;
+            ups = t .ready .linked .ups;
+            placed = placed .so f b;
+            long = t .long;
+            labels-are =
+                t .labels-are ∙ ap (labels outside) (held-records ks fs ss (size .leaves) (size .nodes) f (b .holds)) ∙ ap (λ state. labels state (dwarf f)) (sym none-done);
+            within = omega arith;
             operated = all-operations f (b .holds .named) ms ps cs (rw (b .codes-are) at (h .operated));
-            answers = h .answers;
-            for-labels = h .for-labels;
-            for-edits = h .for-edits;
+            left = λ m l. refl;
+            waits = h .rises;
+            room = h .for-edits;
+            counted = refl;
           }
 
-      pub room-runnable : Runnable ks fs ss leaves nodes places toggles ms ps cs roots counts list edits
-      room-runnable = record { formula = h .built .formula; fits = run-fits (h .built .formula) (h .built .built) }
+-- a turn is left
+pub turn-left : (a b : ℕ) {all j : ℕ} → j < all → all ≡ a + b → j < a + b
+turn-left a b more is = omega arith
 
-      pub edited-runs : {roots′ counts′ list′ edits′ : List ℕ} → RunsOf ks fs ss leaves nodes places toggles ms ps cs roots counts list edits roots′ counts′ list′ edits′
-          → EditedRuns formula n ks fs ss leaves nodes toggles ms ps cs roots counts list edits roots′ counts′ list′ edits′
-      edited-runs done = record { so = λ f b. done .so f (run-fits f b) }
+-- ---- the turns: what they begin with,
+pub data Begun (formula : List ℕ) (n : ℕ) (ks fs ss : List ℕ) (size : Size) (toggles ms ps cs roots counts list edits places rules ls links : List ℕ) : Type 0 where
+  begun : EditRoom formula n ks fs ss (size .leaves) (size .nodes) toggles ms ps cs roots counts list edits → PlacesFilled formula n ks fs ss (size .leaves) (size .nodes) places
+      → Tables rules ks fs ss (size .leaves) (size .nodes) ls links → Begun formula n ks fs ss size toggles ms ps cs roots counts list edits places rules ls links
+
+-- and of j turns k were edits
+pub record Turning (formula : List ℕ) (n : ℕ) (ks₀ fs ss : List ℕ) (size : Size) (toggles ms ps cs roots₀ counts₀ list edits₀ places rules ls₀ links : List ℕ) (all j k : ℕ) (ks ls roots counts edits : List ℕ) : Type 0 where
+  pub from : Begun formula n ks₀ fs ss size toggles ms ps cs roots₀ counts₀ list edits₀ places rules ls₀ links
+  pub all-is : all ≡ length toggles + length ms
+  pub can : CanTurn (desk rules fs ss size links places ms ps cs) toggles j k ks ls roots counts edits
+  pub mixing : Mixing (desk rules fs ss size links places ms ps cs) toggles ks₀ ls₀ roots₀ counts₀ edits₀ j k ks ls roots counts edits
+
+module _ {formula : List ℕ} {n : ℕ} {ks₀ fs ss : List ℕ} {size : Size} {toggles ms ps cs roots₀ counts₀ list edits₀ places rules ls₀ links : List ℕ} {all : ℕ} where
+  pub turning-start : EditRoom formula n ks₀ fs ss (size .leaves) (size .nodes) toggles ms ps cs roots₀ counts₀ list edits₀
+      → PlacesFilled formula n ks₀ fs ss (size .leaves) (size .nodes) places → Tables rules ks₀ fs ss (size .leaves) (size .nodes) ls₀ links → all ≡ length toggles + length ms
+      → Turning formula n ks₀ fs ss size toggles ms ps cs roots₀ counts₀ list edits₀ places rules ls₀ links all 0 0 ks₀ ls₀ roots₀ counts₀ edits₀
+  turning-start given placed t is =
+      let h = fits-of given in
+      let m = mixing-start (h .built .formula) (start given placed t (h .built .formula) (h .built .built)) (t .ready .chains) (h .answers) in
+      record { from = begun given placed t; all-is = is; can = mixing-turn m; mixing = m }
+
+  module _ {j k : ℕ} {ks ls roots counts edits : List ℕ} (g : Turning formula n ks₀ fs ss size toggles ms ps cs roots₀ counts₀ list edits₀ places rules ls₀ links all j k ks ls roots counts edits) where
+    pub turning-on : {r : ℕ} {ks′ ls′ roots′ counts′ edits′ : List ℕ} → j < all → length roots′ ≡ length roots → length counts′ ≡ length counts → length edits′ ≡ length edits
+        → TurnDone (desk rules fs ss size links places ms ps cs) toggles j k r ks ls roots counts edits ks′ ls′ roots′ counts′ edits′
+        → Turning formula n ks₀ fs ss size toggles ms ps cs roots₀ counts₀ list edits₀ places rules ls₀ links all (j + 1) r ks′ ls′ roots′ counts′ edits′
+    turning-on more a b c done =
+        let m = mixing-on (g .mixing) (omega (arith, g .all-is)) a b c done in
+        record { from = g .from; all-is = g .all-is; can = mixing-turn m; mixing = m }
+
+    pub turning-room : size .nodes ≤ 3072
+    turning-room = go (g .from)
+      where
+        go : Begun formula n ks₀ fs ss size toggles ms ps cs roots₀ counts₀ list edits₀ places rules ls₀ links → size .nodes ≤ 3072
+        go (begun given placed t) = t .room
+
+    pub turning-list : size .nodes ≤ length list
+    turning-list = go (g .from)
+      where
+        go : Begun formula n ks₀ fs ss size toggles ms ps cs roots₀ counts₀ list edits₀ places rules ls₀ links → size .nodes ≤ length list
+        go (begun given placed t) = fits-of given .for-labels
+
+    pub edited-runs : {list′ : List ℕ} → all ≤ j → list′ ≡ filled (take (size .nodes) ls) list
+        → EditedRuns formula n ks₀ fs ss (size .leaves) (size .nodes) toggles ms ps cs roots₀ counts₀ list edits₀ roots counts list′ edits
+    edited-runs {list′} end copied = record { so = λ f b. go (g .from) f b }
+      where
+        go : Begun formula n ks₀ fs ss size toggles ms ps cs roots₀ counts₀ list edits₀ places rules ls₀ links → (f : Formula) → Built formula n ks₀ fs ss (size .leaves) (size .nodes) f
+            → EditedRun (answersOf f toggles (editsOf ms ps cs)) roots₀ counts₀ list edits₀ roots counts list′ edits
+        go (begun given placed t) f b =
+            let h = fits-of given in
+            let w = mixing-end (g .mixing) (omega (arith, g .all-is)) f (start given placed t f b) in
+            let es = editsOf ms ps cs in
+            record {
+              roots-are = w .roots-are ∙ sets-filled (rootsAfter f es [] toggles) roots₀ (omega (arith, h .answers .for-roots, length-roots f es [] toggles));
+              counts-are = w .counts-are ∙ sets-filled (countsAfter f es [] toggles) counts₀ (omega (arith, h .answers .for-counts, length-counts f es [] toggles));
+              labels-are = copied ∙ ap (λ l. filled l list) (w .labels-are);
+              edit-counts-are = w .edits-are ∙ sets-filled (editCounts toggles f es) edits₀ (omega (arith, h .for-edits, length-edits toggles f ms ps cs));
+            }

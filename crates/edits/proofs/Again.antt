@@ -62,7 +62,7 @@ module _ (ups es : List ℕ) (g : ℕ → Op → Op) where
   operations-remade (node o l r) q p =
       rw (size-remade g l p, size-remade g r (p + size l), operations-remade l q p, operations-remade r q (p + size l))
 
-  pub placed-remade : (f : Formula) → Placed ups es f → Placed ups es (remade g 0 f)
+  placed-remade : (f : Formula) → Placed ups es f → Placed ups es (remade g 0 f)
   placed-remade f h =
       record {
         over = ups-remade f 0 (h .over);

@@ -116,7 +116,7 @@ module _ (ups es : List ℕ) (p : ℕ) where
       one zero l v s = absurd (none-stand (r ∷ []) n 0 (omega arith) (omega arith) v s)
       one (suc j) l v s = ap suc (h .alone j (omega arith) v (ap (λ k. getD es k 0) (omega arith) ∙ s))
 
-  pub find : (rs : List Rec) (n : ℕ) → standing ups es p n rs ≡ 1 → (i : ℕ) × Node rs n i
+  find : (rs : List Rec) (n : ℕ) → standing ups es p n rs ≡ 1 → (i : ℕ) × Node rs n i
   find [] n z = absurd (omega arith)
   find (r ∷ rs) n z = go (find rs (suc n)) (operates r) refl (eqb p (getD es n 0)) refl
     where
@@ -168,7 +168,7 @@ module _ (f : Formula) (p : ℕ) where
   node-operates e = at-spots e .works
 
   -- It stands at p.
-  pub node-stands : operations p 0 f ≡ 1 → getD (spots f) (nodeAt f p) 0 ≡ p
+  node-stands : operations p 0 f ≡ 1 → getD (spots f) (nodeAt f p) 0 ≡ p
   node-stands e = ap (λ k. getD (spots f) k 0) (sym (zero-add (nodeAt f p))) ∙ at-spots e .stands
 
 module _ (f : Formula) (p : ℕ) (o : Op) where

@@ -88,7 +88,7 @@ module _ (ups es : List ℕ) where
   two-sib o none (some b) l′ r′ n e p q = p
   two-sib o none none l′ r′ n e p q = (e, p, q)
 
-  pub rake-sib : (w : Work) (n : ℕ) → Sib w → Spots n (rakes w) → Sib (raked w n)
+  rake-sib : (w : Work) (n : ℕ) → Sib w → Spots n (rakes w) → Sib (raked w n)
   rake-sib (tip d) n s g = tt
   rake-sib (one d c) n s g = one-sib d (tipOf c) (raked c n) _ (rake-sib c n s (left (rakes c) _ n g))
   rake-sib (two o l r) n s g =
@@ -107,7 +107,7 @@ module _ (ups es : List ℕ) where
   compress-at (one u (two o l r)) n g = refl
   compress-at (two o l r) n g = ap (λ z. getD ups z 0) (compress-at l n (left (compresses l) _ n g))
 
-  pub compress-sib : (w : Work) (n : ℕ) → Sib w → Spots n (compresses w) → Sib (compressed w n)
+  compress-sib : (w : Work) (n : ℕ) → Sib w → Spots n (compresses w) → Sib (compressed w n)
   compress-sib (tip d) n s g = tt
   compress-sib (one u (tip d)) n s g = tt
   compress-sib (one u (one d c)) n s g = compress-sib c n s (left (compresses c) _ n g)

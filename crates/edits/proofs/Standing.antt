@@ -20,19 +20,19 @@ use Rattle.edits.proofs.Spots.{Placed}
 
 -- from n on the list reads ys
 module _ (xs : List ℕ) where
-  abbrev pub Reads : ℕ → List ℕ → Type 0
+  abbrev Reads : ℕ → List ℕ → Type 0
   Reads n [] = Unit {0}
   Reads n (y ∷ ys) = (getD xs n 0 ≡ y) × Reads (suc n) ys
 
-  pub reads-left : (ys zs : List ℕ) (n : ℕ) → Reads n (ys ++ zs) → Reads n ys
+  reads-left : (ys zs : List ℕ) (n : ℕ) → Reads n (ys ++ zs) → Reads n ys
   reads-left [] zs n h = tt
   reads-left (y ∷ ys) zs n h = (h .0, reads-left ys zs (suc n) (h .1))
 
-  pub reads-right : (ys zs : List ℕ) (n : ℕ) → Reads n (ys ++ zs) → Reads (n + length ys) zs
+  reads-right : (ys zs : List ℕ) (n : ℕ) → Reads n (ys ++ zs) → Reads (n + length ys) zs
   reads-right [] zs n h = rw add-zero h
   reads-right (y ∷ ys) zs n h = rw (add-suc, ← suc-add) (reads-right ys zs (suc n) (h .1))
 
-  pub reads-same : (ys : List ℕ) (n : ℕ) → ((i : ℕ) → i < length ys → getD xs (n + i) 0 ≡ getD ys i 0) → Reads n ys
+  reads-same : (ys : List ℕ) (n : ℕ) → ((i : ℕ) → i < length ys → getD xs (n + i) 0 ≡ getD ys i 0) → Reads n ys
   reads-same [] n h = tt
   reads-same (y ∷ ys) n h = (
     ap (λ k. getD xs k 0) (sym (add-zero n)) ∙ h 0 (omega arith),
@@ -99,13 +99,13 @@ module _ (ups : List ℕ) where
   both [] n p q = tt
   both (r ∷ rs) n p q = (p .0 (q .0), both rs (suc n) (p .1) (q .1))
 
-  pub made-steady : (f : Formula) → Each (Steady (spot ups)) (leaves f) (allMade (enough f) (planted f 0) (leaves f))
+  made-steady : (f : Formula) → Each (Steady (spot ups)) (leaves f) (allMade (enough f) (planted f 0) (leaves f))
   made-steady f =
       both (allMade (enough f) (planted f 0) (leaves f)) (leaves f)
       (made-each (Hangs ups) hangs f) (made-none (enough f) (planted f 0) (leaves f) _)
 
 -- lists that begin as they should, and are worked out from there
-pub placed : (ups xs : List ℕ) (f : Formula) → Reads ups 0 (upsOf 0 0 f) → xs ≡ leafSpots 0 f
+placed : (ups xs : List ℕ) (f : Formula) → Reads ups 0 (upsOf 0 0 f) → xs ≡ leafSpots 0 f
     → Placed ups (worked (spot ups) xs (allMade (enough f) (planted f 0) (leaves f))) f
 placed ups xs f u e =
     let rs = allMade (enough f) (planted f 0) (leaves f) in

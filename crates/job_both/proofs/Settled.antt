@@ -1,7 +1,7 @@
 -- What the promise to two foundries settles: two results that meet it are equal; each foundry gets what its list alone would, whatever the other's are;
 -- which refusals go to both, and which to one alone.
 use Prim.Native.Nat.{ℕ}
-use mathlib.Core.Path.{_≡_, refl, ap, ap₂, _∙_}
+use mathlib.Core.Path.{_≡_, refl, ap₂}
 use mathlib.Core.Bool.{Bool, true, false}
 use mathlib.Core.List.{List}
 use mathlib.Core.Logic.{_⊎_, inl, inr, ⊎-elim}
@@ -10,44 +10,36 @@ use lib.ListN.{length}
 use Rattle.outcome.specs.Outcome.{Outcome, given, refused, unfit}
 use Rattle.outcome.specs.Numbered.{Numbered}
 use Rattle.outcome.proofs.NumberedLaws.{given-numbered, asks, room-asks, bind-numbered}
+use Rattle.outcome.proofs.Settling.{OnSheets, on-sheets}
 use Rattle.sheet.specs.Sheet.{Sheets, Sheet}
 use Rattle.accepting.specs.Accepting.{accepted}
 use Rattle.accepting.proofs.Accepted.{accepted-numbered}
 use Rattle.toggles.specs.Toggles.{Answers}
 use Rattle.job_run.specs.Running.{toggling, running}
-use Rattle.job_run.specs.Ran.{Ran}
+use Rattle.job_run.specs.Ran.{ranOf, Ran}
 use Rattle.job_run.specs.declared.RunAnswer.{RunAnswer}
 use Rattle.job_run.specs.declared.RunAnswer.the-variants as answer
-use Rattle.job_run.proofs.Settled.{run-unique, run-refusal, run-refuses, run-unfit, run-unfits}
+use Rattle.job_run.proofs.Settled.{ranOf-same}
 use Rattle.order_mixing.specs.Order.{mixes}
 use Rattle.job_both.specs.Sharing.{sharing, serving}
-use Rattle.job_both.specs.Shared.{Lists, lists, Served, Shared}
+use Rattle.job_both.specs.Shared.{Lists, Served, Shared}
 use Rattle.job_both.specs.Alone.{listAlone}
 use Rattle.job_both.specs.declared.BothAnswer.{BothAnswer}
 
-pub lists-same : (a b : Lists) → a .roots ≡ b .roots → a .counts ≡ b .counts → a .labels ≡ b .labels → a ≡ b
-lists-same a b p q r = ap₂ (λ x y. lists x y (a .labels)) p q ∙ ap (lists (b .roots) (b .counts)) r
-
--- a run's answer and lists are settled by its outcome
-ran-same : (o : Outcome Answers) (lent : Lists) (r q : RunAnswer) (after other : Lists)
-    → Ran o (lent .roots) (lent .counts) (lent .labels) r (after .roots) (after .counts) (after .labels)
-    → Ran o (lent .roots) (lent .counts) (lent .labels) q (other .roots) (other .counts) (other .labels) → (r ≡ q) × (after ≡ other)
-ran-same o lent r q after other a b =
-    let u = run-unique o (lent .roots) (lent .counts) (lent .labels) r q (after .roots) (after .counts) (after .labels) (other .roots) (other .counts) (other .labels) a b in
-    (u .0, lists-same after other (u .1) (u .2) (u .3))
+-- what a toggle run's promise settles, of the lists of one foundry
+ran : OnSheets (λ o (lent : Lists) r (after : Lists). Ran o (lent .roots) (lent .counts) (lent .labels) r (after .roots) (after .counts) (after .labels)) answer.Refused answer.Unfit
+ran =
+    on-sheets ranOf (λ v. length (v .final)) ranOf-same (λ k p. (refl, refl)) (λ o lent r after a. a .answer)
+    (λ o lent r after a i. record { roots = a .lists .roots-list i; counts = a .lists .counts-list i; labels = a .lists .labels-list i }) (λ k p lent. (refl, refl))
 
 -- ---- Two results that meet the promise are equal
-
-served-unique : (o : Outcome Sheet) (toggles : List ℕ) (lent : Lists) (r q : RunAnswer) (after other : Lists)
-    → Served o toggles lent r after → Served o toggles lent q other → (r ≡ q) × (after ≡ other)
-served-unique o toggles lent r q after other a b = ran-same _ lent r q after other (a .ran) (b .ran)
 
 pub both-unique : (c : Sheets) (order first second : List ℕ) (lent₁ lent₂ : Lists) (r q : BothAnswer) (after₁ after₂ other₁ other₂ : Lists)
     → Shared c order first second lent₁ lent₂ r after₁ after₂ → Shared c order first second lent₁ lent₂ q other₁ other₂
     → (r ≡ q) × (after₁ ≡ other₁) × (after₂ ≡ other₂)
 both-unique c order first second lent₁ lent₂ r q after₁ after₂ other₁ other₂ a b =
-    let u = served-unique _ first lent₁ (r .first) (q .first) after₁ other₁ (a .to-first) (b .to-first) in
-    let v = served-unique _ second lent₂ (r .second) (q .second) after₂ other₂ (a .to-second) (b .to-second) in
+    let u = ran .own .unique _ lent₁ (r .first) (q .first) after₁ other₁ (a .to-first .ran) (b .to-first .ran) in
+    let v = ran .own .unique _ lent₂ (r .second) (q .second) after₂ other₂ (a .to-second .ran) (b .to-second .ran) in
     (ap₂ (λ x y. record { first = x; second = y }) (u .0) (v .0), u .1, v .1)
 
 -- ---- Each gets exactly what its list alone would, unless refused 13
@@ -68,7 +60,7 @@ module _ (c : Sheets) (order first second toggles : List ℕ) (lent : Lists) whe
       → Ran (listAlone c toggles lent) (lent .roots) (lent .counts) (lent .labels) r (after .roots) (after .counts) (after .labels)
   served-alone r after s not-13 =
       ⊎-elim (λ e. rw e at (s .ran))
-      (λ e. absurd (not-13 (run-refuses got (lent .roots) (lent .counts) (lent .labels) 13 0 r (after .roots) (after .counts) (after .labels) (s .ran) e)))
+      (λ e. absurd (not-13 (ran .own .refuses got lent 13 0 r after (s .ran) e)))
       (served-or-13 (accepted c) refl (mixes order (length first) (length second)) refl)
 
 module _ (c : Sheets) (order first second : List ℕ) (lent₁ lent₂ : Lists) (r : BothAnswer) (after₁ after₂ : Lists) (s : Shared c order first second lent₁ lent₂ r after₁ after₂) where
@@ -87,14 +79,14 @@ module _ (c : Sheets) (toggles : List ℕ) (lent : Lists) where
       → (order′ second′ : List ℕ) (lent₂′ : Lists) (q : BothAnswer) (other other₂ : Lists) → Shared c order′ toggles second′ lent lent₂′ q other other₂
       → (r .first ≡ answer.Refused 13 0 → ⊥) → (q .first ≡ answer.Refused 13 0 → ⊥) → (r .first ≡ q .first) × (after ≡ other)
   first-isolated order second lent₂ r after after₂ a order′ second′ lent₂′ q other other₂ b i j =
-      ran-same (listAlone c toggles lent) lent (r .first) (q .first) after other
+      ran .own .unique (listAlone c toggles lent) lent (r .first) (q .first) after other
       (first-alone c order toggles second lent lent₂ r after after₂ a i) (first-alone c order′ toggles second′ lent lent₂′ q other other₂ b j)
 
   pub second-isolated : (order first : List ℕ) (lent₁ : Lists) (r : BothAnswer) (after₁ after : Lists) → Shared c order first toggles lent₁ lent r after₁ after
       → (order′ first′ : List ℕ) (lent₁′ : Lists) (q : BothAnswer) (other₁ other : Lists) → Shared c order′ first′ toggles lent₁′ lent q other₁ other
       → (r .second ≡ answer.Refused 13 0 → ⊥) → (q .second ≡ answer.Refused 13 0 → ⊥) → (r .second ≡ q .second) × (after ≡ other)
   second-isolated order first lent₁ r after₁ after a order′ first′ lent₁′ q other₁ other b i j =
-      ran-same (listAlone c toggles lent) lent (r .second) (q .second) after other
+      ran .own .unique (listAlone c toggles lent) lent (r .second) (q .second) after other
       (second-alone c order first toggles lent₁ lent r after₁ after a i) (second-alone c order′ first′ toggles lent₁′ lent q other₁ other b j)
 
 -- ---- Which refusals go to both
@@ -103,8 +95,8 @@ module _ (c : Sheets) (order first second : List ℕ) (lent₁ lent₂ : Lists) 
   to-each : (number place : ℕ) → ((toggles : List ℕ) (lent : Lists) → got c order first second toggles lent ≡ refused number place)
       → (r .first ≡ answer.Refused number place) × (r .second ≡ answer.Refused number place)
   to-each number place is = (
-    run-refuses _ (lent₁ .roots) (lent₁ .counts) (lent₁ .labels) number place (r .first) (after₁ .roots) (after₁ .counts) (after₁ .labels) (s .to-first .ran) (is first lent₁),
-    run-refuses _ (lent₂ .roots) (lent₂ .counts) (lent₂ .labels) number place (r .second) (after₂ .roots) (after₂ .counts) (after₂ .labels) (s .to-second .ran) (is second lent₂),
+    ran .own .refuses _ lent₁ number place (r .first) after₁ (s .to-first .ran) (is first lent₁),
+    ran .own .refuses _ lent₂ number place (r .second) after₂ (s .to-second .ran) (is second lent₂),
   )
 
   -- 1 to 8 and 17, of the customer's sheet
@@ -116,8 +108,8 @@ module _ (c : Sheets) (order first second : List ℕ) (lent₁ lent₂ : Lists) 
   pub both-sheet-unfit : (number place : ℕ) → accepted c ≡ unfit number place → (r .first ≡ answer.Unfit number place) × (r .second ≡ answer.Unfit number place)
   unfolding sharing serving
   both-sheet-unfit number place is = (
-    run-unfits _ (lent₁ .roots) (lent₁ .counts) (lent₁ .labels) number place (r .first) (after₁ .roots) (after₁ .counts) (after₁ .labels) (s .to-first .ran) (rw is),
-    run-unfits _ (lent₂ .roots) (lent₂ .counts) (lent₂ .labels) number place (r .second) (after₂ .roots) (after₂ .counts) (after₂ .labels) (s .to-second .ran) (rw is),
+    ran .fittings .refuses _ lent₁ number place (r .first) after₁ (s .to-first .ran) (rw is),
+    ran .fittings .refuses _ lent₂ number place (r .second) after₂ (s .to-second .ran) (rw is),
   )
 
   -- 13, whatever the toggles and the lists are
@@ -130,22 +122,18 @@ module _ (c : Sheets) (order first second : List ℕ) (lent₁ lent₂ : Lists) 
 module _ (o : Outcome Sheet) (toggles : List ℕ) (lent : Lists) (number place : ℕ) (r : RunAnswer) (after : Lists) (s : Served o toggles lent r after) where
   pub served-refusal : r ≡ answer.Refused number place
       → (serving o toggles (length (lent .roots)) (length (lent .counts)) (length (lent .labels)) ≡ refused number place) × (after ≡ lent)
-  served-refusal is =
-      let u = run-refusal _ (lent .roots) (lent .counts) (lent .labels) number place r (after .roots) (after .counts) (after .labels) (s .ran) is in
-      (u .0, lists-same after lent (u .1) (u .2) (u .3))
+  served-refusal = ran .own .refusal _ lent number place r after (s .ran)
 
   pub served-refuses : serving o toggles (length (lent .roots)) (length (lent .counts)) (length (lent .labels)) ≡ refused number place → r ≡ answer.Refused number place
-  served-refuses = run-refuses _ (lent .roots) (lent .counts) (lent .labels) number place r (after .roots) (after .counts) (after .labels) (s .ran)
+  served-refuses = ran .own .refuses _ lent number place r after (s .ran)
 
   -- and of the fittings sheet
   pub served-unfit : r ≡ answer.Unfit number place
       → (serving o toggles (length (lent .roots)) (length (lent .counts)) (length (lent .labels)) ≡ unfit number place) × (after ≡ lent)
-  served-unfit is =
-      let u = run-unfit _ (lent .roots) (lent .counts) (lent .labels) number place r (after .roots) (after .counts) (after .labels) (s .ran) is in
-      (u .0, lists-same after lent (u .1) (u .2) (u .3))
+  served-unfit = ran .fittings .refusal _ lent number place r after (s .ran)
 
   pub served-unfits : serving o toggles (length (lent .roots)) (length (lent .counts)) (length (lent .labels)) ≡ unfit number place → r ≡ answer.Unfit number place
-  served-unfits = run-unfits _ (lent .roots) (lent .counts) (lent .labels) number place r (after .roots) (after .counts) (after .labels) (s .ran)
+  served-unfits = ran .fittings .refuses _ lent number place r after (s .ran)
 
 sharing-numbered : (c : Sheets) (order first second : List ℕ) → Numbered (sharing c order first second)
 unfolding sharing

@@ -1,13 +1,13 @@
 -- What the promise of building settles: two results that meet it are equal; it refuses exactly when the rules say, and then writes nothing.
 use Prim.Native.Nat.{ℕ}
-use mathlib.Core.Path.{_≡_, refl, sym, ap, _∙_}
-use mathlib.Core.List.{List}
+use mathlib.Core.Path.{_≡_, refl}
 use lib.ListN.{length}
-use Rattle.outcome.specs.Outcome.{Outcome, given, refused, unfit, room, part}
+use Rattle.outcome.specs.Outcome.{given, refused, unfit, room}
 use Rattle.outcome.specs.Numbered.{Numbered}
-use Rattle.outcome.proofs.Questions.{part-refused, part-unfit, then-given, bind-given, given-same}
+use Rattle.outcome.specs.Settled.{Unique, Refusal, Refuses, three}
+use Rattle.outcome.proofs.Questions.{then-given, bind-given, given-same}
 use Rattle.outcome.proofs.NumberedLaws.{given-numbered, room-asks, bind-numbered}
-use Rattle.outcome.proofs.Known.{known-by}
+use Rattle.outcome.proofs.Settling.{known-by, saying, OnSheets, on-sheets}
 use Rattle.contraction.specs.Rounds.{dwarf}
 use Rattle.sheet.specs.Sheet.{Sheets, Sheet}
 use Rattle.accepting.specs.Accepting.{accepted}
@@ -17,46 +17,37 @@ use Rattle.job_build.specs.Built.{builtOf, Built}
 use Rattle.job_build.specs.declared.BuildAnswer.{BuildAnswer}
 use Rattle.job_build.specs.declared.BuildAnswer.the-variants as answer
 
-pub builtOf-same : (r q : BuildAnswer) → builtOf r ≡ builtOf q → r ≡ q
-builtOf-same = known-by builtOf back same
+builtOf-same : (r q : BuildAnswer) → builtOf r ≡ builtOf q → r ≡ q
+builtOf-same = known-by builtOf (saying of-given answer.Refused answer.Unfit) known
   where
-    back : Outcome Summary → BuildAnswer
-    back (given (summary leaves nodes rounds height)) = answer.Built leaves nodes rounds height
-    back (refused number place) = answer.Refused number place
-    back (unfit number place) = answer.Unfit number place
+    of-given : Summary → BuildAnswer
+    of-given (summary leaves nodes rounds height) = answer.Built leaves nodes rounds height
 
-    same : (r : BuildAnswer) → back (builtOf r) ≡ r
-    same (answer.Built leaves nodes rounds height) = refl
-    same (answer.Refused number place) = refl
-    same (answer.Unfit number place) = refl
+    known : (r : BuildAnswer) → saying of-given answer.Refused answer.Unfit (builtOf r) ≡ r
+    known (answer.Built leaves nodes rounds height) = refl
+    known (answer.Refused number place) = refl
+    known (answer.Unfit number place) = refl
 
-module _ (o : Outcome DwarfTree) (ks fs ss : List ℕ) where
-  pub build-unique : (r q : BuildAnswer) (ks₁ fs₁ ss₁ ks₂ fs₂ ss₂ : List ℕ) → Built o ks fs ss r ks₁ fs₁ ss₁ → Built o ks fs ss q ks₂ fs₂ ss₂
-      → (r ≡ q) × (ks₁ ≡ ks₂) × (fs₁ ≡ fs₂) × (ss₁ ≡ ss₂)
-  build-unique r q ks₁ fs₁ ss₁ ks₂ fs₂ ss₂ a b = (
-    builtOf-same r q (a .answer ∙ sym (b .answer)),
-    a .lists .kinds-list ∙ sym (b .lists .kinds-list),
-    a .lists .firsts-list ∙ sym (b .lists .firsts-list),
-    a .lists .seconds-list ∙ sym (b .lists .seconds-list),
-  )
+build-settled : OnSheets (three Built) answer.Refused answer.Unfit
+build-settled =
+    on-sheets builtOf summaryOf builtOf-same (λ k p. (refl, refl)) (λ o lent r after a. a .answer)
+    (λ o lent r after a i. (a .lists .kinds-list i, a .lists .firsts-list i, a .lists .seconds-list i)) (λ k p lent. (refl, refl))
 
-  module _ (number place : ℕ) (r : BuildAnswer) (ks′ fs′ ss′ : List ℕ) (b : Built o ks fs ss r ks′ fs′ ss′) where
-    pub build-refusal : r ≡ answer.Refused number place → (o ≡ refused number place) × (ks′ ≡ ks) × (fs′ ≡ fs) × (ss′ ≡ ss)
-    build-refusal is-refused =
-        let is = part-refused summaryOf o number place (sym (ap builtOf is-refused) ∙ b .answer) in
-        (is, rw is at (b .lists .kinds-list), rw is at (b .lists .firsts-list), rw is at (b .lists .seconds-list))
+pub build-unique : Unique (three Built)
+build-unique = build-settled .own .unique
 
-    pub build-refuses : o ≡ refused number place → r ≡ answer.Refused number place
-    build-refuses is = builtOf-same r (answer.Refused number place) (b .answer ∙ ap (part summaryOf) is)
+pub build-refusal : Refusal (three Built) refused answer.Refused
+build-refusal = build-settled .own .refusal
 
-    -- and of the fittings sheet
-    pub build-unfit : r ≡ answer.Unfit number place → (o ≡ unfit number place) × (ks′ ≡ ks) × (fs′ ≡ fs) × (ss′ ≡ ss)
-    build-unfit is-unfit =
-        let is = part-unfit summaryOf o number place (sym (ap builtOf is-unfit) ∙ b .answer) in
-        (is, rw is at (b .lists .kinds-list), rw is at (b .lists .firsts-list), rw is at (b .lists .seconds-list))
+pub build-refuses : Refuses (three Built) refused answer.Refused
+build-refuses = build-settled .own .refuses
 
-    pub build-unfits : o ≡ unfit number place → r ≡ answer.Unfit number place
-    build-unfits is = builtOf-same r (answer.Unfit number place) (b .answer ∙ ap (part summaryOf) is)
+-- and of the fittings sheet
+pub build-unfit : Refusal (three Built) unfit answer.Unfit
+build-unfit = build-settled .fittings .refusal
+
+pub build-unfits : Refuses (three Built) unfit answer.Unfit
+build-unfits = build-settled .fittings .refuses
 
 -- No refusal has number 0.
 pub build-numbered : (s : Sheets) (kinds firsts seconds : ℕ) → Numbered (building s kinds firsts seconds)

@@ -1,14 +1,16 @@
 -- What the promise of a toggle run with edits settles: two results that meet it are equal; it refuses exactly when the rules say, and then writes nothing.
 use Prim.Native.Nat.{ℕ}
-use mathlib.Core.Path.{_≡_, sym, ap, ap₂, _∙_}
+use mathlib.Core.Path.{_≡_, refl}
 use mathlib.Core.List.{List}
 use lib.Dec.{eqb, lit<}
 use mathlib.Core.Bool.{_&&_}
 use lib.ListN.{length}
-use Rattle.outcome.specs.Outcome.{Outcome, given, refused, unfit, room, part}
+use Rattle.outcome.specs.Outcome.{given, refused, unfit, room}
 use Rattle.outcome.specs.Numbered.{Numbered}
-use Rattle.outcome.proofs.Questions.{need-given, part-refused, part-unfit, then-given, bind-given, given-same}
+use Rattle.outcome.specs.Settled.{Unique, Refusal, Refuses}
+use Rattle.outcome.proofs.Questions.{need-given, then-given, bind-given, given-same}
 use Rattle.outcome.proofs.NumberedLaws.{given-numbered, asks, room-asks, bind-numbered}
+use Rattle.outcome.proofs.Settling.{OnSheets, on-sheets}
 use Rattle.formula.specs.Formula.{postfix}
 use Rattle.contraction.specs.Rounds.{dwarf}
 use Rattle.sheet.specs.Sheet.{Sheets, Sheet}
@@ -19,45 +21,31 @@ use Rattle.edit_checking.specs.Fits.{firstUnfit}
 use Rattle.edit_moments.specs.Edits.{editsOf}
 use Rattle.edit_mix.specs.Edits.{Answers, answersOf}
 use Rattle.job_run.specs.Ran.{ranOf}
-use Rattle.job_run.specs.declared.RunAnswer.{RunAnswer}
 use Rattle.job_run.specs.declared.RunAnswer.the-variants as answer
 use Rattle.job_run.proofs.Settled.{ranOf-same}
-use Rattle.job_edit.specs.Editing.{Lists, lists, lending, editing, runningEdited}
-use Rattle.job_edit.specs.Edited.{EditedLists, Edited}
+use Rattle.job_edit.specs.Editing.{Lists, lending, editing, runningEdited}
+use Rattle.job_edit.specs.Edited.{Edited}
 
-pub lists-same : (a b : Lists) → a .roots ≡ b .roots → a .counts ≡ b .counts → a .labels ≡ b .labels → a .edit-counts ≡ b .edit-counts → a ≡ b
-lists-same a b p q r s = ap₂ (λ x y. lists x y (a .labels) (a .edit-counts)) p q ∙ ap₂ (lists (b .roots) (b .counts)) r s
+edit-settled : OnSheets Edited answer.Refused answer.Unfit
+edit-settled =
+    on-sheets ranOf (λ v. length (v .final)) ranOf-same (λ k p. (refl, refl)) (λ o lent r after a. a .answer)
+    (λ o lent r after a i. record { roots = a .lists .roots-list i; counts = a .lists .counts-list i; labels = a .lists .labels-list i; edit-counts = a .lists .edit-counts-list i }) (λ k p lent. (refl, refl))
 
-pub settled-lists : (o : Outcome Answers) (lent after other : Lists) → EditedLists o lent after → EditedLists o lent other → after ≡ other
-settled-lists o lent after other a b =
-    lists-same after other (a .roots-list ∙ sym (b .roots-list)) (a .counts-list ∙ sym (b .counts-list)) (a .labels-list ∙ sym (b .labels-list))
-    (a .edit-counts-list ∙ sym (b .edit-counts-list))
+pub edit-unique : Unique Edited
+edit-unique = edit-settled .own .unique
 
-module _ (o : Outcome Answers) (lent : Lists) where
-  pub edit-unique : (r q : RunAnswer) (after other : Lists) → Edited o lent r after → Edited o lent q other → (r ≡ q) × (after ≡ other)
-  edit-unique r q after other a b = (ranOf-same r q (a .answer ∙ sym (b .answer)), settled-lists o lent after other (a .lists) (b .lists))
+pub edit-refusal : Refusal Edited refused answer.Refused
+edit-refusal = edit-settled .own .refusal
 
-  module _ (number place : ℕ) (r : RunAnswer) (after : Lists) (a : Edited o lent r after) where
-    pub edit-refusal : r ≡ answer.Refused number place → (o ≡ refused number place) × (after ≡ lent)
-    edit-refusal is-refused =
-        let is = part-refused (λ x. length (x .final)) o number place (sym (ap ranOf is-refused) ∙ a .answer) in (
-          is,
-          lists-same after lent (rw is at (a .lists .roots-list)) (rw is at (a .lists .counts-list)) (rw is at (a .lists .labels-list)) (rw is at (a .lists .edit-counts-list)),
-        )
+pub edit-refuses : Refuses Edited refused answer.Refused
+edit-refuses = edit-settled .own .refuses
 
-    pub edit-refuses : o ≡ refused number place → r ≡ answer.Refused number place
-    edit-refuses is = ranOf-same r (answer.Refused number place) (a .answer ∙ ap (part (λ x. length (x .final))) is)
+-- and of the fittings sheet
+pub edit-unfit : Refusal Edited unfit answer.Unfit
+edit-unfit = edit-settled .fittings .refusal
 
-    -- and of the fittings sheet
-    pub edit-unfit : r ≡ answer.Unfit number place → (o ≡ unfit number place) × (after ≡ lent)
-    edit-unfit is-unfit =
-        let is = part-unfit (λ x. length (x .final)) o number place (sym (ap ranOf is-unfit) ∙ a .answer) in (
-          is,
-          lists-same after lent (rw is at (a .lists .roots-list)) (rw is at (a .lists .counts-list)) (rw is at (a .lists .labels-list)) (rw is at (a .lists .edit-counts-list)),
-        )
-
-    pub edit-unfits : o ≡ unfit number place → r ≡ answer.Unfit number place
-    edit-unfits is = ranOf-same r (answer.Unfit number place) (a .answer ∙ ap (part (λ x. length (x .final))) is)
+pub edit-unfits : Refuses Edited unfit answer.Unfit
+edit-unfits = edit-settled .fittings .refuses
 
 -- No refusal has number 0.
 pub edit-numbered : (s : Sheets) (toggles ms ps cs : List ℕ) (lent : Lists) → Numbered (runningEdited s toggles ms ps cs lent)

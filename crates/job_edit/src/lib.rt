@@ -1,6 +1,7 @@
 // The job of a toggle run with edits: a root and a count for each toggle, the labels after the last, and a count for each edit, given to the caller's lists.
 use accepting::Prepared;
 use job_run::RunAnswer;
+use labels::Size;
 use tree_dwarf::Figures;
 ghost use Rattle.sheet.specs.Sheet.{sheetsOf};
 ghost use Rattle.job_edit.specs.Editing.{lists, runningEdited};
@@ -79,8 +80,11 @@ fn lend(
         (lists (now (roots .entry)) (now (counts .entry)) (now (labels .entry)) (now («edit_counts» .entry))) r
         (lists (now (roots .exit)) (now (counts .exit)) (now (labels .exit)) (now («edit_counts» .exit))) ⌝ }
 {
-    let leaves = built.leaves;
     let nodes = built.nodes;
+    let size = Size {
+        leaves: built.leaves,
+        nodes,
+    };
     if roots.len() < toggles.len() {
         return RunAnswer::Refused {
             number: 9,
@@ -111,8 +115,7 @@ fn lend(
         kinds,
         firsts,
         seconds,
-        leaves,
-        nodes,
+        size,
         toggles,
         moments,
         positions,

@@ -7,7 +7,7 @@ use Rattle.outcome.specs.Outcome.{given, refused, unfit}
 use Rattle.formula.specs.Formula.{Over}
 use Rattle.sheet.specs.Sheet.{Sheets, Sheet}
 use Rattle.lines.specs.Lines.{LineLists}
-use Rattle.line_judging.specs.Judging.{TheirLists, right, wrongAt, judgement}
+use Rattle.line_opinion.specs.Judging.{TheirLists, right, wrongAt, judgement}
 use Rattle.line_judge.specs.Blocks.{answered, JudgeDone}
 use Rattle.line_judge.specs.declared.TheirAnswer.{TheirAnswer}
 use Rattle.line_judge.specs.declared.TheirAnswer.the-variants as their

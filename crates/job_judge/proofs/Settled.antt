@@ -2,36 +2,34 @@
 use Prim.Native.Nat.{ℕ}
 use mathlib.Core.Path.{_≡_, refl, sym, ap, _∙_}
 use lib.ListN.{length}
-use Rattle.outcome.specs.Outcome.{Outcome, given, refused, unfit, _>>_}
+use Rattle.outcome.specs.Outcome.{Outcome, given, refused, unfit}
 use Rattle.outcome.specs.Numbered.{Numbered}
 use Rattle.outcome.proofs.Questions.{bind-given}
 use Rattle.outcome.proofs.NumberedLaws.{bind-numbered}
-use Rattle.outcome.proofs.Known.{known-by}
+use Rattle.outcome.proofs.Settling.{known-by, saying}
 use Rattle.sheet.specs.Sheet.{Sheets, Sheet}
 use Rattle.accepting.specs.Accepting.{accepted}
 use Rattle.accepting.proofs.Accepted.{accepted-numbered}
 use Rattle.lines.specs.Lines.{LineLists}
-use Rattle.line_judging.specs.Judging.{TheirLists, Opinion, right, wrongAt, judgement}
-use Rattle.line_judging.proofs.Numbered.{judgement-numbered}
+use Rattle.line_opinion.specs.Judging.{TheirLists, Opinion, right, wrongAt, judgement}
+use Rattle.line_opinion.proofs.Numbered.{judgement-numbered}
 use Rattle.job_judge.specs.Judging.{judging}
 use Rattle.job_judge.specs.Judged.{judgedOf}
 use Rattle.job_judge.specs.declared.JudgeAnswer.{JudgeAnswer}
 use Rattle.job_judge.specs.declared.JudgeAnswer.the-variants as answer
 
 judgedOf-same : (r q : JudgeAnswer) → judgedOf r ≡ judgedOf q → r ≡ q
-judgedOf-same = known-by judgedOf back same
+judgedOf-same = known-by judgedOf (saying of-given answer.Refused answer.Unfit) known
   where
-    back : Outcome Opinion → JudgeAnswer
-    back (given right) = answer.Right
-    back (given (wrongAt index)) = answer.Wrong index
-    back (refused number place) = answer.Refused number place
-    back (unfit number place) = answer.Unfit number place
+    of-given : Opinion → JudgeAnswer
+    of-given right = answer.Right
+    of-given (wrongAt index) = answer.Wrong index
 
-    same : (r : JudgeAnswer) → back (judgedOf r) ≡ r
-    same answer.Right = refl
-    same (answer.Wrong index) = refl
-    same (answer.Refused number place) = refl
-    same (answer.Unfit number place) = refl
+    known : (r : JudgeAnswer) → saying of-given answer.Refused answer.Unfit (judgedOf r) ≡ r
+    known answer.Right = refl
+    known (answer.Wrong index) = refl
+    known (answer.Refused number place) = refl
+    known (answer.Unfit number place) = refl
 
 module _ (o : Outcome Opinion) where
   pub judge-unique : (r q : JudgeAnswer) → judgedOf r ≡ o → judgedOf q ≡ o → r ≡ q

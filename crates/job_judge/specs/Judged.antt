@@ -1,6 +1,6 @@
 -- The promise of judging: the paper's values for each case of the answer. No list is lent.
 use Rattle.outcome.specs.Outcome.{Outcome, given, refused, unfit}
-use Rattle.line_judging.specs.Judging.{Opinion, right, wrongAt}
+use Rattle.line_opinion.specs.Judging.{Opinion, right, wrongAt}
 use Rattle.job_judge.specs.declared.JudgeAnswer.{JudgeAnswer}
 use Rattle.job_judge.specs.declared.JudgeAnswer.the-variants as answer
 

@@ -4,7 +4,7 @@ use line_judge::TheirAnswer;
 ghost use mathlib.Core.Path.{_≡_};
 ghost use Rattle.lines.specs.Lines.{lineLists};
 ghost use Rattle.sheet.specs.Sheet.{sheetsOf};
-ghost use Rattle.line_judging.specs.Judging.{theirLists};
+ghost use Rattle.line_opinion.specs.Judging.{theirLists};
 ghost use Rattle.job_judge.specs.Judging.{judging};
 ghost use Rattle.job_judge.specs.Judged.{judgedOf};
 

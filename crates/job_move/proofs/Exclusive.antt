@@ -1,18 +1,18 @@
 -- 0xFFF3 among codes: found by one pass over them, and the same in either order.
-use Prim.Native.Nat.{ℕ, suc, _+_, _≤_, _<_}
+use Prim.Native.Nat.{ℕ, suc, _+_, _^_, _≤_, _<_}
 use native.Mathlib.Omega.{arith}
 use native.Mathlib.Numerals.{add-one}
 use mathlib.Core.Path.{_≡_, refl, sym, ap, _∙_}
 use mathlib.Core.Bool.{Bool, true, false, cond, _||_}
 use mathlib.Core.List.{List, [], _∷_, _++_}
 use lib.ListN.{length, getD, take, drop, drop-of-length-le}
-use lib.Seq.{getD-take, drop-cons, length-take-le}
+use lib.Seq.{take-suc, getD-take, drop-cons, length-take-le}
 use lib.Dec.{ltb, eqb}
 use borrow.Author.Tests.{lt-ltb, le-ltb, ltb-false, eq-eqb, ne-eqb}
 use Rattle.formula.specs.Formula.{exclusive, code, Formula, leaf, node, postfix, prefix}
 use Rattle.sheet.specs.Sheet.{codesIn}
 use Rattle.job_move.specs.Moving.{hasExclusive, beforeExclusive}
-use Rattle.job_move.specs.Putting.{firstOne}
+use Rattle.job_move.specs.Putting.{oneExclusive, manyExclusive, Among, firstOne}
 
 -- ---- it is among codes exactly if not all of them stand before it
 
@@ -80,6 +80,61 @@ has-either edition f = by (eqb edition 1)
     by : (b : Bool) → hasExclusive (cond b (postfix f) (prefix f)) ≡ hasExclusive (postfix f)
     by true = refl
     by false = has-order f
+
+-- ---- how many they are
+
+many-append : (xs : List ℕ) (c : ℕ) → manyExclusive (xs ++ (c ∷ [])) ≡ manyExclusive xs + oneExclusive c
+unfolding manyExclusive
+many-append [] c = omega arith
+many-append (x ∷ xs) c = omega (arith, many-append xs c)
+
+-- none of them are: all stand before it
+before-by : (cs : List ℕ) (b : Bool) → (manyExclusive cs ≡ 0 → beforeExclusive cs ≡ length cs) → cond b 1 0 + manyExclusive cs ≡ 0
+    → elim b [ true ↦ 0 | false ↦ suc (beforeExclusive cs) ] ≡ suc (length cs)
+before-by cs true ih e = absurd (omega (arith, e))
+before-by cs false ih e = ap suc (ih (omega (arith, e)))
+
+before-none : (cs : List ℕ) → manyExclusive cs ≡ 0 → beforeExclusive cs ≡ length cs
+unfolding manyExclusive beforeExclusive
+before-none [] e = refl
+before-none (c ∷ cs) e = before-by cs (eqb c (code exclusive)) (before-none cs) e
+
+pub none-before : (codes : List ℕ) (n many : ℕ) → n ≤ 2048 → length codes ≡ 2048 → Among codes n many → many ≡ 0 → n ≡ beforeExclusive (take n codes)
+none-before codes n many few sized a e = sym (before-none (take n codes) (sym (a .are) ∙ e) ∙ length-take-le n codes (omega arith))
+
+pub counted-one : (c : ℕ) → c ≡ 0xFFF3 → 1 ≡ oneExclusive c
+counted-one c e = rw (eq-eqb c 0xFFF3 e)
+
+pub counted-other : (c : ℕ) → (c ≡ 0xFFF3 → ⊥) → 0 ≡ oneExclusive c
+counted-other c e = rw (ne-eqb c 0xFFF3 e)
+
+one-most : (b : Bool) → cond b 1 0 ≤ 1
+one-most true = omega arith
+one-most false = omega arith
+
+-- So many of the first i codes are counted.
+pub record Counted (codes : List ℕ) (i many : ℕ) : Type 0 where
+  pub among : Among codes i many
+  pub most : many ≤ i
+
+pub counted-none : (codes : List ℕ) → Counted codes 0 0
+unfolding manyExclusive
+counted-none codes = record { among = record { are = refl }; most = omega arith }
+
+module _ (codes : List ℕ) (n i many c one : ℕ) (so : Counted codes i many) (is : c ≡ getD codes i 0) (e : one ≡ oneExclusive c) (more : i < n) (few : n ≤ 2048) where
+  pub counted-fits : many + one < 2 ^ 16
+  counted-fits = omega (arith, so .most, e, one-most (eqb c (code exclusive)))
+
+  pub counted-more : length codes ≡ 2048 → Counted codes (i + 1) (many + one)
+  counted-more sized =
+      let t : take (i + 1) codes ≡ take i codes ++ (c ∷ []) = ap (λ (k : ℕ). take k codes) (add-one i) ∙ take-suc codes i 0 (omega arith) ∙ ap (λ (x : ℕ). take i codes ++ (x ∷ [])) (sym is) in
+      record {
+        among = record { are = omega (arith, so .among .are, e, many-append (take i codes) c) ∙ ap manyExclusive (sym t) };
+        most = omega (arith, so .most, e, one-most (eqb c (code exclusive)));
+      }
+
+pub counted-all : (codes : List ℕ) (n i many : ℕ) → Counted codes i many → i ≤ n → n ≤ i → Among codes n many
+counted-all codes n i many so l h = let e : i ≡ n = omega arith in rw (← e) (so .among)
 
 -- ---- one code more
 

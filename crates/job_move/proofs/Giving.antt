@@ -101,29 +101,17 @@ module _ (s codes : List ℕ) (n : ℕ) (lent : List ℕ) (m : Movable s codes n
   held : Held s codes n (m .sheet)
   held = m .held
 
-  pub twice-fits : n ≤ 2047
-  twice-fits = held .stand .few
-
   pub codes-enough : 2 * n ≤ length s
   codes-enough = enough s codes n (m .sheet) held
 
-  pub four-there : 4 < length s
-  four-there = omega (arith, eight s codes n (m .sheet) held, first-is s codes n (m .sheet) held)
-
-  pub first-within : length s - 2 * n ≤ length s
+  first-within : length s - 2 * n ≤ length s
   first-within = omega arith
 
-  pub first-room : length s - 2 * n ≤ length lent
+  first-room : length s - 2 * n ≤ length lent
   first-room = omega (arith, m .room)
 
   pub tag-there : 3 ≤ length s - 2 * n
   tag-there = omega (arith, eight s codes n (m .sheet) held, first-is s codes n (m .sheet) held)
-
-  pub edition-three : getD s 4 0 ≤ 3
-  edition-three = omega (arith, held .own .said, held .own .most-edition)
-
-  pub edition-five : getD s 4 0 ≤ 5
-  edition-five = omega (arith, edition-three)
 
   module _ (one : List ℕ) (copied : one ≡ filled (take (length s - 2 * n) s) lent) where
     one-long : length one ≡ length lent
@@ -131,9 +119,6 @@ module _ (s codes : List ℕ) (n : ℕ) (lent : List ℕ) (m : Movable s codes n
         let f = length-take-le (length s - 2 * n) s first-within in
         ap length copied ∙ length-append (take (length s - 2 * n) s) (drop (length (take (length s - 2 * n) s)) lent)
         ∙ rw (length-drop (length (take (length s - 2 * n) s)) lent, f) (omega (arith, first-room))
-
-    pub four-room : 4 < length one
-    four-room = omega (arith, one-long, four-there, m .room)
 
     pub tag-room : (x : ℕ) → length s - 2 * n - 3 < length (set one 4 x)
     tag-room x = omega (arith, length-set one 4 x, one-long, tag-there, first-room)

@@ -1,14 +1,13 @@
 -- What the promise of the move settles: two results that meet it are equal; it refuses exactly when the rules say, and then writes nothing.
 use Prim.Native.Nat.{ℕ}
-use mathlib.Core.Path.{_≡_, refl, sym, ap, _∙_}
-use mathlib.Core.List.{List}
+use mathlib.Core.Path.{_≡_, refl}
 use lib.ListN.{length}
 use lib.Dec.{lit<}
-use Rattle.outcome.specs.Outcome.{Outcome, given, refused, unfit, part}
+use Rattle.outcome.specs.Outcome.{refused, unfit}
 use Rattle.outcome.specs.Numbered.{Numbered}
-use Rattle.outcome.proofs.Questions.{part-refused, part-unfit}
+use Rattle.outcome.specs.Settled.{Unique, Refusal, Refuses}
 use Rattle.outcome.proofs.NumberedLaws.{given-numbered, asks, room-asks, bind-numbered}
-use Rattle.outcome.proofs.Known.{known-by}
+use Rattle.outcome.proofs.Settling.{known-by, saying, OnSheets, on-sheets}
 use Rattle.sheet.specs.Sheet.{Sheets, reading}
 use Rattle.sheet.proofs.Numbered.{reading-numbered}
 use Rattle.job_move.specs.Moving.{moving}
@@ -16,36 +15,34 @@ use Rattle.job_move.specs.Moved.{lengthOf, Moved}
 use Rattle.job_move.specs.declared.MoveAnswer.{MoveAnswer}
 use Rattle.job_move.specs.declared.MoveAnswer.the-variants as answer
 
-pub lengthOf-same : (r q : MoveAnswer) → lengthOf r ≡ lengthOf q → r ≡ q
-lengthOf-same = known-by lengthOf back same
+lengthOf-same : (r q : MoveAnswer) → lengthOf r ≡ lengthOf q → r ≡ q
+lengthOf-same = known-by lengthOf (saying answer.Moved answer.Refused answer.Unfit) known
   where
-    back : Outcome ℕ → MoveAnswer
-    back (given length) = answer.Moved length
-    back (refused number place) = answer.Refused number place
-    back (unfit number place) = answer.Unfit number place
+    known : (r : MoveAnswer) → saying answer.Moved answer.Refused answer.Unfit (lengthOf r) ≡ r
+    known (answer.Moved length) = refl
+    known (answer.Refused number place) = refl
+    known (answer.Unfit number place) = refl
 
-    same : (r : MoveAnswer) → back (lengthOf r) ≡ r
-    same (answer.Moved length) = refl
-    same (answer.Refused number place) = refl
-    same (answer.Unfit number place) = refl
+move-settled : OnSheets Moved answer.Refused answer.Unfit
+move-settled =
+    on-sheets lengthOf length lengthOf-same (λ k p. (refl, refl)) (λ o lent r after a. a .answer)
+    (λ o lent r after a. a .list) (λ k p lent. (refl, refl))
 
-module _ (o : Outcome (List ℕ)) (bytes : List ℕ) where
-  pub move-unique : (r q : MoveAnswer) (bytes₁ bytes₂ : List ℕ) → Moved o bytes r bytes₁ → Moved o bytes q bytes₂ → (r ≡ q) × (bytes₁ ≡ bytes₂)
-  move-unique r q bytes₁ bytes₂ a b = (lengthOf-same r q (a .answer ∙ sym (b .answer)), a .list ∙ sym (b .list))
+pub move-unique : Unique Moved
+move-unique = move-settled .own .unique
 
-  module _ (number place : ℕ) (r : MoveAnswer) (bytes′ : List ℕ) (m : Moved o bytes r bytes′) where
-    pub move-refusal : r ≡ answer.Refused number place → (o ≡ refused number place) × (bytes′ ≡ bytes)
-    move-refusal is-refused = let is = part-refused length o number place (sym (ap lengthOf is-refused) ∙ m .answer) in (is, rw is at (m .list))
+pub move-refusal : Refusal Moved refused answer.Refused
+move-refusal = move-settled .own .refusal
 
-    pub move-refuses : o ≡ refused number place → r ≡ answer.Refused number place
-    move-refuses is = lengthOf-same r (answer.Refused number place) (m .answer ∙ ap (part length) is)
+pub move-refuses : Refuses Moved refused answer.Refused
+move-refuses = move-settled .own .refuses
 
-    -- and of the fittings sheet
-    pub move-unfit : r ≡ answer.Unfit number place → (o ≡ unfit number place) × (bytes′ ≡ bytes)
-    move-unfit is-unfit = let is = part-unfit length o number place (sym (ap lengthOf is-unfit) ∙ m .answer) in (is, rw is at (m .list))
+-- and of the fittings sheet
+pub move-unfit : Refusal Moved unfit answer.Unfit
+move-unfit = move-settled .fittings .refusal
 
-    pub move-unfits : o ≡ unfit number place → r ≡ answer.Unfit number place
-    move-unfits is = lengthOf-same r (answer.Unfit number place) (m .answer ∙ ap (part length) is)
+pub move-unfits : Refuses Moved unfit answer.Unfit
+move-unfits = move-settled .fittings .refuses
 
 -- No refusal has number 0.
 pub move-numbered : (c : Sheets) (long : ℕ) → Numbered (moving c long)

@@ -2,7 +2,7 @@
 use Prim.Native.Nat.{ℕ, _+_, _*_, _≤_, _<_}
 use mathlib.Core.Path.{_≡_}
 use mathlib.Core.Bool.{true, false, cond}
-use mathlib.Core.List.{List}
+use mathlib.Core.List.{List, [], _∷_}
 use lib.ListN.{length, take}
 use lib.Seq.{sets}
 use lib.Dec.{ltb, eqb}
@@ -32,6 +32,17 @@ pub record PutIn (edition : ℕ) (codes : List ℕ) (n : ℕ) (old new : List �
   pub are : (f : Formula) → Stand codes n f → new ≡ sets old at (codeBytes (codesIn (other edition) f))
 
 -- ---- the first 0xFFF3
+
+abbrev pub oneExclusive : ℕ → ℕ
+oneExclusive c = cond (eqb c (code exclusive)) 1 0
+
+-- So many of the first n codes are 0xFFF3.
+unfoldable pub manyExclusive : List ℕ → ℕ
+manyExclusive [] = 0
+manyExclusive (c ∷ cs) = oneExclusive c + manyExclusive cs
+
+pub record Among (codes : List ℕ) (n many : ℕ) : Type 0 where
+  pub are : many ≡ manyExclusive (take n codes)
 
 -- The index found so far, or n, after the code c at index i.
 abbrev pub firstOne : ℕ → ℕ → ℕ → ℕ → ℕ

@@ -6,7 +6,7 @@ ghost use lib.ListN.{length, take};
 ghost use Rattle.sheet.specs.Sheet.{sheetsOf};
 ghost use Rattle.job_move.specs.Moving.{beforeExclusive, moving};
 ghost use Rattle.job_move.specs.Moved.{Moved as Promise};
-ghost use Rattle.job_move.specs.Putting.{Puttable, PutIn, firstOne, Holding, UsedAt, Movable, MovedTo};
+ghost use Rattle.job_move.specs.Putting.{Puttable, PutIn, oneExclusive, Among, firstOne, Holding, UsedAt, Movable, MovedTo};
 
 // What the move answers: the length of the sheet, which is given; `Unfit` is a refusal of the fittings sheet.
 pub enum MoveAnswer {
@@ -25,7 +25,7 @@ fn put_formula(edition: u8, codes: &[u16; 2048], n: usize, bytes: &mut [u8], at:
         return;
     }
     let mut laid = [0u16; 2048];
-    sheet_laying::lay_first(codes, n, &mut laid, n);
+    sheet_laying::lay_first(codes, n, &mut laid);
     sheet_laying::put_codes(&laid, n, bytes, at);
 }
 
@@ -42,6 +42,30 @@ fn give_moved(sheet: &[u8], codes: &[u16; 2048], n: usize, moved: &mut [u8])
     put_formula(edition, codes, n, moved, first);
 }
 
+// 1 for 0xFFF3, and 0 for another code.
+fn one_exclusive(code: u16) -> u16
+    ensures { λ r. ⌜ r ≡ oneExclusive code ⌝ }
+{
+    if code == 0xFFF3 {
+        return 1;
+    }
+    0
+}
+
+// How many of n codes are 0xFFF3. Few sheets have one, and a sum over all codes takes a tenth of the search for the first.
+fn count_exclusive(codes: &[u16; 2048], n: usize) -> u16
+    requires { ⌜ (n ≤ 2048) × (length (now codes) ≡ 2048) ⌝ }
+    ensures { λ r. ⌜ Among (now (codes .entry)) n r ⌝ }
+{
+    let mut many: u16 = 0;
+    let mut i: usize = 0;
+    while i < n {
+        many += one_exclusive(codes[i]);
+        i += 1;
+    }
+    many
+}
+
 // The index of the first 0xFFF3, or n where there is none, after one code more: the code at index i.
 fn first_one(found: usize, n: usize, code: u16, i: usize) -> usize
     ensures { λ r. ⌜ r ≡ firstOne found n code i ⌝ }
@@ -55,7 +79,7 @@ fn first_one(found: usize, n: usize, code: u16, i: usize) -> usize
     found
 }
 
-// The index of the first 0xFFF3 among n codes, or n where there is none. Few sheets have one, so all codes are looked at.
+// The index of the first 0xFFF3 among n codes, or n where there is none.
 fn first_exclusive(codes: &[u16; 2048], n: usize) -> usize
     requires { ⌜ (n ≤ 2048) × (length (now codes) ≡ 2048) ⌝ }
     ensures { λ r. ⌜ r ≡ beforeExclusive (take n (now (codes .entry))) ⌝ }
@@ -69,13 +93,24 @@ fn first_exclusive(codes: &[u16; 2048], n: usize) -> usize
     found
 }
 
+// The same, without a search where there is none.
+fn before_exclusive(codes: &[u16; 2048], n: usize) -> usize
+    requires { ⌜ (n ≤ 2048) × (length (now codes) ≡ 2048) ⌝ }
+    ensures { λ r. ⌜ r ≡ beforeExclusive (take n (now (codes .entry))) ⌝ }
+{
+    if count_exclusive(codes, n) == 0 {
+        return n;
+    }
+    first_exclusive(codes, n)
+}
+
 // The offset of the code for which the move is refused: the first 0xFFF3 of a sheet of edition 1. The sheet's length where there is none.
 fn used_at(sheet: &[u8], codes: &[u16; 2048], n: usize) -> usize
     requires { ⌜ Holding (now sheet) (now codes) n ⌝ }
     ensures { λ r. ⌜ UsedAt (now (sheet .entry)) (now (codes .entry)) n r ⌝ }
 {
     if sheet[4] == 1 {
-        return sheet.len() - 2 * (n - first_exclusive(codes, n));
+        return sheet.len() - 2 * (n - before_exclusive(codes, n));
     }
     sheet.len()
 }

@@ -35,12 +35,12 @@ within s n m h inside =
 
 -- ---- what is given, by the sheets
 
-pub record OwnStand (s : List ℕ) (v : Stand) : Type 0 where
+record OwnStand (s : List ℕ) (v : Stand) : Type 0 where
   number : ℕ
   is : v ≡ fieldIn 2 s number
   there : Within s (walkEnd s 5 number + 3) (walkEnd s 5 (suc number))
 
-pub record FittingStand (f : List ℕ) (v : Stand) : Type 0 where
+record FittingStand (f : List ℕ) (v : Stand) : Type 0 where
   number : ℕ
   is : v ≡ fieldIn 1 f number
   there : Within f (walkEnd f 5 number + 3) (walkEnd f 5 (suc number))

@@ -1,14 +1,14 @@
 -- What the promise of asking for all names settles: two results that meet it are equal; it refuses exactly when the rules say, and then
 -- writes nothing; and each name stands where asking for it alone says.
 use Prim.Native.Nat.{ℕ, _≤_, _<_}
-use mathlib.Core.Path.{_≡_, refl, sym, ap, _∙_}
+use mathlib.Core.Path.{_≡_, refl}
 use mathlib.Core.List.{List}
 use lib.ListN.{length, getD}
-use Rattle.outcome.specs.Outcome.{Outcome, given, refused, unfit, part}
+use Rattle.outcome.specs.Outcome.{given, refused, unfit}
 use Rattle.outcome.specs.Numbered.{Numbered}
-use Rattle.outcome.proofs.Questions.{part-refused, part-unfit}
+use Rattle.outcome.specs.Settled.{Unique, Refusal, Refuses, three}
 use Rattle.outcome.proofs.NumberedLaws.{given-numbered, room-asks, bind-numbered}
-use Rattle.outcome.proofs.Known.{known-by}
+use Rattle.outcome.proofs.Settling.{known-by, saying, OnSheets, on-sheets}
 use Rattle.sheet.specs.Sheet.{Sheets, reading}
 use Rattle.sheet.proofs.Numbered.{reading-numbered}
 use Rattle.job_name.specs.Naming.{Stand, stand, placing}
@@ -19,46 +19,34 @@ use Rattle.job_names.specs.declared.NamesAnswer.the-variants as answer
 use Rattle.job_names.proofs.Giving.{asked-all}
 use Rattle.job_names.proofs.Each as each
 
-pub countOf-same : (r q : NamesAnswer) → countOf r ≡ countOf q → r ≡ q
-countOf-same = known-by countOf back same
+countOf-same : (r q : NamesAnswer) → countOf r ≡ countOf q → r ≡ q
+countOf-same = known-by countOf (saying answer.Names answer.Refused answer.Unfit) known
   where
-    back : Outcome ℕ → NamesAnswer
-    back (given count) = answer.Names count
-    back (refused number place) = answer.Refused number place
-    back (unfit number place) = answer.Unfit number place
+    known : (r : NamesAnswer) → saying answer.Names answer.Refused answer.Unfit (countOf r) ≡ r
+    known (answer.Names count) = refl
+    known (answer.Refused number place) = refl
+    known (answer.Unfit number place) = refl
 
-    same : (r : NamesAnswer) → back (countOf r) ≡ r
-    same (answer.Names count) = refl
-    same (answer.Refused number place) = refl
-    same (answer.Unfit number place) = refl
+names-settled : OnSheets (three NamedAll) answer.Refused answer.Unfit
+names-settled =
+    on-sheets countOf length countOf-same (λ k p. (refl, refl)) (λ o lent r after a. a .answer)
+    (λ o lent r after a i. (a .lists .sheets-list i, a .lists .firsts-list i, a .lists .pasts-list i)) (λ k p lent. (refl, refl))
 
-module _ (o : Outcome (List Stand)) (ss fs ps : List ℕ) where
-  pub names-unique : (r q : NamesAnswer) (ss₁ fs₁ ps₁ ss₂ fs₂ ps₂ : List ℕ) → NamedAll o ss fs ps r ss₁ fs₁ ps₁ → NamedAll o ss fs ps q ss₂ fs₂ ps₂
-      → (r ≡ q) × (ss₁ ≡ ss₂) × (fs₁ ≡ fs₂) × (ps₁ ≡ ps₂)
-  names-unique r q ss₁ fs₁ ps₁ ss₂ fs₂ ps₂ a b = (
-    countOf-same r q (a .answer ∙ sym (b .answer)),
-    a .lists .sheets-list ∙ sym (b .lists .sheets-list),
-    a .lists .firsts-list ∙ sym (b .lists .firsts-list),
-    a .lists .pasts-list ∙ sym (b .lists .pasts-list),
-  )
+pub names-unique : Unique (three NamedAll)
+names-unique = names-settled .own .unique
 
-  module _ (number place : ℕ) (r : NamesAnswer) (ss′ fs′ ps′ : List ℕ) (b : NamedAll o ss fs ps r ss′ fs′ ps′) where
-    pub names-refusal : r ≡ answer.Refused number place → (o ≡ refused number place) × (ss′ ≡ ss) × (fs′ ≡ fs) × (ps′ ≡ ps)
-    names-refusal is-refused =
-        let is = part-refused length o number place (sym (ap countOf is-refused) ∙ b .answer) in
-        (is, rw is at (b .lists .sheets-list), rw is at (b .lists .firsts-list), rw is at (b .lists .pasts-list))
+pub names-refusal : Refusal (three NamedAll) refused answer.Refused
+names-refusal = names-settled .own .refusal
 
-    pub names-refuses : o ≡ refused number place → r ≡ answer.Refused number place
-    names-refuses is = countOf-same r (answer.Refused number place) (b .answer ∙ ap (part length) is)
+pub names-refuses : Refuses (three NamedAll) refused answer.Refused
+names-refuses = names-settled .own .refuses
 
-    -- and of the fittings sheet
-    pub names-unfit : r ≡ answer.Unfit number place → (o ≡ unfit number place) × (ss′ ≡ ss) × (fs′ ≡ fs) × (ps′ ≡ ps)
-    names-unfit is-unfit =
-        let is = part-unfit length o number place (sym (ap countOf is-unfit) ∙ b .answer) in
-        (is, rw is at (b .lists .sheets-list), rw is at (b .lists .firsts-list), rw is at (b .lists .pasts-list))
+-- and of the fittings sheet
+pub names-unfit : Refusal (three NamedAll) unfit answer.Unfit
+names-unfit = names-settled .fittings .refusal
 
-    pub names-unfits : o ≡ unfit number place → r ≡ answer.Unfit number place
-    names-unfits is = countOf-same r (answer.Unfit number place) (b .answer ∙ ap (part length) is)
+pub names-unfits : Refuses (three NamedAll) unfit answer.Unfit
+names-unfits = names-settled .fittings .refuses
 
 -- No refusal has number 0.
 pub names-numbered : (c : Sheets) (sheets firsts pasts : ℕ) → Numbered (namingAll c sheets firsts pasts)

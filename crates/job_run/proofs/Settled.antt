@@ -1,14 +1,15 @@
 -- What the promise of a toggle run settles: two results that meet it are equal; it refuses exactly when the rules say, and then writes nothing.
 use Prim.Native.Nat.{ℕ}
-use mathlib.Core.Path.{_≡_, refl, sym, ap, _∙_}
+use mathlib.Core.Path.{_≡_, refl}
 use mathlib.Core.List.{List}
 use lib.Dec.{eqb, lit<}
 use lib.ListN.{length}
-use Rattle.outcome.specs.Outcome.{Outcome, given, refused, unfit, room, part}
+use Rattle.outcome.specs.Outcome.{given, refused, unfit, room}
 use Rattle.outcome.specs.Numbered.{Numbered}
-use Rattle.outcome.proofs.Questions.{need-given, part-refused, part-unfit, then-given, bind-given, given-same}
+use Rattle.outcome.specs.Settled.{Unique, Refusal, Refuses, three}
+use Rattle.outcome.proofs.Questions.{need-given, then-given, bind-given, given-same}
 use Rattle.outcome.proofs.NumberedLaws.{given-numbered, asks, room-asks, bind-numbered}
-use Rattle.outcome.proofs.Known.{known-by}
+use Rattle.outcome.proofs.Settling.{known-by, saying, OnSheets, on-sheets}
 use Rattle.contraction.specs.Rounds.{dwarf}
 use Rattle.sheet.specs.Sheet.{Sheets, Sheet}
 use Rattle.accepting.specs.Accepting.{accepted}
@@ -21,45 +22,33 @@ use Rattle.job_run.specs.declared.RunAnswer.{RunAnswer}
 use Rattle.job_run.specs.declared.RunAnswer.the-variants as answer
 
 pub ranOf-same : (r q : RunAnswer) → ranOf r ≡ ranOf q → r ≡ q
-ranOf-same = known-by ranOf back same
+ranOf-same = known-by ranOf (saying answer.Ran answer.Refused answer.Unfit) known
   where
-    back : Outcome ℕ → RunAnswer
-    back (given nodes) = answer.Ran nodes
-    back (refused number place) = answer.Refused number place
-    back (unfit number place) = answer.Unfit number place
+    known : (r : RunAnswer) → saying answer.Ran answer.Refused answer.Unfit (ranOf r) ≡ r
+    known (answer.Ran nodes) = refl
+    known (answer.Refused number place) = refl
+    known (answer.Unfit number place) = refl
 
-    same : (r : RunAnswer) → back (ranOf r) ≡ r
-    same (answer.Ran nodes) = refl
-    same (answer.Refused number place) = refl
-    same (answer.Unfit number place) = refl
+run-settled : OnSheets (three Ran) answer.Refused answer.Unfit
+run-settled =
+    on-sheets ranOf (λ v. length (v .final)) ranOf-same (λ k p. (refl, refl)) (λ o lent r after a. a .answer)
+    (λ o lent r after a i. (a .lists .roots-list i, a .lists .counts-list i, a .lists .labels-list i)) (λ k p lent. (refl, refl))
 
-module _ (o : Outcome Answers) (rs cs ls : List ℕ) where
-  pub run-unique : (r q : RunAnswer) (rs₁ cs₁ ls₁ rs₂ cs₂ ls₂ : List ℕ) → Ran o rs cs ls r rs₁ cs₁ ls₁ → Ran o rs cs ls q rs₂ cs₂ ls₂
-      → (r ≡ q) × (rs₁ ≡ rs₂) × (cs₁ ≡ cs₂) × (ls₁ ≡ ls₂)
-  run-unique r q rs₁ cs₁ ls₁ rs₂ cs₂ ls₂ a b = (
-    ranOf-same r q (a .answer ∙ sym (b .answer)),
-    a .lists .roots-list ∙ sym (b .lists .roots-list),
-    a .lists .counts-list ∙ sym (b .lists .counts-list),
-    a .lists .labels-list ∙ sym (b .lists .labels-list),
-  )
+pub run-unique : Unique (three Ran)
+run-unique = run-settled .own .unique
 
-  module _ (number place : ℕ) (r : RunAnswer) (rs′ cs′ ls′ : List ℕ) (a : Ran o rs cs ls r rs′ cs′ ls′) where
-    pub run-refusal : r ≡ answer.Refused number place → (o ≡ refused number place) × (rs′ ≡ rs) × (cs′ ≡ cs) × (ls′ ≡ ls)
-    run-refusal is-refused =
-        let is = part-refused (λ a. length (a .final)) o number place (sym (ap ranOf is-refused) ∙ a .answer) in
-        (is, rw is at (a .lists .roots-list), rw is at (a .lists .counts-list), rw is at (a .lists .labels-list))
+pub run-refusal : Refusal (three Ran) refused answer.Refused
+run-refusal = run-settled .own .refusal
 
-    pub run-refuses : o ≡ refused number place → r ≡ answer.Refused number place
-    run-refuses is = ranOf-same r (answer.Refused number place) (a .answer ∙ ap (part (λ a. length (a .final))) is)
+pub run-refuses : Refuses (three Ran) refused answer.Refused
+run-refuses = run-settled .own .refuses
 
-    -- and of the fittings sheet
-    pub run-unfit : r ≡ answer.Unfit number place → (o ≡ unfit number place) × (rs′ ≡ rs) × (cs′ ≡ cs) × (ls′ ≡ ls)
-    run-unfit is-unfit =
-        let is = part-unfit (λ a. length (a .final)) o number place (sym (ap ranOf is-unfit) ∙ a .answer) in
-        (is, rw is at (a .lists .roots-list), rw is at (a .lists .counts-list), rw is at (a .lists .labels-list))
+-- and of the fittings sheet
+pub run-unfit : Refusal (three Ran) unfit answer.Unfit
+run-unfit = run-settled .fittings .refusal
 
-    pub run-unfits : o ≡ unfit number place → r ≡ answer.Unfit number place
-    run-unfits is = ranOf-same r (answer.Unfit number place) (a .answer ∙ ap (part (λ a. length (a .final))) is)
+pub run-unfits : Refuses (three Ran) unfit answer.Unfit
+run-unfits = run-settled .fittings .refuses
 
 -- No refusal has number 0.
 pub run-numbered : (s : Sheets) (ts : List ℕ) (roots counts labels : ℕ) → Numbered (running s ts roots counts labels)

@@ -1,5 +1,6 @@
 // The job of a toggle run: a root and a count for each toggle, and the labels after the last, given to the caller's lists.
 use accepting::Prepared;
+use labels::Size;
 use tree_dwarf::Figures;
 ghost use Prim.Native.Nat.{_≤_};
 ghost use lib.ListN.{length};
@@ -42,7 +43,10 @@ pub fn run_toggles(
     }
     let n = toggles.len();
     let nodes = built.nodes;
-    let leaves = built.leaves;
+    let size = Size {
+        leaves: built.leaves,
+        nodes,
+    };
     if roots.len() < n {
         return RunAnswer::Refused {
             number: 9,
@@ -61,7 +65,7 @@ pub fn run_toggles(
             place: nodes,
         };
     }
-    toggle_run::run_tree(k, f, s, leaves, nodes, toggles, roots, counts, labels);
+    toggle_run::run_tree(k, f, s, size, toggles, roots, counts, labels);
     RunAnswer::Ran { nodes }
 }
 

@@ -36,7 +36,7 @@ use Rattle.job_run.specs.declared.RunAnswer.{RunAnswer}
 use Rattle.job_run.specs.declared.RunAnswer.the-variants as run
 use Rattle.job_classify.specs.declared.ClassifyAnswer.{ClassifyAnswer}
 use Rattle.job_classify.specs.declared.ClassifyAnswer.the-variants as classify
-use Rattle.line_judging.specs.Judging.{Opinion, right, wrongAt}
+use Rattle.line_opinion.specs.Judging.{Opinion, right, wrongAt}
 use Rattle.job_judge.specs.Judged.{judgedOf}
 use Rattle.job_judge.specs.declared.JudgeAnswer.{JudgeAnswer}
 use Rattle.job_judge.specs.declared.JudgeAnswer.the-variants as judge

@@ -22,7 +22,7 @@ use Rattle.toggles.specs.Toggles.{Answers}
 use Rattle.job_run.specs.Ran.{RanLists}
 use Rattle.job_both.specs.Sharing.{sharing, serving}
 use Rattle.job_both.specs.Shared.{Lists}
-use Rattle.line_judging.specs.Judging.{Opinion, right, wrongAt}
+use Rattle.line_opinion.specs.Judging.{Opinion, right, wrongAt}
 use Rattle.edit_mix.specs.Edits.{Answers as EditAnswers}
 use Rattle.job_edit.specs.Editing.{Lists as EditLists}
 use Rattle.job_edit.specs.Edited.{EditedLists}

@@ -15,7 +15,7 @@ ghost use Rattle.job_run.specs.Ran.{ranOf};
 ghost use Rattle.job_both.specs.Shared.{lists};
 ghost use Rattle.lines.specs.Lines.{lineLists, answerLists};
 ghost use Rattle.job_classify.specs.Classifying.{classifying};
-ghost use Rattle.line_judging.specs.Judging.{theirLists};
+ghost use Rattle.line_opinion.specs.Judging.{theirLists};
 ghost use Rattle.job_judge.specs.Judging.{judging};
 ghost use Rattle.cross_answer.specs.Answer.{crossedOf, madeLists};
 ghost use Rattle.cross_line.specs.Crossing.{crossingShapes};

@@ -17,7 +17,7 @@ use Rattle.contraction.specs.Entries.{entries, recAt, recs}
 use Rattle.contraction.proofs.Worked.{worked-snoc}
 use Rattle.contraction.proofs.EntryLaws.{recs-more, recs-next}
 use Rattle.labels.specs.Labels.{label, labels, isOf}
-use Rattle.labels.specs.Linked.{seek, Shaped, adopted, Parents, Chains}
+use Rattle.labels.specs.Linked.{seek, Shaped, adopted, Parents, Chains, Bare, Above}
 use Rattle.labels.proofs.Rules.{label-local}
 
 -- `seek` at one record more
@@ -36,7 +36,7 @@ module _ (ks fs ss : List ℕ) where
   seek-none p j k d e = rw e
 
   -- where no record passes
-  pub seek-all : (p : Rec → Bool) (d j : ℕ) → ((i : ℕ) → j ≤ i → i < j + d → p (recAt ks fs ss i) ≡ false) → seek p j (recs ks fs ss j d) ≡ absent
+  seek-all : (p : Rec → Bool) (d j : ℕ) → ((i : ℕ) → j ≤ i → i < j + d → p (recAt ks fs ss i) ≡ false) → seek p j (recs ks fs ss j d) ≡ absent
   seek-all p zero j out = seek-none p j j 0 refl
   seek-all p (suc d) j out =
       rw (recs-more ks fs ss j d)
@@ -50,18 +50,19 @@ module _ (ks fs ss : List ℕ) where
     pub so : take j ls ≡ labels outside (recs ks fs ss 0 j)
 
   -- the parents among the nodes from j on
-  pub record ParentsFrom (nodes j : ℕ) (ps : List ℕ) : Type 0 where
+  pub record ParentsFrom (nodes j : ℕ) (old links : List ℕ) : Type 0 where
     pub within : j ≤ nodes
-    pub long : length ps ≡ 3072
-    pub so : (c : ℕ) → c < 3072 → getD ps c 0 ≡ seek (over c) j (recs ks fs ss j (nodes - j))
+    pub long : length links ≡ 4352
+    pub so : (c : ℕ) → c < 3072 → getD links c 0 ≡ seek (over c) j (recs ks fs ss j (nodes - j))
+    pub above : (c : ℕ) → 3072 ≤ c → c < 4352 → getD links c 0 ≡ getD old c 0
 
   -- the chains of the leaves from j on
-  pub record ChainsFrom (leaves nodes j : ℕ) (hs ns : List ℕ) : Type 0 where
+  pub record ChainsFrom (leaves nodes j : ℕ) (links : List ℕ) : Type 0 where
     pub within : j ≤ leaves
-    pub long : length hs ≡ 256
-    pub longer : length ns ≡ 1024
-    pub heads : (s : ℕ) → s < 256 → getD hs s 0 ≡ seek (isOf s) j (recs ks fs ss j (nodes - j))
-    pub nexts : (i : ℕ) → j ≤ i → i < leaves → getD ns i 0 ≡ seek (isOf (getD fs i 0)) (suc i) (recs ks fs ss (suc i) (nodes - suc i))
+    pub long : length links ≡ 4352
+    pub heads : (s : ℕ) → s < 256 → getD links (3072 + s) 0 ≡ seek (isOf s) j (recs ks fs ss j (nodes - j))
+    pub nexts : (i : ℕ) → j ≤ i → i < leaves → getD links (3328 + i) 0 ≡ seek (isOf (getD fs i 0)) (suc i) (recs ks fs ss (suc i) (nodes - suc i))
+    pub low : (c : ℕ) → c < 3072 → getD links c 0 ≡ absent
 
 module _ {ks fs ss : List ℕ} where
   pub labels-start : (nodes : ℕ) → LabelsTo ks fs ss nodes 0 (replicate 3072 0)
@@ -86,12 +87,13 @@ module _ {ks fs ss : List ℕ} where
   pub labels-end : {nodes j : ℕ} {ls : List ℕ} → LabelsTo ks fs ss nodes j ls → nodes ≤ j → take nodes ls ≡ labels outside (recs ks fs ss 0 nodes)
   labels-end {nodes} {j} u h = let e : nodes ≡ j = omega (arith, u .within) in rw e (u .so)
 
-  pub parents-start : (nodes : ℕ) → ParentsFrom ks fs ss nodes nodes (replicate 3072 65535)
-  parents-start nodes =
+  pub parents-start : {nodes : ℕ} {links : List ℕ} → Bare links → ParentsFrom ks fs ss nodes nodes links links
+  parents-start {nodes} bare =
       record {
         within = omega arith;
-        long = length-replicate {A = ℕ} 3072 65535;
-        so = λ c l. getD-replicate 3072 c 65535 0 l ∙ sym (seek-none ks fs ss (over c) nodes nodes (nodes - nodes) (omega arith));
+        long = bare .long;
+        so = λ c l. bare .none c l ∙ sym (seek-none ks fs ss (over c) nodes nodes (nodes - nodes) (omega arith));
+        above = λ c b l. refl;
       }
 
 length-adopted : (j : ℕ) (cs ps : List ℕ) → length (adopted j cs ps) ≡ length ps
@@ -112,9 +114,9 @@ adopted-at j (d ∷ ds) ps c h = adopted-at j ds (set ps d j) c (omega (arith, l
 
 module _ {ks fs ss : List ℕ} where
   -- the node before j, whose index i in the arrays is known
-  pub parents-more : {nodes j i : ℕ} {ps qs : List ℕ} → ParentsFrom ks fs ss nodes j ps → 0 < j → i ≡ j - 1
-      → qs ≡ adopted (j - 1) (children (recAt ks fs ss i)) ps → ParentsFrom ks fs ss nodes (j - 1) qs
-  parents-more {nodes} {j} {i} {ps} u h e done =
+  pub parents-more : {leaves nodes j i : ℕ} {old ps qs : List ℕ} → Shaped ks fs ss leaves nodes → ParentsFrom ks fs ss nodes j old ps → 0 < j → i ≡ j - 1
+      → qs ≡ adopted (j - 1) (children (recAt ks fs ss i)) ps → ParentsFrom ks fs ss nodes (j - 1) old qs
+  parents-more {leaves} {nodes} {j} {i} {old} {ps} sh u h e done =
       let k = j - 1 in
       let r = recAt ks fs ss k in
       let d : nodes - k ≡ suc (nodes - suc k) = omega (arith, u .within) in
@@ -123,8 +125,14 @@ module _ {ks fs ss : List ℕ} where
         within = omega (arith, u .within);
         long = length-adopted k (children r) ps ∙ u .long;
         so = λ c l. adopted-at k (children r) ps c (omega (arith, u .long)) ∙ rw (d, recs-more ks fs ss k (nodes - suc k)) (go c (u .so c l) (over c r) refl);
+        above = λ c b l. adopted-at k (children r) ps c (omega (arith, u .long)) ∙ past c b (over c r) refl ∙ u .above c b l;
       }
     where
+      -- a child has a smaller number
+      past : (c : ℕ) → 3072 ≤ c → (b : Bool) → over c (recAt ks fs ss (j - 1)) ≡ b → cond (over c (recAt ks fs ss (j - 1))) (j - 1) (getD ps c 0) ≡ getD ps c 0
+      past c b true q = absurd (omega (arith, u .within, sh .room, sh .below (j - 1) c (omega (arith, u .within)) q))
+      past c b false q = rw q
+
       go : (c : ℕ) → getD ps c 0 ≡ seek (over c) j (recs ks fs ss j (nodes - j)) → (b : Bool) → over c (recAt ks fs ss (j - 1)) ≡ b
           → cond (over c (recAt ks fs ss (j - 1))) (j - 1) (getD ps c 0)
           ≡ seek (over c) (j - 1) (recAt ks fs ss (j - 1) ∷ recs ks fs ss (suc (j - 1)) (nodes - suc (j - 1)))
@@ -133,47 +141,66 @@ module _ {ks fs ss : List ℕ} where
           let j′ : suc (j - 1) ≡ j = omega arith in
           rw (q, seek-past (over c) (j - 1) (recAt ks fs ss (j - 1)) (recs ks fs ss (suc (j - 1)) (nodes - suc (j - 1))) q, j′) old
 
-  pub parents-end : {nodes j : ℕ} {ps : List ℕ} → ParentsFrom ks fs ss nodes j ps → j ≤ 0 → nodes ≤ 3072 → Parents ks fs ss nodes ps
-  parents-end {nodes} {j} u h r =
+  pub parents-end : {leaves nodes j : ℕ} {old ps : List ℕ} → Shaped ks fs ss leaves nodes → ParentsFrom ks fs ss nodes j old ps → j ≤ 0 → Parents ks fs ss nodes ps
+  parents-end {leaves} {nodes} {j} sh u h =
       let e : j ≡ 0 = omega arith in
       let d : nodes - 0 ≡ nodes = omega arith in
-      record { up = λ c l. u .so c (omega arith) ∙ rw (e, d) }
+      record { up = λ c l. u .so c (omega (arith, sh .room)) ∙ rw (e, d) }
 
-  pub chains-start : {leaves nodes : ℕ} → Shaped ks fs ss leaves nodes → ChainsFrom ks fs ss leaves nodes leaves (replicate 256 65535) (replicate 1024 65535)
+  pub parents-kept : {nodes j : ℕ} {old ps : List ℕ} → ParentsFrom ks fs ss nodes j old ps → Above old ps
+  parents-kept u = record { kept = u .above }
+
+  pub chains-start : {leaves nodes : ℕ} → Shaped ks fs ss leaves nodes → ChainsFrom ks fs ss leaves nodes leaves (replicate 4352 65535)
   chains-start {leaves} {nodes} sh =
       record {
         within = omega arith;
-        long = length-replicate {A = ℕ} 256 65535;
-        longer = length-replicate {A = ℕ} 1024 65535;
+        long = length-replicate {A = ℕ} 4352 65535;
         heads = λ s l.
-            getD-replicate 256 s 65535 0 l
+            getD-replicate 4352 (3072 + s) 65535 0 (omega arith)
             ∙ sym (seek-all ks fs ss (isOf s) (nodes - leaves) leaves (λ i b t. ap (λ z. z && eqb (getD fs i 0) s) (sh .inner i b (omega (arith, sh .within)))));
         nexts = λ i b l. absurd (omega arith);
+        low = λ c l. getD-replicate 4352 c 65535 0 (omega arith);
       }
 
-  -- the leaf before j, whose index i in the arrays is known, and whose shape is t
-  module _ {leaves nodes j i t : ℕ} {hs ns : List ℕ} (sh : Shaped ks fs ss leaves nodes) (u : ChainsFrom ks fs ss leaves nodes j hs ns) where
+  -- the leaf before j, whose index i in the arrays is known: the next one after it has an entry
+  pub next-inside : {leaves nodes j i : ℕ} {ls : List ℕ} → Shaped ks fs ss leaves nodes → ChainsFrom ks fs ss leaves nodes j ls → 0 < j → i ≡ j - 1 → 3328 + i < 4352
+  next-inside sh u h e = omega (arith, u .within, sh .few)
+
+  -- and its shape is t
+  module _ {leaves nodes j i t : ℕ} {ls : List ℕ} (sh : Shaped ks fs ss leaves nodes) (u : ChainsFrom ks fs ss leaves nodes j ls) where
     pub shape-named : 0 < j → i ≡ j - 1 → t ≡ getD fs i 0 → t < 256
     shape-named h e q = omega (arith, q, sh .named i (omega (arith, u .within)))
 
-    -- so the byte that its entry begins at has a number
-    pub shape-fits : 0 < j → i ≡ j - 1 → t ≡ getD fs i 0 → Fits w64 (t * 2)
-    shape-fits h e q = record { fits = omega (arith, shape-named h e q) }
+    -- so the first leaf of its shape has an entry, and the byte that it begins at a number
+    pub head-inside : 0 < j → i ≡ j - 1 → t ≡ getD fs i 0 → 3072 + t < 4352
+    head-inside h e q = omega (arith, shape-named h e q)
 
-    pub chains-more : 0 < j → i ≡ j - 1 → t ≡ getD fs i 0 → ChainsFrom ks fs ss leaves nodes (j - 1) (set hs t (j - 1)) (set ns i (getD hs t 0))
+    pub head-sum : 0 < j → i ≡ j - 1 → t ≡ getD fs i 0 → Fits w64 (3072 + t)
+    head-sum h e q = record { fits = omega (arith, shape-named h e q) }
+
+    pub head-fits : 0 < j → i ≡ j - 1 → t ≡ getD fs i 0 → Fits w64 ((3072 + t) * 2)
+    head-fits h e q = record { fits = omega (arith, shape-named h e q) }
+
+    pub chains-more : 0 < j → i ≡ j - 1 → t ≡ getD fs i 0 → ChainsFrom ks fs ss leaves nodes (j - 1) (set (set ls (3328 + i) (getD ls (3072 + t) 0)) (3072 + t) (j - 1))
     chains-more h e q =
         let d : nodes - k ≡ suc (nodes - suc k) = omega (arith, u .within, sh .within) in
         rw e
         record {
           within = omega (arith, u .within);
-          long = length-set hs t k ∙ u .long;
-          longer = length-set ns k (getD hs t 0) ∙ u .longer;
+          long = length-set mid (3072 + t) k ∙ length-set ls (3328 + k) x ∙ u .long;
           heads = λ s l. rw (d, recs-more ks fs ss k (nodes - suc k)) (head s l (eqb s t) refl);
           nexts = λ a b l. next a b l (eqb a k) refl;
+          low = λ c l. getD-set-other mid (3072 + t) c k 0 (λ z. omega arith) ∙ getD-set-other ls (3328 + k) c x 0 (λ z. omega arith) ∙ u .low c l;
         }
       where
         k : ℕ
         k = j - 1
+
+        x : ℕ
+        x = getD ls (3072 + t) 0
+
+        mid : List ℕ
+        mid = set ls (3328 + k) x
 
         q′ : t ≡ getD fs k 0
         q′ = q ∙ ap (λ (n : ℕ). getD fs n 0) e
@@ -187,33 +214,49 @@ module _ {ks fs ss : List ℕ} where
         is : (s : ℕ) → isOf s r ≡ eqb (getD fs k 0) s
         is s = ap (λ z. z && eqb (getD fs k 0) s) (sh .leaf k (omega (arith, u .within)))
 
-        head : (s : ℕ) → s < 256 → (b : Bool) → eqb s t ≡ b → getD (set hs t k) s 0 ≡ seek (isOf s) k (r ∷ recs ks fs ss (suc k) (nodes - suc k))
+        mid-long : length mid ≡ 4352
+        mid-long = length-set ls (3328 + k) x ∙ u .long
+
+        head : (s : ℕ) → s < 256 → (b : Bool) → eqb s t ≡ b → getD (set mid (3072 + t) k) (3072 + s) 0 ≡ seek (isOf s) k (r ∷ recs ks fs ss (suc k) (nodes - suc k))
         head s l true z =
             let same : s ≡ t = eqb-true s t z in
-            rw (← same) (getD-set-same hs s k 0 (omega (arith, u .long)))
+            ap (λ n. getD (set mid (3072 + t) k) (3072 + n) 0) same ∙ getD-set-same mid (3072 + t) k 0 (omega (arith, mid-long, shape-named h e q))
             ∙ sym (seek-here (isOf s) k r (recs ks fs ss (suc k) (nodes - suc k)) (is s ∙ eq-eqb (getD fs k 0) s (sym q′ ∙ sym same)))
         head s l false z =
             let other : s ≡ t → ⊥ = eqb-false s t z in
-            getD-set-other hs t s k 0 other ∙ (rw j′ at (u .heads s l))
+            getD-set-other mid (3072 + t) (3072 + s) k 0 (λ y. other (omega arith)) ∙ getD-set-other ls (3328 + k) (3072 + s) x 0 (λ y. omega arith) ∙ (rw j′ at (u .heads s l))
             ∙ sym (seek-past (isOf s) k r (recs ks fs ss (suc k) (nodes - suc k)) (is s ∙ ne-eqb (getD fs k 0) s (λ y. other (sym y ∙ sym q′))))
 
         next : (a : ℕ) → k ≤ a → a < leaves → (b : Bool) → eqb a k ≡ b
-            → getD (set ns k (getD hs t 0)) a 0 ≡ seek (isOf (getD fs a 0)) (suc a) (recs ks fs ss (suc a) (nodes - suc a))
+            → getD (set mid (3072 + t) k) (3328 + a) 0 ≡ seek (isOf (getD fs a 0)) (suc a) (recs ks fs ss (suc a) (nodes - suc a))
         next a b l true z =
             rw (eqb-true a k z, ← q′)
-            (getD-set-same ns k (getD hs t 0) 0 (omega (arith, u .longer, u .within, sh .few)) ∙ (rw j′ at (u .heads t (shape-named h e q))))
+            (getD-set-other mid (3072 + t) (3328 + k) k 0 (λ y. omega (arith, shape-named h e q))
+            ∙ getD-set-same ls (3328 + k) x 0 (omega (arith, u .long, u .within, sh .few)) ∙ (rw j′ at (u .heads t (shape-named h e q))))
         next a b l false z =
             let other : a ≡ k → ⊥ = eqb-false a k z in
-            getD-set-other ns k a (getD hs t 0) 0 other ∙ u .nexts a (omega (arith, past other)) l
+            getD-set-other mid (3072 + t) (3328 + a) k 0 (λ y. omega (arith, shape-named h e q)) ∙ getD-set-other ls (3328 + k) (3328 + a) x 0 (λ y. other (omega arith))
+            ∙ u .nexts a (omega (arith, past other)) l
           where
             past : (a ≡ k → ⊥) → k < a
             past y = omega arith
 
-  pub chains-end : {leaves nodes j : ℕ} {hs ns : List ℕ} → ChainsFrom ks fs ss leaves nodes j hs ns → j ≤ 0 → Chains ks fs ss leaves nodes hs ns
+  pub chains-end : {leaves nodes j : ℕ} {links : List ℕ} → ChainsFrom ks fs ss leaves nodes j links → j ≤ 0 → Chains ks fs ss leaves nodes links
   chains-end {leaves} {nodes} {j} u h =
       let e : j ≡ 0 = omega arith in
       let d : nodes - 0 ≡ nodes = omega arith in
       record {
         first = λ s l. u .heads s l ∙ rw (e, d);
         next = λ i l. u .nexts i (omega arith) l;
+      }
+
+  pub chains-bare : {leaves nodes j : ℕ} {links : List ℕ} → ChainsFrom ks fs ss leaves nodes j links → Bare links
+  chains-bare u = record { long = u .long; none = u .low }
+
+  -- the chains stay where only entries before them change
+  pub chains-stay : {leaves nodes : ℕ} {links links′ : List ℕ} → Shaped ks fs ss leaves nodes → Chains ks fs ss leaves nodes links → Above links links′ → Chains ks fs ss leaves nodes links′
+  chains-stay sh u a =
+      record {
+        first = λ s l. a .kept (3072 + s) (omega arith) (omega arith) ∙ u .first s l;
+        next = λ i l. a .kept (3328 + i) (omega arith) (omega (arith, sh .few)) ∙ u .next i l;
       }

@@ -32,7 +32,7 @@ module _ (ks fs ss : List ℕ) (p : Rec → Bool) where
       (⊎-elim (λ e. inl e) (λ w. inr (w .0, omega (arith, w .1), omega (arith, w .2))) (found d (suc j))))
 
   -- and the first that passes
-  pub seek-first : (d j k : ℕ) → j ≤ k → k < j + d → p (recAt ks fs ss k) ≡ true → seek p j (recs ks fs ss j d) ≤ k
+  seek-first : (d j k : ℕ) → j ≤ k → k < j + d → p (recAt ks fs ss k) ≡ true → seek p j (recs ks fs ss j d) ≤ k
   seek-first zero j k a b e = absurd (omega arith)
   seek-first (suc d) j k a b e =
       cases (p (recAt ks fs ss j))
@@ -104,7 +104,7 @@ module _ {ks fs ss : List ℕ} {leaves nodes : ℕ} {ps : List ℕ} (lk : Linked
       (found ks fs ss (over c) nodes 0)
 
 -- so has the next leaf of a leaf's shape
-pub next-after : {ks fs ss : List ℕ} {leaves nodes : ℕ} {ps hs ns : List ℕ} → Ready ks fs ss leaves nodes ps hs ns → {c b : ℕ} → c < leaves → b ≡ getD ns c 0 → c < b
+pub next-after : {ks fs ss : List ℕ} {leaves nodes : ℕ} {links : List ℕ} → Ready ks fs ss leaves nodes links → {c b : ℕ} → c < leaves → b ≡ getD links (3328 + c) 0 → c < b
 next-after {ks} {fs} {ss} {leaves} {nodes} rd {c} h e =
     ⊎-elim (λ z. omega (arith, e ∙ rd .chains .next c h, z, rd .linked .shaped .few)) (λ w. omega (arith, e ∙ rd .chains .next c h, w .1))
     (found ks fs ss (isOf (getD fs c 0)) (nodes - suc c) (suc c))

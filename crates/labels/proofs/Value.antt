@@ -48,7 +48,7 @@ module _ (state : State) (ls : List ℕ) where
   two-val o (two e c d) (one d′ c′) l′ r′ n p q g = ap₂ (meaning o) p q
   two-val o (two e c d) (two e′ c′ d′) l′ r′ n p q g = ap₂ (meaning o) p q
 
-  pub rake-value : (w : Work) (n : ℕ) → Lab n (rakes w) → val ls (raked w n) ≡ val ls w
+  rake-value : (w : Work) (n : ℕ) → Lab n (rakes w) → val ls (raked w n) ≡ val ls w
   rake-value (tip d) n g = refl
   rake-value (one d c) n g =
       one-val d c _ _ (rake-value c n (lab-left (rakes c) _ n g)) (lab-right (rakes c) _ n g)
@@ -56,7 +56,7 @@ module _ (state : State) (ls : List ℕ) where
       let h = lab-right (rakes l) (rakes r ++ rakeTwo o (tipOf l) (tipOf r)) n g in
       two-val o l r _ _ _ (rake-value l n (lab-left (rakes l) _ n g)) (rake-value r _ (lab-left (rakes r) _ _ h)) (lab-right (rakes r) _ _ h)
 
-  pub compress-value : (w : Work) (n : ℕ) → Lab n (compresses w) → val ls (compressed w n) ≡ val ls w
+  compress-value : (w : Work) (n : ℕ) → Lab n (compresses w) → val ls (compressed w n) ≡ val ls w
   compress-value (tip d) n g = refl
   compress-value (one u (tip d)) n g = refl
   compress-value (one u (one d c)) n g =
@@ -66,7 +66,7 @@ module _ (state : State) (ls : List ℕ) where
   compress-value (two o l r) n g =
       ap₂ (meaning o) (compress-value l n (lab-left (compresses l) _ n g)) (compress-value r _ (lab-right (compresses l) _ n g))
 
-  pub round-value : (w : Work) (n : ℕ) → Lab n (roundMakes w n) → val ls (roundLeaves w n) ≡ val ls w
+  round-value : (w : Work) (n : ℕ) → Lab n (roundMakes w n) → val ls (roundLeaves w n) ≡ val ls w
   round-value w n g =
       compress-value (raked w n) _ (lab-right (rakes w) _ n g) ∙ rake-value w n (lab-left (rakes w) _ n g)
 

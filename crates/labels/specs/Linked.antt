@@ -1,9 +1,9 @@
 -- What the passes over the arrays need: the shape of the records that they hold, and the lists that are filled from them.
-use Prim.Native.Nat.{ℕ, suc, _-_, _/_, _%_, _<_, _≤_}
+use Prim.Native.Nat.{ℕ, suc, _+_, _-_, _/_, _%_, _<_, _≤_}
 use mathlib.Core.Path.{_≡_}
 use mathlib.Core.Bool.{Bool, true, false}
 use mathlib.Core.List.{List, [], _∷_}
-use lib.ListN.{getD, set}
+use lib.ListN.{length, getD, set}
 use Rattle.contraction.specs.Records.{Rec, absent, isLeaf, over}
 use Rattle.contraction.specs.Entries.{kindAt, recAt, recs}
 use Rattle.labels.specs.Labels.{rule, isOf}
@@ -34,21 +34,30 @@ abbrev pub adopted : ℕ → List ℕ → List ℕ → List ℕ
 adopted j [] ps = ps
 adopted j (c ∷ cs) ps = adopted j cs (set ps c j)
 
--- A list of each node's parent.
-pub record Parents (ks fs ss : List ℕ) (nodes : ℕ) (parents : List ℕ) : Type 0 where
-  pub up : (c : ℕ) → c < nodes → getD parents c 0 ≡ seek (over c) 0 (recs ks fs ss 0 nodes)
+-- The links of the nodes stand in one list. Its first entries are each node's parent.
+pub record Parents (ks fs ss : List ℕ) (nodes : ℕ) (links : List ℕ) : Type 0 where
+  pub up : (c : ℕ) → c < nodes → getD links c 0 ≡ seek (over c) 0 (recs ks fs ss 0 nodes)
 
--- The leaves of each shape as a chain: the first leaf of a shape, and the next leaf of a leaf's shape.
-pub record Chains (ks fs ss : List ℕ) (leaves nodes : ℕ) (heads nexts : List ℕ) : Type 0 where
-  pub first : (s : ℕ) → s < 256 → getD heads s 0 ≡ seek (isOf s) 0 (recs ks fs ss 0 nodes)
-  pub next : (i : ℕ) → i < leaves → getD nexts i 0 ≡ seek (isOf (getD fs i 0)) (suc i) (recs ks fs ss (suc i) (nodes - suc i))
+-- Behind room for 3072 nodes stand the leaves of each shape as a chain: the first leaf of a shape, of 256 shapes, and then the next leaf of a leaf's shape.
+pub record Chains (ks fs ss : List ℕ) (leaves nodes : ℕ) (links : List ℕ) : Type 0 where
+  pub first : (s : ℕ) → s < 256 → getD links (3072 + s) 0 ≡ seek (isOf s) 0 (recs ks fs ss 0 nodes)
+  pub next : (i : ℕ) → i < leaves → getD links (3328 + i) 0 ≡ seek (isOf (getD fs i 0)) (suc i) (recs ks fs ss (suc i) (nodes - suc i))
+
+-- No parent is entered yet.
+pub record Bare (links : List ℕ) : Type 0 where
+  pub long : length links ≡ 4352
+  pub none : (c : ℕ) → c < 3072 → getD links c 0 ≡ absent
+
+-- The chains are as they were.
+pub record Above (links links′ : List ℕ) : Type 0 where
+  pub kept : (c : ℕ) → 3072 ≤ c → c < 4352 → getD links′ c 0 ≡ getD links c 0
 
 -- What a pass upwards looks up,
-pub record Linked (ks fs ss : List ℕ) (leaves nodes : ℕ) (parents : List ℕ) : Type 0 where
+pub record Linked (ks fs ss : List ℕ) (leaves nodes : ℕ) (links : List ℕ) : Type 0 where
   pub shaped : Shaped ks fs ss leaves nodes
-  pub ups : Parents ks fs ss nodes parents
+  pub ups : Parents ks fs ss nodes links
 
 -- and all that a toggle looks up.
-pub record Ready (ks fs ss : List ℕ) (leaves nodes : ℕ) (parents heads nexts : List ℕ) : Type 0 where
-  pub linked : Linked ks fs ss leaves nodes parents
-  pub chains : Chains ks fs ss leaves nodes heads nexts
+pub record Ready (ks fs ss : List ℕ) (leaves nodes : ℕ) (links : List ℕ) : Type 0 where
+  pub linked : Linked ks fs ss leaves nodes links
+  pub chains : Chains ks fs ss leaves nodes links

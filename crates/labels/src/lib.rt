@@ -1,4 +1,4 @@
-// Labels: one by its kind, all of them afresh; each node's parent and the leaves of each shape.
+// Labels: one by its kind, all of them afresh; the links of the nodes: each node's parent and the leaves of each shape.
 ghost use mathlib.Core.Path.{_≡_};
 ghost use mathlib.Core.Bool.{true, false};
 ghost use mathlib.Core.List.{[], _∷_};
@@ -9,7 +9,7 @@ ghost use Rattle.formula.specs.States.{outside};
 ghost use Rattle.contraction.specs.Records.{left, right, children};
 ghost use Rattle.labels.specs.Labels.{bit as bitOf, on as isOn, pair as pairOf, pick as pickOf, raked, rule, label as labelOf, labels as afresh};
 ghost use Rattle.contraction.specs.Entries.{entry, kindAt, recOf, recAt, recs};
-ghost use Rattle.labels.specs.Linked.{Rules, Shaped, adopted, Parents, Chains};
+ghost use Rattle.labels.specs.Linked.{Rules, Shaped, adopted, Parents, Chains, Bare, Above};
 
 fn bit(b: bool) -> u8
     ensures { λ r. ⌜ (r ≡ bitOf b) × (r ≤ 1) ⌝ }
@@ -70,7 +70,7 @@ fn compose(x: u8, y: u8) -> u8
 }
 
 // A label by kind, from the state of the shape and from the labels of first and second.
-pub fn label(kind: u16, inside: bool, x: u8, y: u8) -> u8
+fn label(kind: u16, inside: bool, x: u8, y: u8) -> u8
     ensures { λ r. ⌜ r ≡ rule (kindAt kind) inside x y ⌝ }
 {
     match kind {
@@ -82,6 +82,12 @@ pub fn label(kind: u16, inside: bool, x: u8, y: u8) -> u8
         14 => compose(x, y),
         _ => compose(x, y),
     }
+}
+
+// How many leaves and how many nodes a tree has.
+pub struct Size {
+    pub leaves: usize,
+    pub nodes: usize,
 }
 
 // A number as an index.
@@ -174,7 +180,7 @@ pub fn fill_labels(
 }
 
 // Stores v at i, where there is such a node.
-fn set_entry(list: &mut [u16; 3072], i: u16, v: u16)
+fn set_entry(list: &mut [u16; 4352], i: u16, v: u16)
     ensures { λ _. ⌜ now (list .exit) ≡ set (now (list .entry)) i v ⌝ }
 {
     let j = wide(i);
@@ -185,66 +191,82 @@ fn set_entry(list: &mut [u16; 3072], i: u16, v: u16)
 }
 
 // Node j entered as the parent of two nodes.
-fn adopt_both(parents: &mut [u16; 3072], first: u16, second: u16, j: u16)
-    ensures { λ _. ⌜ now (parents .exit) ≡ adopted j (first ∷ second ∷ []) (now (parents .entry)) ⌝ }
+fn adopt_both(links: &mut [u16; 4352], first: u16, second: u16, j: u16)
+    ensures { λ _. ⌜ now (links .exit) ≡ adopted j (first ∷ second ∷ []) (now (links .entry)) ⌝ }
 {
-    set_entry(parents, first, j);
-    set_entry(parents, second, j);
+    set_entry(links, first, j);
+    set_entry(links, second, j);
 }
 
 // Node j entered as the parent of the children of its record.
-fn adopt(parents: &mut [u16; 3072], kind: u16, first: u16, second: u16, j: u16)
-    ensures { λ _. ⌜ now (parents .exit) ≡ adopted j (children (recOf (entry kind first second))) (now (parents .entry)) ⌝ }
+fn adopt(links: &mut [u16; 4352], kind: u16, first: u16, second: u16, j: u16)
+    ensures { λ _. ⌜ now (links .exit) ≡ adopted j (children (recOf (entry kind first second))) (now (links .entry)) ⌝ }
 {
     match kind {
         0 => {}
-        1..=4 => adopt_both(parents, first, second, j),
-        5..=12 => set_entry(parents, first, j),
-        _ => adopt_both(parents, first, second, j),
+        1..=4 => adopt_both(links, first, second, j),
+        5..=12 => set_entry(links, first, j),
+        _ => adopt_both(links, first, second, j),
     }
 }
 
-// The parent of each node, in one pass from right to left.
-pub fn fill_parents(
-    kinds: &[u16; 3072],
-    firsts: &[u16; 3072],
-    seconds: &[u16; 3072],
-    nodes: u16,
-    parents: &mut [u16; 3072],
-)
-    requires { ⌜ nodes ≤ 3072 ⌝ }
-    ensures { λ _. ⌜ Parents (now (kinds .entry)) (now (firsts .entry)) (now (seconds .entry)) nodes (now (parents .exit)) ⌝ }
-{
-    *parents = [65535u16; 3072];
-    let mut j = nodes;
-    while 0 < j {
-        j -= 1;
-        let i = wide(j);
-        adopt(parents, kinds[i], firsts[i], seconds[i], j);
-    }
-}
-
-// The first leaf of each shape and the next leaf of each leaf's shape, in one pass from right to left.
-pub fn fill_chains(
+// The parent of each node, in one pass from right to left, where none is entered yet. The leaves of the shapes stay.
+fn fill_parents(
     kinds: &[u16; 3072],
     firsts: &[u16; 3072],
     seconds: &[u16; 3072],
     leaves: u16,
     nodes: u16,
-    heads: &mut [u16; 256],
-    nexts: &mut [u16; 1024],
+    links: &mut [u16; 4352],
+)
+    requires { ⌜ Shaped (now kinds) (now firsts) (now seconds) leaves nodes × Bare (now links) ⌝ }
+    ensures { λ _. ⌜ Parents (now (kinds .entry)) (now (firsts .entry)) (now (seconds .entry)) nodes (now (links .exit)) ⌝ }
+    ensures { λ _. ⌜ Above (now (links .entry)) (now (links .exit)) ⌝ }
+{
+    let mut j = nodes;
+    while 0 < j {
+        j -= 1;
+        let i = wide(j);
+        adopt(links, kinds[i], firsts[i], seconds[i], j);
+    }
+}
+
+// The first leaf of each shape and the next leaf of each leaf's shape, in one pass from right to left; no parent is entered yet.
+fn fill_chains(
+    kinds: &[u16; 3072],
+    firsts: &[u16; 3072],
+    seconds: &[u16; 3072],
+    leaves: u16,
+    nodes: u16,
+    links: &mut [u16; 4352],
 )
     requires { ⌜ Shaped (now kinds) (now firsts) (now seconds) leaves nodes ⌝ }
-    ensures { λ _. ⌜ Chains (now (kinds .entry)) (now (firsts .entry)) (now (seconds .entry)) leaves nodes (now (heads .exit)) (now (nexts .exit)) ⌝ }
+    ensures { λ _. ⌜ Chains (now (kinds .entry)) (now (firsts .entry)) (now (seconds .entry)) leaves nodes (now (links .exit)) × Bare (now (links .exit)) ⌝ }
 {
-    *heads = [65535u16; 256];
-    *nexts = [65535u16; 1024];
+    *links = [65535u16; 4352];
     let mut j = leaves;
     while 0 < j {
         j -= 1;
         let i = wide(j);
         let s = wide(firsts[i]);
-        nexts[i] = heads[s];
-        heads[s] = j;
+        links[3328 + i] = links[3072 + s];
+        links[3072 + s] = j;
     }
+}
+
+// All links of the nodes.
+pub fn fill_links(
+    kinds: &[u16; 3072],
+    firsts: &[u16; 3072],
+    seconds: &[u16; 3072],
+    leaves: u16,
+    nodes: u16,
+    links: &mut [u16; 4352],
+)
+    requires { ⌜ Shaped (now kinds) (now firsts) (now seconds) leaves nodes ⌝ }
+    ensures { λ _. ⌜ Parents (now (kinds .entry)) (now (firsts .entry)) (now (seconds .entry)) nodes (now (links .exit)) ⌝ }
+    ensures { λ _. ⌜ Chains (now (kinds .entry)) (now (firsts .entry)) (now (seconds .entry)) leaves nodes (now (links .exit)) ⌝ }
+{
+    fill_chains(kinds, firsts, seconds, leaves, nodes, links);
+    fill_parents(kinds, firsts, seconds, leaves, nodes, links);
 }

@@ -1,57 +1,15 @@
--- The lowest bit that is on, and the others.
+-- One less turns the lowest bit off, and those below it on: the others.
 use Prim.Native.Nat.{ℕ, zero, suc, _+_, _-_, _*_, _/_, _%_, _^_, _≤_, _<_}
-use native.Mathlib.Nat.{pow-suc}
 use native.Mathlib.Omega.{arith}
 use mathlib.Core.Path.{_≡_, refl, sym, _∙_}
 use mathlib.Core.Bool.{true, false, true≢false}
-use borrow.Author.Tests.{eqb-true, eqb-false, eq-eqb, ne-eqb}
+use borrow.Author.Tests.{eqb-true, eqb-false}
 use lib.Bits.{bitAnd, and-step, and-self, and-le-r}
-use lib.Count.{under, trailingZeros}
-use Rattle.line_bits.specs.Words.{digit, bit}
-use Rattle.line_bits.specs.Bits.{Lowest, Others}
-use Rattle.line_bits.proofs.Digits.{bit-none}
-
--- ---- the lowest bit that is on
-pub trailing-digit : (k w b : ℕ) → b < trailingZeros k w → digit w b ≡ 0
-unfolding trailingZeros digit
-trailing-digit zero w b h = absurd (omega arith)
-trailing-digit (suc k) w zero h = first (w % 2) refl h
-  where
-    first : (d : ℕ) → w % 2 ≡ d → 0 < under d (trailingZeros k (w / 2)) → w % 2 ≡ 0
-    first zero e h = e
-    first (suc d) e h = absurd (omega arith)
-trailing-digit (suc k) w (suc b) h = trailing-digit k (w / 2) b (later (w % 2) h)
-  where
-    later : (d : ℕ) → suc b < under d (trailingZeros k (w / 2)) → b < trailingZeros k (w / 2)
-    later zero h = omega arith
-    later (suc d) h = absurd (omega arith)
-
-trailing-low : (k d : ℕ) → 0 < d → d < 2 ^ k → trailingZeros k d < k
-unfolding trailingZeros
-trailing-low zero d h l = absurd (omega arith)
-trailing-low (suc k) d h l = go (d % 2) refl (λ q. trailing-low k (d / 2) q (omega (arith, pow-suc 2 k)))
-  where
-    go : (r : ℕ) → d % 2 ≡ r → (0 < d / 2 → trailingZeros k (d / 2) < k) → under r (trailingZeros k (d / 2)) < suc k
-    go zero e less = omega (arith, less (omega arith))
-    go (suc r) e less = omega arith
-
-trailing-on : (k d : ℕ) → 0 < d → d < 2 ^ k → digit d (trailingZeros k d) ≡ 1
-unfolding trailingZeros digit
-trailing-on zero d h l = absurd (omega arith)
-trailing-on (suc k) d h l = go (d % 2) refl (λ q. trailing-on k (d / 2) q (omega (arith, pow-suc 2 k)))
-  where
-    go : (r : ℕ) → d % 2 ≡ r → (0 < d / 2 → digit (d / 2) (trailingZeros k (d / 2)) ≡ 1) → digit d (under r (trailingZeros k (d / 2))) ≡ 1
-    go zero e on = on (omega arith)
-    go (suc r) e on = omega arith
-
-pub lowest-is : (d z : ℕ) → z ≡ trailingZeros 64 d → 0 < d → d < 2 ^ 64 → Lowest d z
-lowest-is d z is some fits =
-    rw is
-    (record {
-      low = trailing-low 64 d some fits;
-      on = eq-eqb (digit d (trailingZeros 64 d)) 1 (trailing-on 64 d some fits);
-      off = λ b h. ne-eqb (digit d b) 1 (λ q. omega (arith, trailing-digit 64 d b h));
-    })
+use Rattle.word_bits.specs.Words.{digit, bit}
+use Rattle.word_bits.specs.Lowest.{Lowest}
+use Rattle.line_bits.specs.Bits.{Others}
+use Rattle.word_bits.proofs.Digits.{bit-none}
+pub use Rattle.word_bits.proofs.LowestLaws.{trailing-digit}
 
 clear-odd : (d : ℕ) → d % 2 ≡ 1 → bitAnd d (d - 1) ≡ d / 2 * 2
 clear-odd d e =

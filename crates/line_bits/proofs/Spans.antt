@@ -9,9 +9,9 @@ use lib.Bits.{bitOr, bitXor, xor-step, xor-self, xor-shr, xor-lt, or-lt}
 use lib.Pow.{pow-add, pow-lt, pow-mono, shl-exact}
 use borrow.Author.Tests.{eq-eqb, ne-eqb, leb-true, leb-false, le-leb, lt-leb}
 use Rattle.formula.specs.Formula.{exclusive, meaning}
-use Rattle.line_bits.specs.Words.{digit, bit}
+use Rattle.word_bits.specs.Words.{digit, bit}
 use Rattle.line_bits.specs.Bits.{none, One, Moved, Inner, Spans, Since, Masked}
-use Rattle.line_bits.proofs.Digits.{bit-or, bit-xor, bit-ones, bit-none, bit-top, bit-top-on, small-word, shift-bit}
+use Rattle.word_bits.proofs.Digits.{bit-or, bit-xor, bit-ones, bit-none, bit-top, bit-top-on, small-word, shift-bit}
 
 -- ---- none of some
 none-later : (f : ℕ → Bool) (i d : ℕ) → none f (suc i) d ≡ none (λ x. f (suc x)) i d

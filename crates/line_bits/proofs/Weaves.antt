@@ -8,8 +8,8 @@ use lib.Dec.{eqb, ltb}
 use lib.Bits.{bitOr}
 use lib.ListN.{length, getD}
 use borrow.Author.Tests.{ltb-true, ltb-false}
-use Rattle.line_bits.specs.Words.{digit, bit}
-use Rattle.line_bits.proofs.Digits.{bit-past, first-bit, second-bit}
+use Rattle.word_bits.specs.Words.{digit, bit}
+use Rattle.word_bits.proofs.Digits.{bit-past, first-bit, second-bit}
 use Rattle.line_bits.specs.Bits.{Binary, Woven}
 
 pub weave-byte : (bytes : List ℕ) (s r : ℕ) → Binary bytes → s + 1 ≤ length bytes → r ≡ getD bytes s 0 → Woven bytes s 1 1 r

@@ -5,7 +5,8 @@ use mathlib.Core.Bool.{Bool, true, false, not, _&&_}
 use mathlib.Core.List.{List}
 use lib.Dec.{eqb, leb}
 use lib.ListN.{length, getD}
-use Rattle.line_bits.specs.Words.{bit}
+use Rattle.word_bits.specs.Words.{bit}
+pub use Rattle.word_bits.specs.Lowest.{Lowest}
 
 -- From i on, d of them: none.
 unfoldable pub none : (ℕ → Bool) → ℕ → ℕ → Bool
@@ -41,12 +42,6 @@ pub record Since (w r : ℕ) : Type 0 where
 -- By the last bit of w, the bits of m or none.
 pub record Masked (w m r : ℕ) : Type 0 where
   pub is : (b : ℕ) → b < 64 → bit r b ≡ (bit w 63 && bit m b)
-
--- bit z is the lowest of d that is on
-pub record Lowest (d z : ℕ) : Type 0 where
-  pub low : z < 64
-  pub on : bit d z ≡ true
-  pub off : (b : ℕ) → b < z → bit d b ≡ false
 
 -- r is d without the lowest bit that is on
 pub record Others (d r : ℕ) : Type 0 where

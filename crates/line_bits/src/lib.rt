@@ -1,7 +1,8 @@
 // Bits of words: from one to the next, the last, the lowest, and bytes woven into them.
 ghost use Prim.Native.Nat.{_+_, _^_, _≤_, _<_};
 ghost use lib.ListN.{length};
-ghost use Rattle.line_bits.specs.Bits.{Inner, Spans, Moved, Masked, Since, Lowest, Others, Binary, Woven};
+ghost use Rattle.line_bits.specs.Bits.{Inner, Spans, Moved, Masked, Since, Others, Binary, Woven};
+pub use word_bits::lowest;
 
 const ONES: u64 = 0xFFFF_FFFF_FFFF_FFFF;
 
@@ -54,14 +55,6 @@ pub fn after_last(w: u64) -> usize
         j -= 1;
     }
     0
-}
-
-// The lowest bit that is on.
-pub fn lowest(d: u64) -> usize
-    requires { ⌜ 0 < d ⌝ }
-    ensures { λ r. ⌜ Lowest d r ⌝ }
-{
-    basics::wide_long(u64::trailing_zeros(d))
 }
 
 // All bits that are on but the lowest.

@@ -19,7 +19,8 @@ use Rattle.lines.specs.Marked.{Marked, stateAfter, openAfter, wallsAfter, Passe
 use Rattle.lines.specs.AtIndex.{groupEndsAt}
 use Rattle.lines.proofs.BlockWalls.{state-more}
 use Rattle.lines.proofs.PassLaws.{pass-block}
-use Rattle.line_strips.specs.Strips.{wide, columns, cell, on, Plan, planned, turnsAt, lastAt, Filled, SaidAlone}
+use Rattle.line_lists.specs.Block.{wide, columns, cell, Plan, planned, SaidAlone}
+use Rattle.line_strips.specs.Strips.{on, turnsAt, lastAt, Filled}
 use Rattle.line_strips.specs.Filling.{Turnable, Fillable, Entered}
 use Rattle.line_words.specs.Stretches.{StandFor}
 use Rattle.line_words.specs.declared.Arranged.{Arranged}
@@ -29,10 +30,10 @@ use Rattle.line_events.specs.Events.{endsIn, eventsAfter}
 use Rattle.line_events.specs.Noted.{Listed}
 use Rattle.line_sweeping.specs.Sweeping.{ColumnThere}
 use Rattle.line_events.proofs.ListedLaws.{EventOf, listed-each}
-use Rattle.line_shapes.specs.Groups.{GroupEnd}
-use Rattle.line_shapes.proofs.GroupLaws.{group-end}
-use Rattle.line_turns.specs.Turns.{Held, held, columnOf, eventLine, eventEdge, wallsBy, openBy, isOpen}
-use Rattle.line_turns.specs.Spots.{ColumnHeld, EventHeld}
+use Rattle.line_writing.specs.Groups.{GroupEnd}
+use Rattle.line_writing.proofs.GroupLaws.{group-end}
+use Rattle.line_writing.specs.Finishing.{Held, held, columnOf, eventLine, eventEdge, wallsBy, openBy, isOpen}
+use Rattle.line_writing.specs.Spots.{ColumnHeld, EventHeld}
 use Rattle.line_blocks.specs.Blocks.{RowMade, CanSweep, Passing}
 use Rattle.line_blocks.proofs.EventWalls.{events-walls, events-open}
 use Rattle.line_blocks.proofs.HeldLaws.{held-last, held-ends, held-told, held-leaving}

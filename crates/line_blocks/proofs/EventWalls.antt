@@ -8,11 +8,11 @@ use mathlib.Core.Option.{Option, none, some}
 use Rattle.lines.specs.Lines.{high, Wall, Edge, openEnd, opened, closed}
 use Rattle.lines.specs.Marked.{Marked, columnEdge, openNext, finished, openAfter, wallsAfter}
 use Rattle.lines.proofs.BlockWalls.{open-zero, open-more, walls-zero, walls-more}
-use Rattle.line_strips.specs.Strips.{columns}
+use Rattle.line_lists.specs.Block.{columns}
 use Rattle.line_events.specs.Events.{eventsAt, metalNext, metalAfter, eventsAfter}
 use Rattle.line_events.proofs.ListedLaws.{events-zero, events-more, metal-zero, metal-more}
-use Rattle.line_turns.specs.Turns.{wallsBy, openBy, isOpen}
-use Rattle.line_turns.proofs.TurnLaws.{walls-app, open-app}
+use Rattle.line_writing.specs.Finishing.{wallsBy, openBy, isOpen}
+use Rattle.line_writing.proofs.FinishLaws.{walls-app, open-app}
 
 module _ (edge : ℕ → Edge) (line : ℕ → ℕ) where
   module _ (at : ℕ → Marked) (bits : ℕ → Bool) where

@@ -13,10 +13,11 @@ use Rattle.lines.specs.Lines.{LineLists, lineLists, startState}
 use Rattle.lines.specs.Columns.{turned}
 use Rattle.lines.specs.Marked.{Marked, columnEdge, stateNext, stateAfter}
 use Rattle.lines.proofs.BlockWalls.{state-zero, state-more}
-use Rattle.line_strips.specs.Strips.{Plan, planned, turnsAt, lastAt, entering, columns}
+use Rattle.line_lists.specs.Block.{Plan, planned, columns}
+use Rattle.line_strips.specs.Strips.{turnsAt, lastAt, entering}
 use Rattle.line_columns.specs.Planned.{startHeld, crossingHeld, heldAt}
 use Rattle.line_events.specs.Events.{endsIn}
-use Rattle.line_turns.specs.Turns.{Held, held, columnLine, edgeThere, eventLine, eventEdge}
+use Rattle.line_writing.specs.Finishing.{Held, held, columnLine, edgeThere, eventLine, eventEdge}
 use Rattle.line_blocks.proofs.EventWalls.{Told}
 
 module _ (names : ℕ) (rows ls : List ℕ) (ps : List ℤ) (ss : List ℕ) (a : ℕ) (cols starts lasts : List ℕ) where

@@ -4,3 +4,4 @@ mod RowLaws
 mod BlockLaws
 mod PassBlocks
 pub mod PassLaws
+mod StepLaws

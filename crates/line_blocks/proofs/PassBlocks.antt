@@ -10,7 +10,7 @@ use lib.Dec.{eqb}
 use lib.IntN.{ℤ}
 use lib.ListN.{length, getD, length-drop}
 use Rattle.lines.specs.Lines.{LineLists, lineLists, rowCount}
-use Rattle.line_strips.specs.Strips.{wide, columns, cell, planned}
+use Rattle.line_lists.specs.Block.{wide, columns, cell, planned}
 use Rattle.line_strips.specs.Filling.{Fillable}
 use Rattle.line_bits.proofs.Digits.{shift-bit}
 use Rattle.line_words.specs.Evaluating.{Evaluable}

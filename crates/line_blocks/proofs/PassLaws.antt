@@ -17,7 +17,7 @@ use Rattle.lines.proofs.PassLaws.{pass-start, pass-end, pass-room}
 use Rattle.line_checking.specs.Verdicts.{verdict, Judged}
 use Rattle.line_checking.specs.declared.Verdict.{Verdict}
 use Rattle.line_checking.specs.declared.Verdict.the-variants as verdicts
-use Rattle.line_strips.specs.Strips.{wide}
+use Rattle.line_lists.specs.Block.{wide}
 use Rattle.line_words.specs.Stretches.{Workable, StandFor}
 use Rattle.line_words.specs.declared.Arranged.{Arranged}
 use Rattle.line_columns.specs.Planning.{Plannable, WholeRows, NextInside}
@@ -54,8 +54,8 @@ module _ {stretches links : List ℕ} {arranged : Arranged} {names : ℕ} {air :
         }
 
 module _ {stretches links : List ℕ} {arranged : Arranged} {names : ℕ} {air : Bool} {rows ls : List ℕ} {ps : List ℤ} {ss : List ℕ} {words : List ℕ} (can : CanPass stretches links arranged names air (lineLists rows ls ps ss) words) where
-  pub pass-whole : WholeRows names rows (length rows / names)
-  pass-whole = let ok = plannable (can .taken) in record { some = ok .some; are = refl; whole = ok .whole; bytes = ok .bytes }
+  pub pass-whole : (count : ℕ) → count ≡ rowCount names rows → WholeRows names rows count
+  pass-whole count is = let ok = plannable (can .taken) in record { some = ok .some; are = is; whole = rw is (ok .whole); bytes = ok .bytes }
 
   pub pass-said : SaidOf air rows
   pass-said = can .said

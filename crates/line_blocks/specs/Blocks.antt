@@ -13,7 +13,8 @@ use Rattle.lines.specs.Lines.{LineLists, startState, judged, Wall, Edge}
 use Rattle.lines.specs.Columns.{Column}
 use Rattle.lines.specs.Marked.{Passed}
 use Rattle.line_checking.specs.Verdicts.{InAir}
-use Rattle.line_strips.specs.Strips.{wide, columns, cell, planned, turnsAt, lastAt, Filled, SaidAlone}
+use Rattle.line_lists.specs.Block.{wide, columns, cell, planned, SaidAlone}
+use Rattle.line_strips.specs.Strips.{turnsAt, lastAt, Filled}
 use Rattle.line_strips.specs.Filling.{Entered}
 use Rattle.line_words.specs.Stretches.{StandFor}
 use Rattle.line_words.specs.Evaluating.{Evaluable, Root}
@@ -24,8 +25,8 @@ use Rattle.line_columns.specs.declared.Ended.{Ended}
 use Rattle.line_events.specs.Events.{endsIn}
 use Rattle.line_events.specs.Noted.{Listed}
 use Rattle.line_sweeping.specs.Sweeping.{ColumnThere}
-use Rattle.line_turns.specs.Turns.{Held, held, eventEdge, eventLine, wallsBy, openBy, isOpen}
-use Rattle.line_turns.specs.Spots.{EventHeld}
+use Rattle.line_writing.specs.Finishing.{Held, held, eventEdge, eventLine, wallsBy, openBy, isOpen}
+use Rattle.line_writing.specs.Spots.{EventHeld}
 use Rattle.line_blocks.specs.declared.Pass.{Pass}
 use Rattle.line_blocks.specs.declared.Block.{Block}
 

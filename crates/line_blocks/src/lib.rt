@@ -1,23 +1,37 @@
-// The pass over a call's columns, block by block: a block's columns, its row of metal, and its events. What is done with the walls is the caller's.
+// The pass over a call's columns, block by block: a block's columns, its row of metal, its events, and the walls that they finish, put into five lists. Whose lists they are is the caller's.
+use line_lists::COLUMNS;
+use line_lists::EVENTS;
+use line_lists::W;
 ghost use mathlib.Core.Path.{_≡_};
 ghost use mathlib.Core.Bool.{not, _&&_, _||_};
 ghost use lib.Dec.{eqb, ltb};
 ghost use Prim.Native.Nat.{_-_, _*_};
 ghost use lib.ListN.{length};
-ghost use Rattle.lines.specs.Lines.{lineLists, rowCount};
-ghost use Rattle.line_strips.specs.Strips.{wide, columns, cell};
+ghost use Rattle.lines.specs.Lines.{lineLists, rowCount, answerLists};
+ghost use Rattle.line_lists.specs.Block.{wide, columns, cell};
 ghost use Rattle.line_strips.specs.Filling.{Fillable};
 ghost use Rattle.line_words.specs.Evaluating.{Evaluable};
 ghost use Rattle.line_columns.specs.Planning.{WholeRows, NextInside};
 ghost use Rattle.line_blocks.specs.Blocks.{RowMade, CanSweep, EventsMade, Sized, BlockAsk, BlockEnds, BlockMade, SaidOf, Begun};
-
-const W: usize = line_strips::W;
+ghost use Rattle.line_blocks.specs.Steps.{StepAsk, StepDone, NothingDone};
 
 const LAST: usize = W - 1;
 
-const COLUMNS: usize = line_strips::COLUMNS;
+// What a call is of: its formula, arranged, its names, the number of its rows, and whether they are said to be all outside.
+pub struct Call {
+    pub arranged: line_words::Arranged,
+    pub names: usize,
+    pub count: usize,
+    pub air: bool,
+}
 
-const EVENTS: usize = line_events::EVENTS;
+// A block: its first crossing, its number of columns, whether they are crossings alone, and whether the first is on the line of the last one before it.
+struct Part {
+    first: usize,
+    size: usize,
+    alone: bool,
+    onward: bool,
+}
 
 // How far the pass has come: the cursor of the next block, and whether its first column is on the line of the last one before it.
 pub struct Pass {
@@ -31,39 +45,42 @@ pub struct Block {
     pub events: usize,
 }
 
+// How far the pass has come, and the walls.
+pub struct Progress {
+    pub pass: Pass,
+    pub run: line_writing::writing::Course,
+}
+
 // The formula's row of a block of n columns, whose first crossing is a.
 fn block_row(
     stretches: &[u64; 1024],
     links: &[u32],
-    arranged: line_words::Arranged,
-    names: usize,
+    call: Call,
     words: &mut [u64],
     rows: &[u8],
     shape: &[u16],
     cols: &[u16; COLUMNS],
     starts: &[u32; COLUMNS],
     lasts: &[u64; W],
-    a: usize,
-    n: usize,
-    alone: bool,
-    goes_on: bool,
+    b: Part,
 ) -> [u64; W]
-    requires { ⌜ Evaluable (now stretches) (now links) (now words) arranged × Fillable names (now rows) (now shape) (now cols) (now starts) (now lasts) a n alone (now words) ⌝ }
-    ensures { λ r. ⌜ RowMade (now (stretches .entry)) (now (links .entry)) arranged names (now (rows .entry)) (now (shape .entry)) (now (cols .entry)) (now (starts .entry)) (now (lasts .entry)) a n «goes_on» (now (words .entry)) (now (words .exit)) r ⌝ }
+    requires { ⌜ Evaluable (now stretches) (now links) (now words) (call .arranged) × Fillable (call .names) (now rows) (now shape) (now cols) (now starts) (now lasts) (b .first) (b .size) (b .alone) (now words) ⌝ }
+    ensures { λ r. ⌜ RowMade (now (stretches .entry)) (now (links .entry)) (call .arranged) (call .names) (now (rows .entry)) (now (shape .entry)) (now (cols .entry)) (now (starts .entry)) (now (lasts .entry)) (b .first) (b .size) (b .onward) (now (words .entry)) (now (words .exit)) r ⌝ }
 {
     line_strips::fill(
         words,
-        names,
+        call.names,
         rows,
         shape,
         cols,
         starts,
         lasts,
-        a,
-        n,
-        alone,
-        goes_on,
+        b.first,
+        b.size,
+        b.alone,
+        b.onward,
     );
+    let arranged = call.arranged;
     line_words::evaluate(stretches, links, arranged, words)
 }
 
@@ -71,8 +88,7 @@ fn block_row(
 fn block_events(
     stretches: &[u64; 1024],
     links: &[u32],
-    arranged: line_words::Arranged,
-    names: usize,
+    call: Call,
     words: &mut [u64],
     rows: &[u8],
     line: &[u32],
@@ -81,33 +97,37 @@ fn block_events(
     cols: &[u16; COLUMNS],
     starts: &[u32; COLUMNS],
     lasts: &[u64; W],
-    a: usize,
-    n: usize,
-    alone: bool,
-    goes_on: bool,
+    b: Part,
     metal: bool,
     events: &mut [u16; EVENTS],
 ) -> usize
-    requires { ⌜ Evaluable (now stretches) (now links) (now words) arranged × Fillable names (now rows) (now shape) (now cols) (now starts) (now lasts) a n alone (now words) × CanSweep (now line) (now at) a n alone (now cols) (now lasts) (now events) ⌝ }
-    ensures { λ r. ⌜ EventsMade (now (stretches .entry)) (now (links .entry)) arranged names (now (rows .entry)) (now (line .entry)) (now (at .entry)) (now (shape .entry)) (now (cols .entry)) (now (starts .entry)) (now (lasts .entry)) a n «goes_on» metal (now (words .entry)) (now (words .exit)) (now (events .exit)) r ⌝ }
+    requires { ⌜ Evaluable (now stretches) (now links) (now words) (call .arranged) × Fillable (call .names) (now rows) (now shape) (now cols) (now starts) (now lasts) (b .first) (b .size) (b .alone) (now words) × CanSweep (now line) (now at) (b .first) (b .size) (b .alone) (now cols) (now lasts) (now events) ⌝ }
+    ensures { λ r. ⌜ EventsMade (now (stretches .entry)) (now (links .entry)) (call .arranged) (call .names) (now (rows .entry)) (now (line .entry)) (now (at .entry)) (now (shape .entry)) (now (cols .entry)) (now (starts .entry)) (now (lasts .entry)) (b .first) (b .size) (b .onward) metal (now (words .entry)) (now (words .exit)) (now (events .exit)) r ⌝ }
 {
     let row = block_row(
         stretches,
         links,
-        arranged,
-        names,
+        call,
         words,
         rows,
         shape,
         cols,
         starts,
         lasts,
-        a,
-        n,
-        alone,
-        goes_on,
+        b,
     );
-    line_sweeping::sweep(&row, lasts, line, at, a, cols, n, alone, metal, events)
+    line_sweeping::sweep(
+        &row,
+        lasts,
+        line,
+        at,
+        b.first,
+        cols,
+        b.size,
+        b.alone,
+        metal,
+        events,
+    )
 }
 
 // The line of the last of n columns goes on: only where the block is full.
@@ -128,8 +148,7 @@ fn goes_past(lasts: &[u64; W], n: usize) -> bool
 fn planned_block(
     stretches: &[u64; 1024],
     links: &[u32],
-    arranged: line_words::Arranged,
-    names: usize,
+    call: Call,
     words: &mut [u64],
     rows: &[u8],
     line: &[u32],
@@ -143,16 +162,21 @@ fn planned_block(
     ended: line_columns::Ended,
     metal: bool,
 ) -> Block
-    requires { ⌜ BlockAsk (now stretches) (now links) arranged names (lineLists (now rows) (now line) (now at) (now shape)) (now words) p × BlockEnds names (now rows) (now line) (now cols) (now starts) (now lasts) p ended × (length (now events) ≡ 2 * columns) ⌝ }
-    ensures { λ r. ⌜ BlockMade (now (stretches .entry)) (now (links .entry)) arranged names (lineLists (now (rows .entry)) (now (line .entry)) (now (at .entry)) (now (shape .entry))) (now (words .entry)) p metal (now (words .exit)) (now (cols .entry)) (now (starts .entry)) (now (lasts .entry)) (now (events .exit)) r ⌝ }
+    requires { ⌜ BlockAsk (now stretches) (now links) (call .arranged) (call .names) (lineLists (now rows) (now line) (now at) (now shape)) (now words) p × BlockEnds (call .names) (now rows) (now line) (now cols) (now starts) (now lasts) p ended × (length (now events) ≡ 2 * columns) ⌝ }
+    ensures { λ r. ⌜ BlockMade (now (stretches .entry)) (now (links .entry)) (call .arranged) (call .names) (lineLists (now (rows .entry)) (now (line .entry)) (now (at .entry)) (now (shape .entry))) (now (words .entry)) p metal (now (words .exit)) (now (cols .entry)) (now (starts .entry)) (now (lasts .entry)) (now (events .exit)) r ⌝ }
 {
     let from = p.cursor;
     let next = ended.next;
+    let b = Part {
+        first: from.i,
+        size: next.c,
+        alone: ended.alone,
+        onward: p.onward,
+    };
     let m = block_events(
         stretches,
         links,
-        arranged,
-        names,
+        call,
         words,
         rows,
         line,
@@ -161,10 +185,7 @@ fn planned_block(
         cols,
         starts,
         lasts,
-        from.i,
-        next.c,
-        ended.alone,
-        p.onward,
+        b,
         metal,
         events,
     );
@@ -179,12 +200,10 @@ fn planned_block(
 }
 
 // The next block of the pass, with metal before it or not: its columns and its events.
-pub fn next_block(
+fn next_block(
     stretches: &[u64; 1024],
     links: &[u32],
-    arranged: line_words::Arranged,
-    names: usize,
-    count: usize,
+    call: Call,
     words: &mut [u64],
     rows: &[u8],
     line: &[u32],
@@ -197,16 +216,24 @@ pub fn next_block(
     p: Pass,
     metal: bool,
 ) -> Block
-    requires { ⌜ BlockAsk (now stretches) (now links) arranged names (lineLists (now rows) (now line) (now at) (now shape)) (now words) p × Sized (now cols) (now starts) (now lasts) (now events) × (count ≡ rowCount names (now rows)) ⌝ }
-    ensures { λ r. ⌜ BlockMade (now (stretches .entry)) (now (links .entry)) arranged names (lineLists (now (rows .entry)) (now (line .entry)) (now (at .entry)) (now (shape .entry))) (now (words .entry)) p metal (now (words .exit)) (now (cols .exit)) (now (starts .exit)) (now (lasts .exit)) (now (events .exit)) r ⌝ }
+    requires { ⌜ BlockAsk (now stretches) (now links) (call .arranged) (call .names) (lineLists (now rows) (now line) (now at) (now shape)) (now words) p × Sized (now cols) (now starts) (now lasts) (now events) × (call .count ≡ rowCount (call .names) (now rows)) ⌝ }
+    ensures { λ r. ⌜ BlockMade (now (stretches .entry)) (now (links .entry)) (call .arranged) (call .names) (lineLists (now (rows .entry)) (now (line .entry)) (now (at .entry)) (now (shape .entry))) (now (words .entry)) p metal (now (words .exit)) (now (cols .exit)) (now (starts .exit)) (now (lasts .exit)) (now (events .exit)) r ⌝ }
 {
     let from = p.cursor;
-    let ended = line_columns::plan(cols, starts, lasts, rows, names, count, line, from);
+    let ended = line_columns::plan(
+        cols,
+        starts,
+        lasts,
+        rows,
+        call.names,
+        call.count,
+        line,
+        from,
+    );
     planned_block(
         stretches,
         links,
-        arranged,
-        names,
+        call,
         words,
         rows,
         line,
@@ -233,7 +260,7 @@ fn first_start(rows: &[u8], names: usize, count: usize, air: bool) -> usize
     line_columns::next_inside(rows, names, count, 0)
 }
 
-pub fn begin(rows: &[u8], names: usize, count: usize, air: bool) -> Pass
+fn first_pass(rows: &[u8], names: usize, count: usize, air: bool) -> Pass
     requires { ⌜ WholeRows names (now rows) count × SaidOf air (now rows) ⌝ }
     ensures { λ r. ⌜ Begun names (now (rows .entry)) r ⌝ }
 {
@@ -244,11 +271,93 @@ pub fn begin(rows: &[u8], names: usize, count: usize, air: bool) -> Pass
     }
 }
 
-// A crossing is left, or the start of a line.
-pub fn is_left(p: Pass, crossings: usize, count: usize) -> bool
-    ensures { λ r. ⌜ r ≡ (ltb (p .cursor .i) crossings || ltb (p .cursor .q) count) ⌝ }
+// The next block of the pass, and its walls.
+pub fn step(
+    stretches: &[u64; 1024],
+    links: &[u32],
+    call: Call,
+    words: &mut [u64],
+    rows: &[u8],
+    line: &[u32],
+    at: &[i32],
+    shape: &[u16],
+    cols: &mut [u16; COLUMNS],
+    starts: &mut [u32; COLUMNS],
+    lasts: &mut [u64; W],
+    events: &mut [u16; EVENTS],
+    p: Progress,
+    wl: &mut [u32],
+    ws: &mut [i32],
+    we: &mut [i32],
+    wf: &mut [u16],
+    wt: &mut [u16],
+) -> Progress
+    requires { ⌜ StepAsk (now stretches) (now links) (call .arranged) (call .names) (lineLists (now rows) (now line) (now at) (now shape)) (now words) p (answerLists (now wl) (now ws) (now we) (now wf) (now wt)) × Sized (now cols) (now starts) (now lasts) (now events) × (call .count ≡ rowCount (call .names) (now rows)) ⌝ }
+    ensures { λ r. ⌜ StepDone (now (stretches .entry)) (now (links .entry)) (call .arranged) (call .names) (lineLists (now (rows .entry)) (now (line .entry)) (now (at .entry)) (now (shape .entry))) (now (words .entry)) p (answerLists (now (wl .entry)) (now (ws .entry)) (now (we .entry)) (now (wf .entry)) (now (wt .entry))) (now (words .exit)) (now (cols .exit)) (now (starts .exit)) (now (lasts .exit)) (now (events .exit)) r (answerLists (now (wl .exit)) (now (ws .exit)) (now (we .exit)) (now (wf .exit)) (now (wt .exit))) ⌝ }
 {
-    let f = p.cursor;
+    let pass = p.pass;
+    let run = p.run;
+    let b = next_block(
+        stretches,
+        links,
+        call,
+        words,
+        rows,
+        line,
+        at,
+        shape,
+        cols,
+        starts,
+        lasts,
+        events,
+        pass,
+        run.metal,
+    );
+    let from = pass.cursor;
+    let after = line_writing::writing::deliver(
+        events,
+        b.events,
+        line,
+        at,
+        shape,
+        from.i,
+        cols,
+        starts,
+        run,
+        wl,
+        ws,
+        we,
+        wf,
+        wt,
+    );
+    let next = b.next;
+    Progress {
+        pass: next,
+        run: after,
+    }
+}
+
+pub fn begin(rows: &[u8], call: Call) -> Progress
+    requires { ⌜ WholeRows (call .names) (now rows) (call .count) × SaidOf (call .air) (now rows) ⌝ }
+    ensures { λ r. ⌜ NothingDone (call .names) (now (rows .entry)) r ⌝ }
+{
+    let pass = first_pass(rows, call.names, call.count, call.air);
+    Progress {
+        pass,
+        run: line_writing::writing::Course {
+            metal: false,
+            from: line_writing::spots::Spot { at: 0, shape: 0 },
+            count: 0,
+        },
+    }
+}
+
+// A crossing is left, or the start of a line.
+pub fn is_left(p: Progress, crossings: usize, count: usize) -> bool
+    ensures { λ r. ⌜ r ≡ (ltb (p .pass .cursor .i) crossings || ltb (p .pass .cursor .q) count) ⌝ }
+{
+    let pass = p.pass;
+    let f = pass.cursor;
     if f.i < crossings {
         return true;
     }

@@ -15,7 +15,7 @@ use Rattle.lines.specs.Lines.{lineLists, crossings, rowCount, bits, rowed, orde
 use Rattle.line_checking.specs.declared.Verdict.{Verdict}
 use Rattle.line_checking.specs.declared.Verdict.the-variants.{Fine, Refused}
 use Rattle.line_checking.specs.Verdicts.{verdict, InAir, RowsJudged, ItemsJudged, Judged}
-use Rattle.line_checking.specs.Items.{Greatest}
+use Rattle.line_lists.specs.Greatest.{Greatest}
 
 bits-yes : (rows : List ℕ) → ((j : ℕ) → j < length rows → getD rows j 0 ≤ 1) → bits rows ≡ true
 unfolding bits

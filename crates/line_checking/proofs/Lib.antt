@@ -1,5 +1,4 @@
 mod ItemLaws
-mod GreatestLaws
 mod OrderLaws
 mod RoomLaws
 mod JudgeLaws

@@ -15,7 +15,8 @@ use Rattle.lines.specs.AtIndex.{item}
 use Rattle.lines.proofs.Items.{drop-item, drop-all}
 use Rattle.line_checking.specs.declared.Verdict.the-variants.{Fine, Refused}
 use Rattle.line_checking.specs.Verdicts.{ItemsJudged}
-use Rattle.line_checking.specs.Items.{fallsAt, wrongAt, orderedFrom, Alike, NoneStray, AllFine, Greatest}
+use Rattle.line_checking.specs.Items.{fallsAt, wrongAt, orderedFrom, Alike, NoneStray, AllFine}
+use Rattle.line_lists.specs.Greatest.{Greatest}
 use Rattle.line_checking.proofs.ItemLaws.{strays-by, falls-any, falls-line}
 
 -- three questions in turn

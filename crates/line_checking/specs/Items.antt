@@ -1,4 +1,4 @@
--- What the judgement keeps: what is asked of one item, what is still to be asked, and the greatest of a list.
+-- What the judgement keeps: what is asked of one item and what is still to be asked.
 use Prim.Native.Nat.{ℕ, zero, suc, _<_, _≤_}
 use mathlib.Core.Path.{_≡_}
 use mathlib.Core.Bool.{Bool, true, false, cond, _||_}
@@ -55,8 +55,3 @@ pub record NoneStray (ls : List ℕ) (ps : List ℤ) (n found : ℕ) : Type 0 wh
 -- r says that nothing is wrong with any item, and is not wrong then
 pub record AllFine (names rows : ℕ) (ls : List ℕ) (ps : List ℤ) (ss : List ℕ) (r : Bool) : Type 0 where
   pub fine : r ≡ true → orderedFrom names rows ls ps ss 0 ≡ given tt
-
--- of the first n entries m is the greatest, or 0
-pub record Greatest (xs : List ℕ) (n m : ℕ) : Type 0 where
-  pub above : (j : ℕ) → j < n → getD xs j 0 ≤ m
-  pub among : 0 < m → (j : ℕ) × (j < n) × (getD xs j 0 ≡ m)

@@ -1,45 +1,22 @@
 // Judges start rows and crossing lists, and the room in the answer lists: refusals 13, 14, 10, 15, 11 and 9.
+use line_lists::Place;
+use line_lists::below;
+use line_lists::greatest_byte;
+use line_lists::not_beyond;
+use line_lists::one_if;
+use line_lists::spot;
 ghost use mathlib.Core.Path.{_≡_};
-ghost use mathlib.Core.Bool.{cond};
 ghost use Prim.Native.Nat.{_<_, max};
-ghost use lib.IntN.{pos};
-ghost use lib.ListN.{getD, length};
-ghost use lib.Signed.{ltZ, leZ};
+ghost use lib.ListN.{length};
 ghost use Rattle.lines.specs.Lines.{lineLists, roomy};
 ghost use Rattle.line_checking.specs.Verdicts.{verdict, RowsJudged, ItemsJudged, Judged};
-ghost use Rattle.line_checking.specs.Items.{fallsAt, atMark, wrongAt, Alike, Later, StrayAt, NoneStray, AllFine, Greatest};
+ghost use Rattle.line_checking.specs.Items.{fallsAt, atMark, wrongAt, Alike, Later, StrayAt, NoneStray, AllFine};
+ghost use Rattle.line_lists.specs.Greatest.{Greatest};
 
 pub enum Verdict {
     // whether every line starts in air
     Fine(bool),
     Refused(u8, usize),
-}
-
-// A position by value: a signed number of a slice is not compared with a constant.
-struct Place {
-    at: i32,
-}
-
-// The position at i is below that at j.
-pub fn below(at: &[i32], i: usize, j: usize) -> bool
-    requires { ⌜ (i < length (now at)) × (j < length (now at)) ⌝ }
-    ensures { λ r. ⌜ r ≡ ltZ (getD (now (at .entry)) i (pos 0)) (getD (now (at .entry)) j (pos 0)) ⌝ }
-{
-    at[i] < at[j]
-}
-
-fn spot(at: &[i32], i: usize) -> Place
-    requires { ⌜ i < length (now at) ⌝ }
-    ensures { λ r. ⌜ r .at ≡ getD (now (at .entry)) i (pos 0) ⌝ }
-{
-    let p = at[i];
-    Place { at: p }
-}
-
-fn not_beyond(a: Place, b: Place) -> bool
-    ensures { λ r. ⌜ r ≡ leZ (a .at) (b .at) ⌝ }
-{
-    a.at <= b.at
 }
 
 fn at_mark(p: Place) -> bool
@@ -67,15 +44,6 @@ fn falls_behind(line: &[u32], at: &[i32], i: usize) -> bool
     false
 }
 
-pub fn one_if(is: bool) -> u32
-    ensures { λ r. ⌜ r ≡ cond is 1 0 ⌝ }
-{
-    if is {
-        return 1;
-    }
-    0
-}
-
 // 0 if the item at i, not the first, neither falls behind the one before it nor is at an end mark. Flags and no branch: then many items are looked at at once.
 fn stray(line: &[u32], at: &[i32], i: usize) -> u32
     requires { ⌜ Later (now line) (now at) i ⌝ }
@@ -89,15 +57,6 @@ fn stray(line: &[u32], at: &[i32], i: usize) -> u32
     let down = one_if(below(at, i, i - 1));
     let mark = one_if(at_mark(p));
     back | (same & down) | mark
-}
-
-fn larger_byte(a: u8, b: u8) -> u8
-    ensures { λ r. ⌜ r ≡ max a b ⌝ }
-{
-    if a < b {
-        return b;
-    }
-    a
 }
 
 fn larger_shape(a: u16, b: u16) -> u16
@@ -122,19 +81,6 @@ fn strays(line: &[u32], at: &[i32]) -> u32
         i += 1;
     }
     found
-}
-
-pub fn greatest_byte(bytes: &[u8]) -> u8
-    ensures { λ r. ⌜ Greatest (now (bytes .entry)) (length (now (bytes .entry))) r ⌝ }
-{
-    let mut most: u8 = 0;
-    let mut i: usize = 0;
-    while i < bytes.len() {
-        let b = bytes[i];
-        most = larger_byte(most, b);
-        i += 1;
-    }
-    most
 }
 
 fn greatest_shape(shapes: &[u16]) -> u16

@@ -10,7 +10,7 @@ use lib.Dec.{eqb}
 use lib.ListN.{length, set}
 use lib.Seq.{getD-set-same, getD-set-other}
 use Rattle.line_bits.specs.Words.{bit}
-use Rattle.line_strips.specs.Strips.{wide, columns, cell}
+use Rattle.line_lists.specs.Block.{wide, columns, cell}
 use Rattle.line_bits.proofs.Digits.{bit-or, bit-none, one-bit, or-none}
 use Rattle.line_columns.specs.Planning.{LastPut}
 

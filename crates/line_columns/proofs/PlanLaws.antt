@@ -13,7 +13,8 @@ use Rattle.lines.specs.Lines.{LineLists, lineLists, entries, rowCount, startSta
 use Rattle.lines.specs.Columns.{Column, startColumn, crossingColumn}
 use Rattle.lines.specs.Marked.{mark, markAt}
 use Rattle.lines.specs.AtIndex.{item, groupEndsAt}
-use Rattle.line_strips.specs.Strips.{Plan, lastAt, columns, cell}
+use Rattle.line_lists.specs.Block.{Plan, columns, cell}
+use Rattle.line_strips.specs.Strips.{lastAt}
 use Rattle.line_columns.specs.Planned.{leftAt, startHeld, crossingHeld, heldAt, HeldWithin, PlanSized, BlockPlanned}
 use Rattle.line_runs.specs.Runs.{overAt}
 use Rattle.line_columns.specs.Planning.{Plannable, AtCursor, NextInside, WholeRows, StartsNext, Planning, PlanningOf, CanPlan, WordNext, WordPlanned, PlanMade}

@@ -8,7 +8,7 @@ use borrow.Author.Tests.{leb-true, leb-false}
 use lib.Dec.{leb}
 use lib.ListN.{getD, length, set, length-set}
 use lib.Seq.{getD-set-same, getD-set-other}
-use Rattle.line_strips.specs.Strips.{columns}
+use Rattle.line_lists.specs.Block.{columns}
 use Rattle.line_runs.specs.Runs.{overAt}
 use Rattle.line_columns.specs.Planning.{NextInside, StartsNext, LastPut, ColumnPut, StartReady, StartPut, CrossingReady, CrossingPut}
 

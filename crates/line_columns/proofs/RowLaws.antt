@@ -12,7 +12,7 @@ use lib.Seq.{getD-drop, getD-take, length-take-le}
 use Rattle.formula.specs.States.{State}
 use Rattle.lines.specs.Lines.{startState}
 use Rattle.lines.specs.Columns.{anyInside}
-use Rattle.line_checking.specs.Items.{Greatest}
+use Rattle.line_lists.specs.Greatest.{Greatest}
 use Rattle.line_columns.specs.Planning.{NextInside, WholeRows, RowThere, Occupied}
 
 any-none : (n : ℕ) (state : State) → ((s : ℕ) → s < n → state s ≡ false) → anyInside n state ≡ false

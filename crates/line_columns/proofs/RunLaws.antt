@@ -14,7 +14,8 @@ use Rattle.lines.specs.Lines.{LineLists, lineLists, entries, rowCount, startSta
 use Rattle.lines.specs.Columns.{crossingColumn}
 use Rattle.lines.specs.Marked.{mark, markAt}
 use Rattle.lines.specs.AtIndex.{item}
-use Rattle.line_strips.specs.Strips.{Plan, planned, columns, lastAt, Alone, SaidAlone}
+use Rattle.line_lists.specs.Block.{Plan, planned, columns, Alone, SaidAlone}
+use Rattle.line_strips.specs.Strips.{lastAt}
 use Rattle.line_columns.specs.Planned.{leftAt, heldAt, PlanSized, BlockPlanned}
 use Rattle.line_runs.specs.Runs.{RunMarked, Numbered, CutTo}
 use Rattle.line_columns.specs.Planning.{Plannable, AtCursor, CanPlan, PlanMade, RunsOn}

@@ -8,7 +8,7 @@ use borrow.Author.Tests.{ltb-true, ltb-false}
 use lib.Dec.{ltb}
 use lib.ListN.{getD, length, set, length-set}
 use Rattle.line_bits.specs.Words.{bit}
-use Rattle.line_strips.specs.Strips.{planned, wide, columns}
+use Rattle.line_lists.specs.Block.{planned, wide, columns}
 use Rattle.line_bits.proofs.Digits.{bit-none}
 use Rattle.line_columns.specs.Planned.{PlanSized}
 use Rattle.line_runs.specs.Runs.{overAt, turnsAway}

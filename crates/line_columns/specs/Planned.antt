@@ -9,7 +9,8 @@ use Rattle.lines.specs.Lines.{LineLists, entries, rowCount, startState, shapeAt
 use Rattle.lines.specs.Columns.{Column, startColumn, crossingColumn, startsFrom, columnsOf}
 use Rattle.lines.specs.Marked.{Marked, markAt}
 use Rattle.lines.specs.AtIndex.{item, groupEndsAt}
-use Rattle.line_strips.specs.Strips.{Plan, lastAt, wide, columns}
+use Rattle.line_lists.specs.Block.{Plan, wide, columns}
+use Rattle.line_strips.specs.Strips.{lastAt}
 
 -- the columns left at a cursor: of the crossings from i on, and of the lines from q on with a shape inside at their start
 abbrev pub leftAt : ℕ → LineLists → ℕ → ℕ → List Column

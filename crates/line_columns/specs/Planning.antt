@@ -10,7 +10,7 @@ use Rattle.lines.specs.Columns.{anyInside}
 use Rattle.lines.specs.Marked.{markAt}
 use Rattle.lines.specs.AtIndex.{Ascending}
 use Rattle.line_bits.specs.Words.{bit}
-use Rattle.line_strips.specs.Strips.{Plan, planned, wide, columns}
+use Rattle.line_lists.specs.Block.{Plan, planned, wide, columns}
 use Rattle.line_runs.specs.Runs.{overAt}
 use Rattle.line_columns.specs.Planned.{leftAt, heldAt, HeldWithin, PlanSized, BlockPlanned}
 

@@ -1,19 +1,15 @@
 // The columns of a block, from a cursor in the lists: a crossing, or the start of a line with a shape inside. See specs/Planned.antt.
+use line_lists::COLUMNS;
+use line_lists::START;
+use line_lists::W;
 ghost use mathlib.Core.Path.{_≡_};
 ghost use mathlib.Core.Bool.{cond};
 ghost use Prim.Native.Nat.{_+_, _<_, _≤_};
 ghost use lib.ListN.{length};
 ghost use Rattle.lines.specs.Lines.{startState};
 ghost use Rattle.lines.specs.Columns.{anyInside};
-ghost use Rattle.line_strips.specs.Strips.{columns, planned, SaidAlone};
+ghost use Rattle.line_lists.specs.Block.{columns, planned, SaidAlone};
 ghost use Rattle.line_columns.specs.Planning.{NextInside, WholeRows, RowThere, Occupied, StartsNext, LastPut, StartReady, StartPut, CrossingReady, CrossingPut, UntilReady, UntilPut, CrossingsReady, CrossingsPut, CanPlan, WordNext, WordPlanned, PlanMade, RunsOn};
-
-const W: usize = line_strips::W;
-
-const COLUMNS: usize = line_strips::COLUMNS;
-
-// A line's start among the columns.
-const START: u16 = 65535;
 
 // Beyond every line.
 const NO_LINE: usize = 4294967296;
@@ -41,7 +37,7 @@ pub struct Ended {
 fn is_inside(row: &[u8]) -> bool
     ensures { λ r. ⌜ Occupied (now (row .entry)) r ⌝ }
 {
-    line_checking::greatest_byte(row) != 0
+    line_lists::greatest_byte(row) != 0
 }
 
 // Some shape is inside at the start of line q.

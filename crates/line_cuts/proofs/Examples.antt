@@ -8,7 +8,7 @@ use Rattle.outcome.specs.Outcome.{refused, _>>_}
 use Rattle.formula.specs.Formula.{Formula, leaf}
 use Rattle.formula.specs.States.{times}
 use Rattle.lines.specs.Lines.{LineLists, lineLists, low, high, crossed, bits, ordered, judged, lowestFrom, shapeAt, Wall, wallsOn, crossingsOn, wallsFrom, walls}
-use Rattle.line_judging.specs.Judging.{TheirLists, theirLists, theirs, right, wrongAt, opinionFrom, opinion}
+use Rattle.line_opinion.specs.Judging.{TheirLists, theirLists, theirs, right, wrongAt, opinionFrom, opinion}
 use Rattle.line_cuts.specs.Cuts.{firstPart, secondPart, cutIndex, partsOf, onLater, joinWalls, roomFor}
 use Rattle.line_cuts.specs.Places.{CutAt, Between, later}
 use Rattle.line_cuts.specs.Theirs.{firstTheirs, secondTheirs, theirPartsOf, joinOpinions}

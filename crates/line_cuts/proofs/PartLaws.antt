@@ -12,8 +12,8 @@ use lib.Seq.{length-take-le}
 use Rattle.outcome.specs.Outcome.{given, _>>_}
 use Rattle.formula.specs.Formula.{Formula}
 use Rattle.lines.specs.Lines.{LineLists, rowCount, rowed, judged, AnswerLists, answerLists, roomyLists, Wall, walls, classified}
-use Rattle.line_judging.specs.Judging.{TheirLists, theirs, Opinion, right, wrongAt, opinion, judgement}
-use Rattle.line_judging.specs.Eating.{SameLength}
+use Rattle.line_opinion.specs.Judging.{TheirLists, theirs, Opinion, right, wrongAt, opinion, judgement}
+use Rattle.line_opinion.specs.Eating.{SameLength}
 use Rattle.line_cuts.specs.Cuts.{lowered, cutIndex, firstLines, otherLines, partsOf, total, AllBelow, Cuttable, AllJudged, EachGiven, onLater, joinWalls, roomFor}
 use Rattle.line_cuts.specs.Theirs.{firstTheirs, secondTheirs, theirPartsOf, EachJudged, thenOpinion, joinOpinions}
 use Rattle.line_cuts.specs.Places.{CutAt, OneLength, later, Shown}

@@ -14,8 +14,8 @@ use Rattle.outcome.proofs.Questions.{need-yes, given-same}
 use Rattle.formula.specs.Formula.{Formula}
 use Rattle.lines.specs.Lines.{LineLists, rowCount, judged, Wall, walls}
 use Rattle.lines.proofs.Judgement.{both, and-yes}
-use Rattle.line_judging.specs.Judging.{Entry, entries, TheirLists, theirs, bare, Opinion, opinionFrom, opinion, judgement}
-use Rattle.line_judging.specs.Eating.{SameLength}
+use Rattle.line_opinion.specs.Judging.{Entry, entries, TheirLists, theirs, bare, Opinion, opinionFrom, opinion, judgement}
+use Rattle.line_opinion.specs.Eating.{SameLength}
 use Rattle.line_cuts.specs.Cuts.{firstPart, lowered, secondPart, AllBelow, onLater}
 use Rattle.line_cuts.specs.Places.{FirstFrom, Between, CutAt}
 use Rattle.line_cuts.specs.Theirs.{firstTheirs, secondTheirs, thenOpinion}

@@ -5,7 +5,7 @@ use mathlib.Core.List.{List, [], _∷_, map}
 use lib.ListN.{length, take, drop}
 use Rattle.outcome.specs.Outcome.{Outcome, given}
 use Rattle.lines.specs.Lines.{LineLists}
-use Rattle.line_judging.specs.Judging.{TheirLists, theirLists, Opinion, right, wrongAt}
+use Rattle.line_opinion.specs.Judging.{TheirLists, theirLists, Opinion, right, wrongAt}
 use Rattle.line_cuts.specs.Cuts.{cutIndex, lowered}
 
 -- Their entries before index j.

@@ -8,7 +8,7 @@ use mathlib.Core.List.{List, _++_, append-assoc, append-nil}
 use lib.Bits.{bitAnd, bitOr, bitXor}
 use Rattle.formula.specs.Formula.{exclusive, meaning}
 use Rattle.line_bits.specs.Words.{bit}
-use Rattle.line_strips.specs.Strips.{columns}
+use Rattle.line_lists.specs.Block.{columns}
 use Rattle.line_events.specs.Events.{eventsAt, metalAfter, eventsAfter}
 use Rattle.line_events.specs.Noted.{Noted, GoesOn, Before, FirstOn, someIf, markedEvents, WordPart, WordAlone, SweptAlone}
 use Rattle.line_events.specs.declared.Found.{Found}

@@ -7,7 +7,7 @@ use mathlib.Core.Bool.{Bool, true, false, not, cond, _&&_, Bool·beq}
 use mathlib.Core.List.{List, [], _∷_, _++_}
 use lib.ListN.{length, getD, take, length-append}
 use lib.Seq.{getD-take, length-take-le}
-use Rattle.line_strips.specs.Strips.{columns}
+use Rattle.line_lists.specs.Block.{columns}
 use Rattle.line_events.specs.Events.{changesAt, opensAt, eventsAt, metalNext, metalAfter, eventsAfter}
 use Rattle.line_events.specs.Noted.{Listed}
 

@@ -11,7 +11,7 @@ use lib.Dec.{eqb, ltb}
 use lib.ListN.{length, take, set, length-set, length-append}
 use lib.Seq.{take-suc-set, take-set-le}
 use Rattle.line_bits.specs.Words.{bit}
-use Rattle.line_strips.specs.Strips.{wide, columns}
+use Rattle.line_lists.specs.Block.{wide, columns}
 use Rattle.line_bits.specs.Bits.{Lowest, Others}
 use Rattle.line_events.specs.Noted.{NoteRoom, Noted, BitOf, someIf, markedEvents, RoomFrom}
 use Rattle.line_bits.proofs.Digits.{bit-or, bit-none}

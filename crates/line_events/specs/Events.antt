@@ -6,7 +6,7 @@ use lib.Dec.{eqb}
 use lib.IntN.{ℤ}
 use lib.ListN.{getD}
 use Rattle.lines.specs.AtIndex.{groupEndsAt}
-use Rattle.line_strips.specs.Strips.{columns}
+use Rattle.line_lists.specs.Block.{columns}
 
 -- All that stands at the position of column j has acted, where the block's first crossing is a: a line's start stands alone.
 unfoldable pub endsIn : List ℕ → List ℤ → ℕ → List ℕ → ℕ → Bool

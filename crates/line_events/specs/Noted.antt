@@ -8,7 +8,7 @@ use lib.IntN.{ℤ, pos}
 use lib.ListN.{length, take, getD}
 use lib.Signed.{ltZ}
 use Rattle.line_bits.specs.Words.{bit}
-use Rattle.line_strips.specs.Strips.{columns}
+use Rattle.line_lists.specs.Block.{columns}
 use Rattle.line_events.specs.Events.{metalAfter, eventsAfter}
 use Rattle.line_events.specs.declared.Found.{Found}
 

@@ -1,4 +1,6 @@
 // The events of a word at once, where each of its columns stands alone; what a block's events are is in specs/Events.antt.
+use line_lists::COLUMNS;
+use line_lists::EVENTS;
 ghost use mathlib.Core.Path.{_≡_};
 ghost use mathlib.Core.Bool.{not};
 ghost use mathlib.Core.List.{_++_};
@@ -7,13 +9,8 @@ ghost use lib.Dec.{eqb};
 ghost use lib.ListN.{length};
 ghost use Rattle.lines.specs.AtIndex.{groupEndsAt};
 ghost use Rattle.line_bits.specs.Words.{bit};
-ghost use Rattle.line_strips.specs.Strips.{wide, columns};
+ghost use Rattle.line_lists.specs.Block.{wide, columns};
 ghost use Rattle.line_events.specs.Noted.{NoteRoom, oneIf, risesAt, AllHold, GoesOn, Before, FirstOn, BitOf, someIf, markedEvents, RoomFrom, SweptAlone, Noted, WordPart};
-
-const COLUMNS: usize = line_strips::COLUMNS;
-
-// A column has two events at most.
-pub const EVENTS: usize = 2 * COLUMNS;
 
 // Whether there is metal after the columns gone through, and how many events they have.
 pub struct Found {
@@ -27,7 +24,7 @@ fn level(at: &[i32], i: usize) -> u32
     ensures { λ r. ⌜ r ≡ oneIf (not (risesAt (now (at .entry)) i)) ⌝ }
 {
     let next = i + 1;
-    line_checking::one_if(!line_checking::below(at, i, next))
+    line_lists::one_if(!line_lists::below(at, i, next))
 }
 
 // 1 if the crossing at i and the next one stand at one position, else 0.
@@ -36,7 +33,7 @@ fn stays(line: &[u32], at: &[i32], i: usize) -> u32
     ensures { λ r. ⌜ r ≡ oneIf (not (groupEndsAt (now (line .entry)) (now (at .entry)) i)) ⌝ }
 {
     let next = i + 1;
-    line_checking::one_if(line[next] == line[i]) & level(at, i)
+    line_lists::one_if(line[next] == line[i]) & level(at, i)
 }
 
 // Whether each of the positions from i to e is below the next. No way out before the end: then many are looked at at once.
@@ -92,7 +89,7 @@ fn going_on(w: u64, y: u64) -> u64
 fn before(w: u64, y: u64, metal: bool) -> u64
     ensures { λ r. ⌜ Before w y metal r ⌝ }
 {
-    going_on(w, y) << 1 | basics::long_word(line_checking::one_if(metal))
+    going_on(w, y) << 1 | basics::long_word(line_lists::one_if(metal))
 }
 
 // The first m bits.

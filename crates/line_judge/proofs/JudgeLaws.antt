@@ -16,21 +16,21 @@ use Rattle.lines.specs.Columns.{columnWalls}
 use Rattle.line_checking.specs.Verdicts.{Judged}
 use Rattle.line_checking.specs.declared.Verdict.{Verdict}
 use Rattle.line_checking.specs.declared.Verdict.the-variants as verdicts
-use Rattle.line_strips.specs.Strips.{columns}
+use Rattle.line_lists.specs.Block.{columns}
 use Rattle.line_words.specs.Stretches.{StandFor}
 use Rattle.line_words.specs.declared.Arranged.{Arranged}
 use Rattle.line_blocks.specs.Blocks.{Sized, leftOf, PassingAt, Going, CanPass}
 use Rattle.line_blocks.proofs.PassLaws.{going-start, passing-start, going-ask, passing-end, verdict-told}
-use Rattle.line_writing.specs.Writing.{openOf, Put, Roomy}
-use Rattle.line_writing.specs.Blocks.{StepAsk, StepDone, NothingDone}
-use Rattle.line_writing.specs.declared.Progress.{Progress}
+use Rattle.line_writing.specs.Writing.{openOf, Put, HasRoom}
+use Rattle.line_blocks.specs.Steps.{StepAsk, StepDone, NothingDone}
+use Rattle.line_blocks.specs.declared.Progress.{Progress}
 use Rattle.line_writing.proofs.ListLaws.{put-same}
-use Rattle.line_judging.specs.Judging.{Entry, entries, bare, TheirLists, theirLists, theirs, opinion, opinionFrom, judgement}
-use Rattle.line_judging.specs.Eating.{SameLength, Ours, Ate}
-use Rattle.line_judging.specs.declared.Eaten.{Eaten}
-use Rattle.line_judging.specs.declared.Eaten.the-variants as eaten
-use Rattle.line_judging.proofs.EatLaws.{opinion-over, opinion-done}
-use Rattle.line_judging.proofs.AllLaws.{ate-none, ate-more}
+use Rattle.line_opinion.specs.Judging.{Entry, entries, bare, TheirLists, theirLists, theirs, opinion, opinionFrom, judgement}
+use Rattle.line_opinion.specs.Eating.{SameLength, Ours, Ate}
+use Rattle.line_opinion.specs.declared.Eaten.{Eaten}
+use Rattle.line_opinion.specs.declared.Eaten.the-variants as eaten
+use Rattle.line_opinion.proofs.EatLaws.{opinion-over, opinion-done}
+use Rattle.line_opinion.proofs.AllLaws.{ate-none, ate-more}
 use Rattle.line_judge.specs.Blocks.{afresh, OpinionFound, OpinionGiven, JudgeDone}
 use Rattle.line_judge.specs.declared.TheirAnswer.{TheirAnswer}
 use Rattle.line_judge.specs.declared.TheirAnswer.the-variants.{Right, Wrong, Refused}
@@ -46,7 +46,7 @@ put-entries : (new : List Wall) (ls : List ℕ) (ps qs : List ℤ) → take (len
 put-entries [] ls ps qs = refl
 put-entries (w ∷ new) ls ps qs = ap (λ (r : List Entry). bare w ∷ r) (put-entries new ls ps qs)
 
-put-ours : {new : List Wall} {now after : AnswerLists} → Put new 0 now after → Roomy (length new) now → take (length new) (theirs (theirLists (after .lines) (after .starts) (after .ends))) ≡ map bare new
+put-ours : {new : List Wall} {now after : AnswerLists} → Put new 0 now after → HasRoom (length new) now → take (length new) (theirs (theirLists (after .lines) (after .starts) (after .ends))) ≡ map bare new
 put-ours {new} {now} put room =
     rw (put .lines ∙ first _ (now .lines) (room .lines), put .starts ∙ first _ (now .starts) (room .starts), put .ends ∙ first _ (now .ends) (room .ends))
     (put-entries new (drop (length new) (now .lines)) (drop (length new) (now .starts)) (drop (length new) (now .ends)))
@@ -78,9 +78,9 @@ pub record Looping (stretches links : List ℕ) (arranged : Arranged) (names : �
   pub sized : Sized cols starts lasts events
   pub counted : count ≡ rowCount names (c .rows)
 
-pub looping-start : {stretches links : List ℕ} {arranged : Arranged} {names : ℕ} {air : Bool} {c : LineLists} {words : List ℕ} {t : TheirLists} → CanPass stretches links arranged names air c words → SameLength t → {p : Progress} → NothingDone names (c .rows) p → {own : AnswerLists} → Own own
-    → Looping stretches links arranged names c t (rowCount names (c .rows)) words words (replicate columns 0) (replicate columns 0) (replicate 8 0) (replicate (2 * columns) 0) p 0 own
-looping-start can same b own =
+pub looping-start : {stretches links : List ℕ} {arranged : Arranged} {names : ℕ} {air : Bool} {c : LineLists} {words : List ℕ} {t : TheirLists} → CanPass stretches links arranged names air c words → SameLength t → {count : ℕ} → count ≡ rowCount names (c .rows) → {p : Progress} → NothingDone names (c .rows) p → {own : AnswerLists} → Own own
+    → Looping stretches links arranged names c t count words words (replicate columns 0) (replicate columns 0) (replicate 8 0) (replicate (2 * columns) 0) p 0 own
+looping-start can same counted b own =
     record {
       going = going-start can (b .begun);
       passed = λ f st o. record { done = []; passing = rw (b .air) (passing-start can (b .begun) f); whole = ate-none };
@@ -88,7 +88,7 @@ looping-start can same b own =
       own-sized = own;
       kept = refl;
       sized = record { plan = record { cols = refl; starts = refl; lasts = refl }; events-sized = refl };
-      counted = refl;
+      counted = counted;
     }
 
 module _ {stretches links : List ℕ} {arranged : Arranged} {names : ℕ} {c : LineLists} {t : TheirLists} {count : ℕ} {words₀ words cols starts lasts events : List ℕ} {p : Progress} {next : ℕ} {own : AnswerLists} (l : Looping stretches links arranged names c t count words₀ words cols starts lasts events p next own) where

@@ -8,8 +8,8 @@ use Rattle.formula.specs.Formula.{Formula, postfix, Over}
 use Rattle.lines.specs.Lines.{LineLists, walls}
 use Rattle.line_words.specs.Stretches.{StandFor}
 use Rattle.line_words.specs.declared.Arranged.{Arranged}
-use Rattle.line_writing.specs.declared.Progress.{Progress}
-use Rattle.line_judging.specs.Judging.{TheirLists, theirs, Opinion, right, wrongAt, opinion, judgement}
+use Rattle.line_blocks.specs.declared.Progress.{Progress}
+use Rattle.line_opinion.specs.Judging.{TheirLists, theirs, Opinion, right, wrongAt, opinion, judgement}
 use Rattle.line_judge.specs.declared.TheirAnswer.{TheirAnswer}
 use Rattle.line_judge.specs.declared.TheirAnswer.the-variants.{Right, Wrong, Refused}
 

@@ -1,16 +1,13 @@
 // Another ray caster's wall list judged for a formula in an array of codes: the pass of classifying, where a block's walls are put into lists of our own and compared with their entries.
+use line_lists::COLUMNS;
+use line_lists::EVENTS;
+use line_lists::W;
 ghost use mathlib.Core.Path.{_≡_};
-ghost use Rattle.lines.specs.Lines.{lineLists};
+ghost use Rattle.lines.specs.Lines.{lineLists, rowCount};
 ghost use Rattle.line_blocks.specs.Blocks.{CanPass, FewCodes, GoodLists};
-ghost use Rattle.line_judging.specs.Judging.{theirLists};
-ghost use Rattle.line_judging.specs.Eating.{SameLength};
+ghost use Rattle.line_opinion.specs.Judging.{theirLists};
+ghost use Rattle.line_opinion.specs.Eating.{SameLength};
 ghost use Rattle.line_judge.specs.Blocks.{afresh, OpinionFound, OpinionGiven, JudgeDone};
-
-const W: usize = line_strips::W;
-
-const COLUMNS: usize = line_strips::COLUMNS;
-
-const EVENTS: usize = line_events::EVENTS;
 
 // Right, or the index of the first entry after which no right list could begin that way, or a refusal.
 pub enum TheirAnswer {
@@ -20,15 +17,15 @@ pub enum TheirAnswer {
 }
 
 // The pass as it stands, its next wall the first of a list.
-fn afresh(p: line_writing::Progress) -> line_writing::Progress
+fn afresh(p: line_blocks::Progress) -> line_blocks::Progress
     ensures { λ r. ⌜ r ≡ afresh p ⌝ }
 {
     let pass = p.pass;
     let run = p.run;
     let from = run.from;
-    line_writing::Progress {
+    line_blocks::Progress {
         pass,
-        run: line_writing::Course {
+        run: line_writing::writing::Course {
             metal: run.metal,
             from,
             count: 0,
@@ -40,9 +37,7 @@ fn afresh(p: line_writing::Progress) -> line_writing::Progress
 fn blocks(
     stretches: &[u64; 1024],
     links: &[u32],
-    arranged: line_words::Arranged,
-    names: usize,
-    air: bool,
+    call: line_blocks::Call,
     words: &mut [u64],
     rows: &[u8],
     line: &[u32],
@@ -52,10 +47,9 @@ fn blocks(
     ts: &[i32],
     te: &[i32],
 ) -> TheirAnswer
-    requires { ⌜ CanPass (now stretches) (now links) arranged names air (lineLists (now rows) (now line) (now at) (now shape)) (now words) × SameLength (theirLists (now tl) (now ts) (now te)) ⌝ }
-    ensures { λ r. ⌜ OpinionFound (now (stretches .entry)) (now (links .entry)) arranged names (lineLists (now (rows .entry)) (now (line .entry)) (now (at .entry)) (now (shape .entry))) (theirLists (now (tl .entry)) (now (ts .entry)) (now (te .entry))) r ⌝ }
+    requires { ⌜ CanPass (now stretches) (now links) (call .arranged) (call .names) (call .air) (lineLists (now rows) (now line) (now at) (now shape)) (now words) × SameLength (theirLists (now tl) (now ts) (now te)) × (call .count ≡ rowCount (call .names) (now rows)) ⌝ }
+    ensures { λ r. ⌜ OpinionFound (now (stretches .entry)) (now (links .entry)) (call .arranged) (call .names) (lineLists (now (rows .entry)) (now (line .entry)) (now (at .entry)) (now (shape .entry))) (theirLists (now (tl .entry)) (now (ts .entry)) (now (te .entry))) r ⌝ }
 {
-    let count = rows.len() / names;
     let mut cols = [0u16; COLUMNS];
     let mut starts = [0u32; COLUMNS];
     let mut lasts = [0u64; W];
@@ -65,16 +59,14 @@ fn blocks(
     let mut we = [0i32; COLUMNS];
     let mut wf = [0u16; COLUMNS];
     let mut wt = [0u16; COLUMNS];
-    let mut p = line_writing::begin(rows, names, count, air);
+    let mut p = line_blocks::begin(rows, call);
     let mut next: usize = 0;
-    while line_blocks::is_left(p.pass, line.len(), count) {
+    while line_blocks::is_left(p, line.len(), call.count) {
         p = afresh(p);
-        p = line_writing::step(
+        p = line_blocks::step(
             stretches,
             links,
-            arranged,
-            names,
-            count,
+            call,
             words,
             rows,
             line,
@@ -92,13 +84,13 @@ fn blocks(
             &mut wt,
         );
         let run = p.run;
-        let eaten = line_judging::eat_all(tl, ts, te, next, &wl, &ws, &we, run.count);
+        let eaten = line_opinion::eat_all(tl, ts, te, next, &wl, &ws, &we, run.count);
         match eaten {
-            line_judging::Eaten::Whole(after) => {
+            line_opinion::Eaten::Whole(after) => {
                 next = after;
                 continue;
             }
-            line_judging::Eaten::Wrong(index) => {
+            line_opinion::Eaten::Wrong(index) => {
                 return TheirAnswer::Wrong(index);
             }
         }
@@ -129,14 +121,19 @@ fn opine(
     let mut stretches = [0u64; 1024];
     let mut links = [0u32; 1024];
     let arranged = line_words::arrange(codes, n, &mut stretches, &mut links);
+    let count = rows.len() / names;
+    let call = line_blocks::Call {
+        arranged,
+        names,
+        count,
+        air,
+    };
     if arranged.rows <= 16 {
         let mut words = [0u64; line_words::FEW];
         return blocks(
             &stretches,
             &links,
-            arranged,
-            names,
-            air,
+            call,
             &mut words,
             rows,
             line,
@@ -151,9 +148,7 @@ fn opine(
     blocks(
         &stretches,
         &links,
-        arranged,
-        names,
-        air,
+        call,
         &mut words,
         rows,
         line,

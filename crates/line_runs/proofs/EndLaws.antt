@@ -11,7 +11,7 @@ use lib.ListN.{getD, length, set, length-set}
 use lib.Seq.{getD-set-same, getD-set-other}
 use Rattle.line_bits.specs.Words.{digit, bit}
 use Rattle.line_bits.specs.Bits.{Since}
-use Rattle.line_strips.specs.Strips.{wide, columns, cell}
+use Rattle.line_lists.specs.Block.{wide, columns, cell}
 use Rattle.line_bits.proofs.Digits.{bit-or, bit-none, or-none, first-bit, second-bit, one-bit}
 use Rattle.line_runs.specs.Runs.{overAt, turnsAway, endsLine, Ends, LineEnds, RunMarked, Numbered, CutTo}
 

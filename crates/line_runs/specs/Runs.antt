@@ -6,7 +6,7 @@ use mathlib.Core.List.{List}
 use lib.Dec.{eqb}
 use lib.ListN.{getD, length}
 use Rattle.line_bits.specs.Words.{bit}
-use Rattle.line_strips.specs.Strips.{cell, wide, columns, Alone}
+use Rattle.line_lists.specs.Block.{cell, wide, columns, Alone}
 
 -- line l is over before crossing i
 unfoldable pub overAt : List ℕ → ℕ → ℕ → Bool

@@ -1,15 +1,13 @@
 // Crossings alone: which of them are their lines' last, a bit each, and how many of them a block takes. See specs/Runs.antt.
+use line_lists::COLUMNS;
+use line_lists::W;
 ghost use mathlib.Core.Path.{_≡_};
 ghost use Prim.Native.Nat.{_+_, _<_, _≤_};
 ghost use lib.ListN.{length};
-ghost use Rattle.line_strips.specs.Strips.{wide, columns};
+ghost use Rattle.line_lists.specs.Block.{wide, columns};
 ghost use Rattle.line_runs.specs.Runs.{overAt, turnsAway, Ends, LineEnds, RunMarked, Numbered, CutTo};
 
-const W: usize = line_strips::W;
-
 const LAST: usize = W - 1;
-
-const COLUMNS: usize = line_strips::COLUMNS;
 
 // Line l is over before crossing i.
 pub fn is_over(line: &[u32], l: usize, i: usize) -> bool

@@ -7,7 +7,8 @@ use native.Mathlib.Omega.{arith}
 use lib.ListN.{length}
 use Rattle.formula.specs.States.{State}
 use Rattle.lines.specs.Lines.{LineLists}
-use Rattle.line_strips.specs.Strips.{wide, columns, cell, on, planned, turnsAt, leaving, Filled}
+use Rattle.line_lists.specs.Block.{wide, columns, cell, planned}
+use Rattle.line_strips.specs.Strips.{on, turnsAt, leaving, Filled}
 use Rattle.line_strips.specs.Filling.{Fillable, turnsOf, InWord, Laid, Apart, Blank, Right, Lays, Opens, Begins, Starts, Advances, Fills}
 use Rattle.line_strips.proofs.Stores.{same?}
 

@@ -10,7 +10,8 @@ use Rattle.formula.specs.States.{State}
 use Rattle.lines.specs.Lines.{startState}
 use Rattle.lines.specs.Columns.{only}
 use Rattle.line_bits.specs.Words.{bit}
-use Rattle.line_strips.specs.Strips.{wide, cell, on, entering, leaving}
+use Rattle.line_lists.specs.Block.{wide, cell}
+use Rattle.line_strips.specs.Strips.{on, entering, leaving}
 use Rattle.line_bits.specs.Bits.{none, One, Moved, Inner, Span, Spans}
 use Rattle.line_strips.specs.Filling.{Legible, turnsOf, Flips, SpanTurned, SpanFlips, Laid, Lays, LaysSome, Layable, Named, LaysRun, Bytes}
 use Rattle.line_bits.proofs.Spans.{none-from, one-small}

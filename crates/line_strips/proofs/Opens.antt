@@ -9,7 +9,8 @@ use lib.Seq.{getD-set-same, getD-set-other}
 use borrow.Author.Tests.{eq-eqb, ne-eqb}
 use Rattle.formula.specs.States.{State}
 use Rattle.line_bits.specs.Words.{bit}
-use Rattle.line_strips.specs.Strips.{wide, columns, cell, on, entering}
+use Rattle.line_lists.specs.Block.{wide, columns, cell}
+use Rattle.line_strips.specs.Strips.{on, entering}
 use Rattle.line_bits.specs.Bits.{none, Inner, Span, Spans, Since, Masked}
 use Rattle.line_strips.specs.Filling.{Apart, Flips, Blank, Right, Within, Replayed, Carried, Row, Opened, Opens, Begins}
 use Rattle.line_bits.proofs.Digits.{shift-bit}

@@ -13,7 +13,8 @@ use Rattle.lines.specs.Lines.{startState}
 use Rattle.lines.specs.Columns.{only}
 use Rattle.line_bits.specs.Words.{bit}
 use Rattle.line_bits.specs.Bits.{Lowest, Others, Binary, Woven}
-use Rattle.line_strips.specs.Strips.{wide, turnsAt}
+use Rattle.line_lists.specs.Block.{wide}
+use Rattle.line_strips.specs.Strips.{turnsAt}
 use Rattle.line_strips.specs.Filling.{Turnable, Legible, Fillable, turnsOf, insideTo, Bytes, Flips, GoesOn, InWord, Layable}
 use Rattle.line_bits.proofs.Digits.{bit-times, bit-none}
 use Rattle.line_strips.proofs.Stores.{flips-none, flips-same, flips-more}

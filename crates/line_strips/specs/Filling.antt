@@ -10,7 +10,8 @@ use Rattle.lines.specs.Lines.{LineLists, lineLists}
 use Rattle.lines.specs.Columns.{only}
 use Rattle.line_bits.specs.Words.{bit}
 use Rattle.line_bits.specs.Bits.{none, One, Inner}
-use Rattle.line_strips.specs.Strips.{wide, columns, cell, on, planned, turnsAt, lastAt, entering, leaving, Filled, Alone}
+use Rattle.line_lists.specs.Block.{wide, columns, cell, planned, Alone}
+use Rattle.line_strips.specs.Strips.{on, turnsAt, lastAt, entering, leaving, Filled}
 
 -- ---- a fill
 

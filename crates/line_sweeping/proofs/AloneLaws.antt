@@ -10,7 +10,7 @@ use mir.Val.{Fits}
 use lib.IntN.{ℤ}
 use lib.ListN.{length, getD}
 use Rattle.lines.specs.AtIndex.{groupEndsAt}
-use Rattle.line_strips.specs.Strips.{cell, columns, SaidAlone}
+use Rattle.line_lists.specs.Block.{cell, columns, SaidAlone}
 use Rattle.line_events.specs.Events.{endsIn}
 use Rattle.line_events.specs.Noted.{WordPart, AllHold, SweptAlone}
 use Rattle.line_events.specs.declared.Found.{Found}

@@ -10,7 +10,7 @@ use lib.Count.{trailingZeros, trailing-le}
 use lib.ListN.{getD}
 use Rattle.formula.specs.Formula.{exclusive, meaning}
 use Rattle.line_bits.specs.Words.{digit, bit}
-use Rattle.line_strips.specs.Strips.{cell}
+use Rattle.line_lists.specs.Block.{cell}
 use Rattle.line_sweeping.specs.Sweeping.{Quiet, NextNoisy}
 use Rattle.line_bits.proofs.Digits.{bit-and, bit-or, bit-xor, bit-ones}
 use Rattle.line_bits.proofs.Digits.{bit-shift}

@@ -9,7 +9,7 @@ use lib.IntN.{ℤ}
 use lib.ListN.{length, take, set, getD, length-set}
 use lib.Seq.{take-suc-set}
 use Rattle.line_bits.specs.Words.{bit}
-use Rattle.line_strips.specs.Strips.{cell, columns}
+use Rattle.line_lists.specs.Block.{cell, columns}
 use Rattle.line_events.specs.Events.{endsIn, settled, eventsAt, metalNext, metalAfter, eventsAfter}
 use Rattle.line_events.specs.Noted.{Noted, NoteRoom, WordPart, Events, Listed}
 use Rattle.line_events.specs.declared.Found.{Found}

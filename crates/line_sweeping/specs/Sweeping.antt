@@ -6,7 +6,7 @@ use mathlib.Core.List.{List, [], _∷_}
 use lib.IntN.{ℤ}
 use lib.ListN.{length, getD}
 use Rattle.line_bits.specs.Words.{bit}
-use Rattle.line_strips.specs.Strips.{wide, columns, cell}
+use Rattle.line_lists.specs.Block.{wide, columns, cell}
 use Rattle.line_events.specs.Events.{endsIn, settled, changesAt, opensAt, eventsAt, metalNext}
 use Rattle.line_events.specs.Noted.{Noted, Events}
 use Rattle.line_events.specs.declared.Found.{Found}

@@ -1,5 +1,9 @@
 // A block's row gone through from one event to the next, or a word at a time where each column stands alone. See line_events/specs/Events.antt.
 use line_events::Found;
+use line_lists::COLUMNS;
+use line_lists::EVENTS;
+use line_lists::START;
+use line_lists::W;
 ghost use mathlib.Core.Path.{_≡_};
 ghost use mathlib.Core.Bool.{not, Bool·beq};
 ghost use Prim.Native.Nat.{ℕ, _+_, _*_, _/_, _^_, _≤_, _<_};
@@ -7,19 +11,10 @@ ghost use lib.Count.{trailingZeros};
 ghost use lib.ListN.{length};
 ghost use Rattle.lines.specs.AtIndex.{groupEndsAt};
 ghost use Rattle.line_bits.specs.Words.{bit};
-ghost use Rattle.line_strips.specs.Strips.{columns, cell, SaidAlone};
+ghost use Rattle.line_lists.specs.Block.{columns, cell, SaidAlone};
 ghost use Rattle.line_events.specs.Events.{endsIn};
 ghost use Rattle.line_events.specs.Noted.{NoteRoom, WordPart, Listed};
 ghost use Rattle.line_sweeping.specs.Sweeping.{NextNoisy, ColumnThere, EventNoted, EventRoom, Reached, Changed, Left, Stepped, Sweepable, Swept};
-
-const W: usize = line_strips::W;
-
-const COLUMNS: usize = line_strips::COLUMNS;
-
-const EVENTS: usize = line_events::EVENTS;
-
-// A line's start among the columns.
-const START: u16 = 65535;
 
 fn group_ends(line: &[u32], at: &[i32], i: usize) -> bool
     requires { ⌜ (i < length (now line)) × (length (now at) ≡ length (now line)) ⌝ }
@@ -32,15 +27,7 @@ fn group_ends(line: &[u32], at: &[i32], i: usize) -> bool
     if line[j] != line[i] {
         return true;
     }
-    line_checking::below(at, i, j)
-}
-
-// Crossing o of a block whose first crossing is a, of n crossings in all.
-pub fn crossing_at(a: usize, o: u16, n: usize) -> usize
-    requires { ⌜ a + o < n ⌝ }
-    ensures { λ r. ⌜ (r ≡ a + o) × (r < n) ⌝ }
-{
-    a + basics::wide(o)
+    line_lists::below(at, i, j)
 }
 
 fn column_ends(line: &[u32], at: &[i32], a: usize, cols: &[u16; COLUMNS], c: usize) -> bool
@@ -51,7 +38,7 @@ fn column_ends(line: &[u32], at: &[i32], a: usize, cols: &[u16; COLUMNS], c: usi
     if o == START {
         return true;
     }
-    let i = crossing_at(a, o, line.len());
+    let i = line_lists::crossing_at(a, o, line.len());
     group_ends(line, at, i)
 }
 

@@ -17,12 +17,12 @@ use Rattle.line_checking.specs.declared.Verdict.{Verdict}
 use Rattle.line_checking.specs.declared.Verdict.the-variants as verdicts
 use Rattle.line_blocks.specs.Blocks.{GoodLists}
 use Rattle.line_blocks.proofs.PassLaws.{verdict-told}
-use Rattle.line_writing.specs.Writing.{Roomy, Written}
-use Rattle.line_passing.specs.Blocks.{WallsGiven}
+use Rattle.line_writing.specs.Writing.{HasRoom, Written}
+use Rattle.line_walls.specs.Writing.{WallsGiven}
 use Rattle.line_walls.specs.Answers.{LinesAnswered, JobDone}
 use Rattle.line_walls.specs.declared.LinesAnswer.the-variants.{Walls, Refused}
 
-roomy-so : (n : ℕ) (lent : AnswerLists) → roomyLists n lent ≡ given tt → Roomy n lent
+roomy-so : (n : ℕ) (lent : AnswerLists) → roomyLists n lent ≡ given tt → HasRoom n lent
 roomy-so h lent e =
     let p = both (need (leb h (length (lent .lines))) 9 h) _ tt e in
     let q = both (need (leb h (length (lent .starts))) 9 h) _ tt (p .1) in
@@ -65,5 +65,5 @@ module _ {codes : List ℕ} {n names : ℕ} {air : Bool} {rows ls : List ℕ} {p
   pub job-given : {b : Bool} → w ≡ verdicts.Fine b → {k : ℕ} {after : AnswerLists} → WallsGiven codes n names (lineLists rows ls ps ss) lent k after → JobDone codes n names (lineLists rows ls ps ss) lent (Walls k) after
   job-given fine {k} {after} g = record { answered-so = λ f q o. given-walls f names (lineLists rows ls ps ss) lent (good .judged-so) k after (verdict-told room fine) (g .written f q o) }
 
-pub room-there : (n : ℕ) {lent : AnswerLists} {w : Verdict} {b : Bool} → verdict w ≡ roomyLists n lent → w ≡ verdicts.Fine b → Roomy n lent
+pub room-there : (n : ℕ) {lent : AnswerLists} {w : Verdict} {b : Bool} → verdict w ≡ roomyLists n lent → w ≡ verdicts.Fine b → HasRoom n lent
 room-there n room fine = roomy-so n _ (verdict-told room fine)

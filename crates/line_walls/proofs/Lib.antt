@@ -1,1 +1,2 @@
+mod LoopLaws
 mod JobLaws

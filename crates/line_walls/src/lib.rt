@@ -1,12 +1,133 @@
-// The line job for a formula in an array of codes: start rows and crossings judged, then their walls written.
-use line_passing::write;
-ghost use Rattle.lines.specs.Lines.{lineLists, answerLists};
-ghost use Rattle.line_blocks.specs.Blocks.{FewCodes, GoodLists};
+// The line job for a formula in an array of codes: start rows and crossings judged, room asked for, then their walls written block by block.
+use line_lists::COLUMNS;
+use line_lists::EVENTS;
+use line_lists::W;
+ghost use mathlib.Core.Path.{_≡_};
+ghost use Rattle.lines.specs.Lines.{lineLists, rowCount, answerLists};
+ghost use Rattle.line_blocks.specs.Blocks.{CanPass, FewCodes, GoodLists};
+ghost use Rattle.line_blocks.specs.Steps.{roomFor};
+ghost use Rattle.line_writing.specs.Writing.{HasRoom};
+ghost use Rattle.line_walls.specs.Writing.{WallsWritten, WallsGiven};
 ghost use Rattle.line_walls.specs.Answers.{JobDone};
 
 pub enum LinesAnswer {
     Walls(usize),
     Refused(u8, usize),
+}
+
+// The walls of accepted lists, block by block; how many.
+fn blocks(
+    stretches: &[u64; 1024],
+    links: &[u32],
+    call: line_blocks::Call,
+    words: &mut [u64],
+    rows: &[u8],
+    line: &[u32],
+    at: &[i32],
+    shape: &[u16],
+    wl: &mut [u32],
+    ws: &mut [i32],
+    we: &mut [i32],
+    wf: &mut [u16],
+    wt: &mut [u16],
+) -> usize
+    requires { ⌜ CanPass (now stretches) (now links) (call .arranged) (call .names) (call .air) (lineLists (now rows) (now line) (now at) (now shape)) (now words) × HasRoom (roomFor (call .names) (lineLists (now rows) (now line) (now at) (now shape))) (answerLists (now wl) (now ws) (now we) (now wf) (now wt)) × (call .count ≡ rowCount (call .names) (now rows)) ⌝ }
+    ensures { λ r. ⌜ WallsWritten (now (stretches .entry)) (now (links .entry)) (call .arranged) (call .names) (lineLists (now (rows .entry)) (now (line .entry)) (now (at .entry)) (now (shape .entry))) (answerLists (now (wl .entry)) (now (ws .entry)) (now (we .entry)) (now (wf .entry)) (now (wt .entry))) r (answerLists (now (wl .exit)) (now (ws .exit)) (now (we .exit)) (now (wf .exit)) (now (wt .exit))) ⌝ }
+{
+    let mut cols = [0u16; COLUMNS];
+    let mut starts = [0u32; COLUMNS];
+    let mut lasts = [0u64; W];
+    let mut events = [0u16; EVENTS];
+    let mut p = line_blocks::begin(rows, call);
+    while line_blocks::is_left(p, line.len(), call.count) {
+        p = line_blocks::step(
+            stretches,
+            links,
+            call,
+            words,
+            rows,
+            line,
+            at,
+            shape,
+            &mut cols,
+            &mut starts,
+            &mut lasts,
+            &mut events,
+            p,
+            wl,
+            ws,
+            we,
+            wf,
+            wt,
+        );
+    }
+    let run = p.run;
+    run.count
+}
+
+// The walls of accepted lists; how many. Only a formula whose results wait in many rows pays for clearing them.
+fn write(
+    codes: &[u16; 2048],
+    n: usize,
+    names: usize,
+    air: bool,
+    rows: &[u8],
+    line: &[u32],
+    at: &[i32],
+    shape: &[u16],
+    wl: &mut [u32],
+    ws: &mut [i32],
+    we: &mut [i32],
+    wf: &mut [u16],
+    wt: &mut [u16],
+) -> usize
+    requires { ⌜ FewCodes (now codes) n names × GoodLists names air (lineLists (now rows) (now line) (now at) (now shape)) × HasRoom (roomFor names (lineLists (now rows) (now line) (now at) (now shape))) (answerLists (now wl) (now ws) (now we) (now wf) (now wt)) ⌝ }
+    ensures { λ r. ⌜ WallsGiven (now (codes .entry)) n names (lineLists (now (rows .entry)) (now (line .entry)) (now (at .entry)) (now (shape .entry))) (answerLists (now (wl .entry)) (now (ws .entry)) (now (we .entry)) (now (wf .entry)) (now (wt .entry))) r (answerLists (now (wl .exit)) (now (ws .exit)) (now (we .exit)) (now (wf .exit)) (now (wt .exit))) ⌝ }
+{
+    let mut stretches = [0u64; 1024];
+    let mut links = [0u32; 1024];
+    let arranged = line_words::arrange(codes, n, &mut stretches, &mut links);
+    let count = rows.len() / names;
+    let call = line_blocks::Call {
+        arranged,
+        names,
+        count,
+        air,
+    };
+    if arranged.rows <= 16 {
+        let mut words = [0u64; line_words::FEW];
+        return blocks(
+            &stretches,
+            &links,
+            call,
+            &mut words,
+            rows,
+            line,
+            at,
+            shape,
+            wl,
+            ws,
+            we,
+            wf,
+            wt,
+        );
+    }
+    let mut words = [0u64; line_words::MOST];
+    blocks(
+        &stretches,
+        &links,
+        call,
+        &mut words,
+        rows,
+        line,
+        at,
+        shape,
+        wl,
+        ws,
+        we,
+        wf,
+        wt,
+    )
 }
 
 // The line job of lists judged good: their room, then the walls.

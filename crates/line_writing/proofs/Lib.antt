@@ -1,3 +1,6 @@
+pub mod GroupLaws
+mod TallyLaws
+mod SpotLaws
+pub mod FinishLaws
 pub mod ListLaws
-mod TurnLaws
-mod StepLaws
+mod WriteLaws

@@ -7,7 +7,7 @@ use lib.ListN.{length, drop, set, length-map, length-drop, length-append}
 use lib.Seq.{sets, sets-eq, length-sets, drop-drop, take-at, drop-at}
 use Rattle.outcome.specs.Lent.{filled}
 use Rattle.lines.specs.Lines.{AnswerLists, Wall}
-use Rattle.line_writing.specs.Writing.{Put, SameLengths, Roomy, Written}
+use Rattle.line_writing.specs.Writing.{Put, SameLengths, HasRoom, Written}
 
 -- ---- one list
 
@@ -79,7 +79,7 @@ same-more a b =
       endShapes = b .endShapes ∙ a .endShapes;
     }
 
-pub room-same : {n m : ℕ} {lent after : AnswerLists} → SameLengths lent after → m ≤ n → Roomy n lent → Roomy m after
+pub room-same : {n m : ℕ} {lent after : AnswerLists} → SameLengths lent after → m ≤ n → HasRoom n lent → HasRoom m after
 room-same s h r =
     record {
       lines = omega (arith, s .lines, r .lines);
@@ -89,7 +89,7 @@ room-same s h r =
       endShapes = omega (arith, s .endShapes, r .endShapes);
     }
 
-pub room-back : {n : ℕ} {lent after : AnswerLists} → SameLengths lent after → Roomy n after → Roomy n lent
+pub room-back : {n : ℕ} {lent after : AnswerLists} → SameLengths lent after → HasRoom n after → HasRoom n lent
 room-back s r =
     record {
       lines = rw (s .lines) at (r .lines);
@@ -102,7 +102,7 @@ room-back s r =
 pub written-none : {lent : AnswerLists} → Written [] lent 0 lent
 written-none = record { count = refl; lines = refl; starts = refl; ends = refl; startShapes = refl; endShapes = refl }
 
-pub written-more : {done new : List Wall} {k k′ : ℕ} {lent then after : AnswerLists} → Written done lent k then → k′ ≡ k + length new → Roomy k′ lent → Put new k then after → Written (done ++ new) lent k′ after
+pub written-more : {done new : List Wall} {k k′ : ℕ} {lent then after : AnswerLists} → Written done lent k then → k′ ≡ k + length new → HasRoom k′ lent → Put new k then after → Written (done ++ new) lent k′ after
 written-more {done} {new} {k} {k′} w is room p =
     record {
       count = omega (arith, is, w .count, length-append done new);

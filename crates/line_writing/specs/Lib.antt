@@ -1,2 +1,4 @@
+pub mod Groups
+pub mod Finishing
+pub mod Spots
 pub mod Writing
-pub mod Blocks

@@ -9,11 +9,11 @@ use lib.Seq.{sets}
 use Rattle.outcome.specs.Lent.{filled}
 use Rattle.formula.specs.States.{State}
 use Rattle.lines.specs.Lines.{AnswerLists, Wall, Edge}
-use Rattle.line_strips.specs.Strips.{columns}
-use Rattle.line_turns.specs.Turns.{Held, eventLine, eventEdge, ending, beginning, wallsBy, openBy}
-use Rattle.line_turns.specs.Spots.{openFrom, EventHeld}
-use Rattle.line_writing.specs.declared.Finished.{Finished}
-use Rattle.line_writing.specs.declared.Course.{Course}
+use Rattle.line_lists.specs.Block.{columns}
+use Rattle.line_writing.specs.Finishing.{Held, eventLine, eventEdge, ending, beginning, wallsBy, openBy}
+use Rattle.line_writing.specs.Spots.{openFrom, EventHeld}
+use Rattle.line_writing.specs.declared.writing.Finished.{Finished}
+use Rattle.line_writing.specs.declared.writing.Course.{Course}
 
 -- ---- what the numbers stand for
 
@@ -45,7 +45,7 @@ pub record SameLengths (lent after : AnswerLists) : Type 0 where
   pub endShapes : length (after .endShapes) ≡ length (lent .endShapes)
 
 -- each has room for n walls
-pub record Roomy (n : ℕ) (lent : AnswerLists) : Type 0 where
+pub record HasRoom (n : ℕ) (lent : AnswerLists) : Type 0 where
   pub lines : n ≤ length (lent .lines)
   pub starts : n ≤ length (lent .starts)
   pub ends : n ≤ length (lent .ends)
@@ -74,7 +74,7 @@ pub record Turning (b : Held) (starts events : List ℕ) (k : ℕ) (r : Course) 
   pub sized : length events ≡ 2 * columns
   pub event : EventHeld b (getD events k 0)
   pub starts-sized : length starts ≡ columns
-  pub room : Roomy (r .count + openCount r) lent
+  pub room : HasRoom (r .count + openCount r) lent
 
 -- a wall begins at this edge, or the open one ends there
 pub record Changed (l : ℕ) (here : Edge) (r : Course) (lent : AnswerLists) (r′ : Course) (after : AnswerLists) : Type 0 where
@@ -98,7 +98,7 @@ pub record Delivering (b : Held) (starts events : List ℕ) (m : ℕ) (r : Cours
   pub sized : length events ≡ 2 * columns
   pub few : m ≤ 2 * columns
   pub each : (k : ℕ) → k < m → EventHeld b (getD events k 0)
-  pub room : Roomy (wallCount r m) lent
+  pub room : HasRoom (wallCount r m) lent
 
 pub record Made (start : ℕ → State) (b : Held) (starts es : List ℕ) (r : Course) (lent : AnswerLists) (r′ : Course) (after : AnswerLists) : Type 0 where
   pub put : Put (wallsBy (eventEdge start b) (eventLine b starts) (openOf r) es) (r .count) lent after
@@ -107,5 +107,5 @@ pub record Made (start : ℕ → State) (b : Held) (starts es : List ℕ) (r : C
 
 pub record Delivered (b : Held) (starts events : List ℕ) (m : ℕ) (r : Course) (lent : AnswerLists) (r′ : Course) (after : AnswerLists) : Type 0 where
   pub same : SameLengths lent after
-  pub room : Roomy (r′ .count) lent
+  pub room : HasRoom (r′ .count) lent
   pub made : (start : ℕ → State) → Made start b starts (take m events) r lent r′ after

@@ -83,7 +83,7 @@ module _ (at : ℕ → Marked) (metal : ℕ → Bool) (from : Option Edge) where
   walls-more n = refl
 
   -- a block of n columns finishes at most n walls
-  pub block-few : (n : ℕ) → length (wallsAfter at metal from n) ≤ n
+  block-few : (n : ℕ) → length (wallsAfter at metal from n) ≤ n
   block-few zero = rw walls-zero (omega arith)
   block-few (suc n) =
       rw (walls-more n)

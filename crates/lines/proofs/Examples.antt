@@ -41,7 +41,7 @@ abbrev B : Formula
 B = leaf 1
 
 -- A crossed at 5 only, from outside, and its mirror. No crossing at all, in metal and in air. Crossed twice at one position, inside before: stretches that touch are joined. B less A, both inside at first.
-pub open-walls : (walls A 1 (line (0 ∷ []) ((pos 5, 0) ∷ [])) ≡ wall 0 (pos 5) high 0 65535 ∷ [])
+open-walls : (walls A 1 (line (0 ∷ []) ((pos 5, 0) ∷ [])) ≡ wall 0 (pos 5) high 0 65535 ∷ [])
     × (walls A 1 (line (1 ∷ []) ((pos 5, 0) ∷ [])) ≡ wall 0 low (pos 5) 65535 0 ∷ [])
     × (walls A 1 (line (1 ∷ []) []) ≡ wall 0 low high 65535 65535 ∷ [])
     × (walls A 1 (line (0 ∷ []) []) ≡ [])
@@ -54,18 +54,18 @@ open-walls = (refl, refl, refl, refl, refl, refl)
 abbrev three : LineLists
 three = lineLists (1 ∷ 0 ∷ 0 ∷ 0 ∷ 1 ∷ 1 ∷ []) (0 ∷ 0 ∷ 1 ∷ []) (pos 5 ∷ pos 7 ∷ pos 2 ∷ []) (0 ∷ 0 ∷ 0 ∷ [])
 
-pub several : (walls A 2 three ≡ wall 0 low (pos 5) 65535 0 ∷ wall 0 (pos 7) high 0 65535 ∷ wall 1 (pos 2) high 0 65535 ∷ wall 2 low high 65535 65535 ∷ [])
+several : (walls A 2 three ≡ wall 0 low (pos 5) 65535 0 ∷ wall 0 (pos 7) high 0 65535 ∷ wall 1 (pos 2) high 0 65535 ∷ wall 2 low high 65535 65535 ∷ [])
     × (walls A 1 (line (1 ∷ []) ((negsuc 2147483646, 0) ∷ (pos 2147483646, 0) ∷ [])) ≡ wall 0 low (negsuc 2147483646) 65535 0 ∷ wall 0 (pos 2147483646) high 0 65535 ∷ [])
 unfolding wallsFrom wallsOn crossingsOn shapeAt lowestFrom crossed times
 several = (refl, refl)
 
 -- the same by columns
-pub by-columns : columnWalls (inside A) outside none (allColumns 2 three) ≡ wall 0 low (pos 5) 65535 0 ∷ wall 0 (pos 7) high 0 65535 ∷ wall 1 (pos 2) high 0 65535 ∷ wall 2 low high 65535 65535 ∷ []
+by-columns : columnWalls (inside A) outside none (allColumns 2 three) ≡ wall 0 low (pos 5) 65535 0 ∷ wall 0 (pos 7) high 0 65535 ∷ wall 1 (pos 2) high 0 65535 ∷ wall 2 low high 65535 65535 ∷ []
 unfolding columnWalls columnsFrom startsFrom anyInside shapeAt lowestFrom crossed times
 by-columns = refl
 
 -- Several crossings at one position: the lowest that changes, in whatever order they stand; one crossed twice there is no answer, and one that stands at no leaf is.
-pub faces : (walls A 3 (line (0 ∷ 0 ∷ 0 ∷ []) ((pos 0, 2) ∷ (pos 0, 1) ∷ (pos 0, 0) ∷ (pos 9, 1) ∷ (pos 9, 2) ∷ (pos 9, 0) ∷ [])) ≡ wall 0 (pos 0) (pos 9) 0 0 ∷ [])
+faces : (walls A 3 (line (0 ∷ 0 ∷ 0 ∷ []) ((pos 0, 2) ∷ (pos 0, 1) ∷ (pos 0, 0) ∷ (pos 9, 1) ∷ (pos 9, 2) ∷ (pos 9, 0) ∷ [])) ≡ wall 0 (pos 0) (pos 9) 0 0 ∷ [])
     × (walls B 3 (line (0 ∷ 0 ∷ 0 ∷ []) ((pos 0, 1) ∷ (pos 0, 0) ∷ (pos 0, 2) ∷ (pos 0, 0) ∷ (pos 9, 2) ∷ (pos 9, 0) ∷ (pos 9, 1) ∷ (pos 9, 0) ∷ [])) ≡ wall 0 (pos 0) (pos 9) 1 1 ∷ [])
     × (walls B 3 (line (0 ∷ 0 ∷ 0 ∷ []) ((pos 0, 1) ∷ (pos 0, 0) ∷ (pos 9, 1) ∷ (pos 20, 0) ∷ [])) ≡ wall 0 (pos 0) (pos 9) 0 1 ∷ [])
     × (walls B 2 (line (1 ∷ 1 ∷ []) ((pos 0, 1) ∷ (pos 0, 0) ∷ [])) ≡ wall 0 low (pos 0) 65535 0 ∷ [])
@@ -73,7 +73,7 @@ unfolding wallsFrom wallsOn crossingsOn shapeAt lowestFrom crossed times
 faces = (refl, refl, refl, refl)
 
 -- 14: a length that is no multiple, and a byte 2. No rows at all, without crossings and with one.
-pub rows : (judged 2 (line (0 ∷ 1 ∷ 0 ∷ []) []) ≡ refused 14 0)
+rows : (judged 2 (line (0 ∷ 1 ∷ 0 ∷ []) []) ≡ refused 14 0)
     × (judged 2 (line (0 ∷ 2 ∷ []) []) ≡ refused 14 0)
     × (judged 2 (line (0 ∷ 1 ∷ []) []) ≡ given tt)
     × (judged 2 (line [] []) ≡ given tt)
@@ -82,7 +82,7 @@ unfolding judged ordered bits
 rows = (refl, refl, refl, refl, refl)
 
 -- 15: both end marks, and what is next to them; a line number equal to the number of rows.
-pub strayed : (judged 1 (line (0 ∷ []) ((low, 0) ∷ [])) ≡ refused 15 0)
+strayed : (judged 1 (line (0 ∷ []) ((low, 0) ∷ [])) ≡ refused 15 0)
     × (judged 1 (line (0 ∷ []) ((pos 5, 0) ∷ (high, 0) ∷ [])) ≡ refused 15 1)
     × (judged 1 (line (0 ∷ []) ((negsuc 2147483646, 0) ∷ (pos 2147483646, 0) ∷ [])) ≡ given tt)
     × (judged 1 (lineLists (0 ∷ 0 ∷ []) (2 ∷ []) (pos 5 ∷ []) (0 ∷ [])) ≡ refused 15 0)
@@ -91,7 +91,7 @@ unfolding judged ordered bits
 strayed = (refl, refl, refl, refl, refl)
 
 -- Shape 3 of three names. A falling position, and a falling line. Then two reasons at once: 13 before 14, 14 before 10, and on one item 10 before 15 before 11.
-pub refusals : (judged 3 (line (0 ∷ 0 ∷ 0 ∷ []) ((pos 5, 3) ∷ [])) ≡ refused 10 0)
+refusals : (judged 3 (line (0 ∷ 0 ∷ 0 ∷ []) ((pos 5, 3) ∷ [])) ≡ refused 10 0)
     × (judged 3 (line (0 ∷ 0 ∷ 0 ∷ []) ((pos 5, 1) ∷ (pos 4, 1) ∷ [])) ≡ refused 11 1)
     × (judged 1 (lineLists (0 ∷ 0 ∷ []) (1 ∷ 0 ∷ []) (pos 5 ∷ pos 6 ∷ []) (0 ∷ 0 ∷ [])) ≡ refused 11 1)
     × (judged 1 (lineLists (2 ∷ []) (0 ∷ []) [] (0 ∷ [])) ≡ refused 13 0)
@@ -107,7 +107,7 @@ unfolding bits
 zero-bits zero = refl
 zero-bits (suc n) = zero-bits n
 
-pub many-rows : (n : ℕ) → rowed 1 (replicate n 0) ≡ need (leb n 4294967296) 14 0
+many-rows : (n : ℕ) → rowed 1 (replicate n 0) ≡ need (leb n 4294967296) 14 0
 many-rows n =
     let long : length (replicate {A = ℕ} n 0) ≡ n = length-replicate {A = ℕ} n 0 in
     rw (long, div-one n, mod-one n, zero-bits n) (ap (λ b. need b 14 0) (and-yes (leb n 4294967296)))

@@ -74,7 +74,7 @@ module _ (names rows : ℕ) where
       follows none f = tt
       follows (some x) f = rises-to x y f
 
-  pub ordered-gives : (xs : List Crossing) → ordered names rows none 0 xs ≡ given tt → Accepted names rows xs
+  ordered-gives : (xs : List Crossing) → ordered names rows none 0 xs ≡ given tt → Accepted names rows xs
   ordered-gives xs e = ordered-from none 0 xs e .1
 
 -- ---- the rows
@@ -85,7 +85,7 @@ bits-at [] e j = omega arith
 bits-at (b ∷ bs) e zero = leb-true b 1 (and-yes (leb b 1) (bits bs) e .0)
 bits-at (b ∷ bs) e (suc j) = bits-at bs (and-yes (leb b 1) (bits bs) e .1) j
 
-pub record WholeRows (names : ℕ) (rows : List ℕ) : Type 0 where
+record WholeRows (names : ℕ) (rows : List ℕ) : Type 0 where
   pub whole : length rows % names ≡ 0
   pub few : rowCount names rows ≤ 4294967296
   pub bytes : (j : ℕ) → getD rows j 0 ≤ 1
@@ -121,7 +121,7 @@ module _ (names : ℕ) (c : LineLists) (e : judged names c ≡ given tt) where
   pub judged-accepted : Accepted names (rowCount names (c .rows)) (entries c)
   judged-accepted = ordered-gives names (rowCount names (c .rows)) (entries c) (parts .1 .1)
 
-  pub judged-rows : WholeRows names (c .rows)
+  judged-rows : WholeRows names (c .rows)
   judged-rows = rowed-gives names (c .rows) (parts .1 .0)
 
   -- as many bytes as rows and names give

@@ -21,5 +21,4 @@ pub mod Edges
 pub mod WallShapes
 pub mod Theorems
 pub mod Numbered
-pub mod GivenLaws
 mod Examples

@@ -9,7 +9,7 @@ use Rattle.formula.specs.States.{State}
 use Rattle.lines.specs.Lines.{lowestFrom}
 use Rattle.lines.specs.Right.{LowestChanged}
 
-pub beq-same : (a b : Bool) → Bool·beq a b ≡ true → a ≡ b
+beq-same : (a b : Bool) → Bool·beq a b ≡ true → a ≡ b
 beq-same true true e = refl
 beq-same true false e = absurd (false≢true e)
 beq-same false true e = absurd (false≢true e)

@@ -9,9 +9,14 @@ use lib.Bits.{bitOr, bitXor}
 use lib.ListN.{length, set, getD, replicate, length-set, length-replicate, getD-replicate, List·getD-eq-default}
 use lib.Seq.{getD-set-same, getD-set-other, set-set, set-comm, set-getD}
 use borrow.Author.Tests.{eq-eqb, ne-eqb, ltb-true, ltb-false}
+use Rattle.word_bits.specs.Words.{digit}
+use Rattle.word_bits.specs.Lowest.{Lowest as LowestBit}
+use Rattle.word_bits.proofs.Digits.{digit-zero}
+use Rattle.word_bits.proofs.OneBit.{put-here, put-other, drop-here, drop-other}
+use Rattle.word_bits.proofs.LowestLaws.{lowest-digit, lower-digit}
 use Rattle.marks.specs.declared.Marks.{Marks}
-use Rattle.marks.specs.Marks.{digit, marked, all, Rising, Empty, Put, Taken, Opened, LowDigit, Lowest}
-use Rattle.marks.proofs.Bits.{bit-zero, same?, put-here, put-other, drop-here, drop-other, mark-set, unmark-set, shifted}
+use Rattle.marks.specs.Marks.{marked, all, Rising, Empty, Put, Taken, Opened, Lowest}
+use Rattle.marks.proofs.Bits.{same?, mark-set, unmark-set, shifted}
 
 -- a digit as the machine makes it
 abbrev one : ℕ → ℕ
@@ -32,7 +37,7 @@ other-word : (ws : List ℕ) (w v i : ℕ) → (i / 64 ≡ w → ⊥) → marked
 other-word ws w v i n = ap (λ (x : ℕ). eqb (digit x (i % 64)) 1) (getD-set-other ws w (i / 64) v 0 n)
 
 empty-word : (ws : List ℕ) (i : ℕ) → getD ws (i / 64) 0 ≡ 0 → marked ws i ≡ false
-empty-word ws i e = rw (e, bit-zero (i % 64))
+empty-word ws i e = rw (e, digit-zero (i % 64))
 
 module _ {ws : List ℕ} {m : Marks} (g : Rising ws m) where
   in-place : getD (all ws m) (m .at) 0 ≡ m .word
@@ -83,7 +88,7 @@ module _ {ws : List ℕ} {m : Marks} (g : Rising ws m) where
       above = omega (arith, n)
 
       filled : v ≡ 0 → ⊥
-      filled z = absurd (omega (arith, sym (put-here (getD ws (k / 64) 0) (k % 64)) ∙ ap (λ x. digit x (k % 64)) z ∙ bit-zero (k % 64)))
+      filled z = absurd (omega (arith, sym (put-here (getD ws (k / 64) 0) (k % 64)) ∙ ap (λ x. digit x (k % 64)) z ∙ digit-zero (k % 64)))
 
       stored : set (all ws m) (k / 64) (bitOr (getD (all ws m) (k / 64) 0) (1 * 2 ^ (k % 64))) ≡ set (set ws (k / 64) v) (m .at) (m .word)
       stored = rw (getD-set-other ws (m .at) (k / 64) (m .word) 0 n) (set-comm ws (m .at) (k / 64) (m .word) v (λ z. n (sym z)))
@@ -101,19 +106,19 @@ module _ {ws : List ℕ} {m : Marks} (g : Rising ws m) where
           beyond : (i / 64 ≡ m .at → ⊥) → marked ws i ≡ false
           beyond n =
               below? (i / 64) (m .at) (λ l. g .low i (omega arith))
-              (λ l. empty-word ws i (g .rest (i / 64) (omega arith) (ap (λ x. digit x (i / 64)) h ∙ bit-zero (i / 64))))
+              (λ l. empty-word ws i (g .rest (i / 64) (omega arith) (ap (λ x. digit x (i / 64)) h ∙ digit-zero (i / 64))))
 
   pub opened-here : (m .word ≡ 0 → ⊥) → Opened ws m ws m
   opened-here n = record { rising = g; same = record { so = λ i. refl }; empty = λ z. absurd (n z) }
 
-  pub held-word : {w : ℕ} → LowDigit (m .held) w → w < 48
-  held-word {w} d = g .later w (d .here) .1
+  pub held-word : {w : ℕ} → LowestBit (m .held) w → w < 48
+  held-word {w} d = g .later w (lowest-digit d) .1
 
   -- the lowest word held is taken in hand
-  pub opened-next : {w : ℕ} → m .word ≡ 0 → LowDigit (m .held) w → Opened ws m (set ws w 0) (in-hand w (getD ws w 0) (bitXor (m .held) (one w)))
+  pub opened-next : {w : ℕ} → m .word ≡ 0 → LowestBit (m .held) w → Opened ws m (set ws w 0) (in-hand w (getD ws w 0) (bitXor (m .held) (one w)))
   opened-next {w} e d =
-      let is = g .later w (d .here) in
-      rw (shifted w (d .small))
+      let is = g .later w (lowest-digit d) in
+      rw (shifted w (d .low))
       record {
         rising =
             record {
@@ -123,13 +128,13 @@ module _ {ws : List ℕ} {m : Marks} (g : Rising ws m) where
                   same? (i / 64) w
                   (λ q. empty-word (set ws w 0) i (ap (λ x. getD (set ws w 0) x 0) q ∙ getD-set-same ws w 0 0 (omega (arith, g .long, is .1))))
                   (λ n. other-word ws w 0 i n
-                  ∙ below? (m .at) (i / 64) (λ a. empty-word ws i (g .rest (i / 64) a (d .low (i / 64) (omega arith)))) (λ a. g .low i a));
+                  ∙ below? (m .at) (i / 64) (λ a. empty-word ws i (g .rest (i / 64) a (lower-digit d (i / 64) (omega arith)))) (λ a. g .low i a));
               later = λ v o.
                   same? v w
-                  (λ q. absurd (omega (arith, drop-here (m .held) w (d .here), ap (digit (bitXor (m .held) (1 * 2 ^ w))) q, o)))
+                  (λ q. absurd (omega (arith, drop-here (m .held) w (lowest-digit d), ap (digit (bitXor (m .held) (1 * 2 ^ w))) q, o)))
                   (λ n. let held : digit (m .held) v ≡ 1 = sym (drop-other (m .held) w v (λ z. n (sym z))) ∙ o in
                   let old = g .later v held in
-                  (below? v w (λ l. absurd (omega (arith, d .low v l, held))) (λ l. omega (arith, n)), old .1, λ z. old .2 (sym (getD-set-other ws w v 0 0 n) ∙ z)));
+                  (below? v w (λ l. absurd (omega (arith, lower-digit d v l, held))) (λ l. omega (arith, n)), old .1, λ z. old .2 (sym (getD-set-other ws w v 0 0 n) ∙ z)));
               rest = λ v a o.
                   let n : v ≡ w → ⊥ = λ z. omega arith in
                   getD-set-other ws w v 0 0 n ∙ g .rest v (omega (arith, is .0)) (sym (drop-other (m .held) w v (λ z. n (sym z))) ∙ o);
@@ -160,11 +165,11 @@ module _ {ws : List ℕ} {m : Marks} (g : Rising ws m) where
         ne-eqb (digit (getD (all ws m) (i / 64) 0) (i % 64)) 1 (λ z. omega (arith, same)))
         (λ n. other-word ws (m .at) (m .word) i n ∙ g .low i (omega (arith, l .place)))
 
-pub lowest-is : {m : Marks} {d : ℕ} → m .at < 48 → LowDigit (m .word) d → Lowest m (m .at * 64 + d)
+pub lowest-is : {m : Marks} {d : ℕ} → m .at < 48 → LowestBit (m .word) d → Lowest m (m .at * 64 + d)
 lowest-is {m} {d} h l =
-    let q : (m .at * 64 + d) / 64 ≡ m .at = omega (arith, l .small) in
-    let r : (m .at * 64 + d) % 64 ≡ d = omega (arith, l .small) in
-    record { place = q; here = rw r (l .here); low = λ c o. l .low c (omega arith) }
+    let q : (m .at * 64 + d) / 64 ≡ m .at = omega (arith, l .low) in
+    let r : (m .at * 64 + d) % 64 ≡ d = omega (arith, l .low) in
+    record { place = q; here = rw r (lowest-digit l); low = λ c o. lower-digit l c (omega arith) }
 
 pub taken : {m : Marks} {k : ℕ} → k / 64 ≡ m .at → digit (m .word) (k % 64) ≡ 1 → Taken m k (in-hand (m .at) (bitXor (m .word) (one (k % 64))) (m .held))
 taken {m} {k} e d =
@@ -199,7 +204,7 @@ module _ {m : Marks} (a : m .at ≡ 0) (w : m .word ≡ 0) (h : m .held ≡ 0) w
         long = length-replicate {A = ℕ} 48 0;
         here = omega arith;
         low = λ i l. empty-word (replicate 48 0) i (zeros (i / 64));
-        later = λ v d. absurd (omega (arith, sym d ∙ ap (λ x. digit x v) h ∙ bit-zero v));
+        later = λ v d. absurd (omega (arith, sym d ∙ ap (λ x. digit x v) h ∙ digit-zero v));
         rest = λ v l d. zeros v;
       }
 

@@ -1,20 +1,16 @@
 -- A set of numbers below 3072, a bit each, in 48 words of 64. One word is in hand, and nothing is below it.
-use Prim.Native.Nat.{ℕ, zero, suc, _/_, _%_, _≤_, _<_}
+use Prim.Native.Nat.{ℕ, _/_, _%_, _≤_, _<_}
 use mathlib.Core.Path.{_≡_}
 use mathlib.Core.Bool.{Bool, false, not, _&&_, _||_}
 use mathlib.Core.List.{List}
 use lib.Dec.{eqb}
 use lib.ListN.{length, getD, set}
+use Rattle.word_bits.specs.Words.{digit, bit}
 use Rattle.marks.specs.declared.Marks.{Marks}
-
--- Digit b of w.
-unfoldable pub digit : ℕ → ℕ → ℕ
-digit w zero = w % 2
-digit w (suc b) = digit (w / 2) b
 
 -- k is in the set.
 abbrev pub marked : List ℕ → ℕ → Bool
-marked ws k = eqb (digit (getD ws (k / 64) 0) (k % 64)) 1
+marked ws k = bit (getD ws (k / 64) 0) (k % 64)
 
 -- All words: the one in hand in its place.
 abbrev pub all : List ℕ → Marks → List ℕ
@@ -55,12 +51,6 @@ pub record Opened (ws : List ℕ) (m : Marks) (ws′ : List ℕ) (m′ : Marks) 
   pub rising : Rising ws′ m′
   pub same : Same (all ws m) (all ws′ m′)
   pub empty : m′ .word ≡ 0 → Empty (all ws′ m′)
-
--- Digit r is the lowest of w that is 1.
-pub record LowDigit (w r : ℕ) : Type 0 where
-  pub small : r < 64
-  pub here : digit w r ≡ 1
-  pub low : (c : ℕ) → c < r → digit w c ≡ 0
 
 -- r is the lowest in the set: it is in the word in hand.
 pub record Lowest (m : Marks) (r : ℕ) : Type 0 where

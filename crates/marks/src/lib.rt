@@ -1,7 +1,8 @@
 // A set of numbers below 3072, a bit each, from which the lowest is taken first. The word that holds the lowest is in hand.
 ghost use mathlib.Core.Path.{_≡_};
 ghost use Prim.Native.Nat.{_*_, _/_, _%_, _<_, _≤_};
-ghost use Rattle.marks.specs.Marks.{digit, Rising, Put, Taken, LowDigit, Lowest, Opened};
+ghost use Rattle.word_bits.specs.Words.{digit};
+ghost use Rattle.marks.specs.Marks.{Rising, Put, Taken, Lowest, Opened};
 
 // Word `at` is in hand, `word` are its digits, and digit w of `held` says whether word w, a later one, has something in it.
 pub struct Marks {
@@ -63,14 +64,6 @@ pub fn unmark(m: Marks, k: usize) -> Marks
     }
 }
 
-// The place of the lowest digit of a word that is 1.
-fn lowest_digit(x: u64) -> usize
-    requires { ⌜ (x ≡ 0 → ⊥) ⌝ }
-    ensures { λ r. ⌜ LowDigit x r ⌝ }
-{
-    u64::trailing_zeros(x) as usize
-}
-
 // The lowest number of the word in hand, in which there is one.
 pub fn lowest(m: Marks) -> usize
     requires { ⌜ (m .word ≡ 0 → ⊥) × (m .at < 48) ⌝ }
@@ -78,7 +71,7 @@ pub fn lowest(m: Marks) -> usize
 {
     let at = m.at;
     let word = m.word;
-    at * 64 + lowest_digit(word)
+    at * 64 + word_bits::lowest(word)
 }
 
 // The same set, with the word in hand that holds the lowest number; no digit of it is 1 where the set is empty.
@@ -94,7 +87,7 @@ pub fn next(words: &mut [u64; 48], m: Marks) -> Marks
     if held == 0 {
         return m;
     }
-    let w = lowest_digit(held);
+    let w = word_bits::lowest(held);
     let s: &mut [u64] = words;
     let x = s[w];
     s[w] = 0;

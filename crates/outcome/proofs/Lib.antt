@@ -1,4 +1,5 @@
 pub mod Questions
 pub mod LentLaws
 pub mod NumberedLaws
-pub mod Known
+pub mod Settling
+pub mod Refusals

@@ -1,3 +1,4 @@
 pub mod Outcome
 pub mod Lent
 pub mod Numbered
+pub mod Settled

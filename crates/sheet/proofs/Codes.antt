@@ -80,7 +80,7 @@ module _ (n : ℕ) (few : n ≤ firstOperation) where
   code-high : (o : Op) → ltb (code o) n ≡ false
   code-high o = le-ltb (code o) n (omega arith)
 
-  pub codes-postfix : (f : Formula) (at : ℕ) (cs : List ℕ) (fs : List Formula) → Over n f
+  codes-postfix : (f : Formula) (at : ℕ) (cs : List ℕ) (fs : List Formula) → Over n f
       → allCodes n at (postfix f ++ cs) fs ≡ allCodes n (at + 2 * length (postfix f)) cs (f ∷ fs)
   unfolding allCodes
   codes-postfix (leaf s) at cs fs o = rw (lt-ltb s n o)

@@ -54,7 +54,7 @@ module _ (n : ℕ) (few : n ≤ firstOperation) (tag : ℕ) where
       ∙ ap (λ (q : ℕ). part (λ fs. node p l r ∷ fs) (allFirst n tag q cs k)) e
 
   -- The codes of a formula over the names are judged good, and give it.
-  pub prefix-formulaFirst : (f : Formula) (first : ℕ) → Over n f → formulaFirst n tag first (prefix f) ≡ given f
+  prefix-formulaFirst : (f : Formula) (first : ℕ) → Over n f → formulaFirst n tag first (prefix f) ≡ given f
   unfolding formulaFirst allFirst
   prefix-formulaFirst f first o =
       let e : allFirst n tag first (prefix f) 1 ≡ given (f ∷ []) = rw (← append-nil (prefix f)) (first-prefix f first [] 0 o) in

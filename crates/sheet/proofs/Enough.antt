@@ -35,7 +35,7 @@ module _ (w : Setting) (s : List ℕ) (used-up : ℕ → Outcome Sheet) (no-form
   fields-same (suc k) at ns far few =
       after-same (fieldsBy w s used-up no-formula k) (fields w k s) at ns (λ e ms l h. fields-same k e ms (omega arith) h) (fieldAt w s at ns false) refl
 
-  pub fields-enough : fieldsBy w s used-up no-formula (mostNames + 1) 5 [] ≡ fields w (mostNames + 1) s 5 []
+  fields-enough : fieldsBy w s used-up no-formula (mostNames + 1) 5 [] ≡ fields w (mostNames + 1) s 5 []
   fields-enough = fields-same (mostNames + 1) 5 [] (omega arith) (omega arith)
 
 module _ (fittings : List (List ℕ)) (s : List ℕ) (used-up : ℕ → Outcome Sheet) (no-formula : Outcome Sheet) where

@@ -49,7 +49,7 @@ same-equal (x ∷ xs) (y ∷ ys) h =
     let q : xs ≡ ys = same-equal xs ys (e .1) in
     cc
 
-pub same-self : (a : List ℕ) → same a a ≡ true
+same-self : (a : List ℕ) → same a a ≡ true
 unfolding same
 same-self [] = refl
 same-self (x ∷ xs) = rw (eq-eqb x x refl) (same-self xs)

@@ -53,12 +53,11 @@ pub fn fill_codes(formula: &[u8], codes: &mut [u16; 2048]) -> usize
     requires { ⌜ CodesFit (now formula) (now codes) ⌝ }
     ensures { λ r. ⌜ CodesStand (codesOf (now (formula .entry))) (now (codes .exit)) r ⌝ }
 {
-    let mut at: usize = 0;
-    let mut count: usize = 0;
-    while at < formula.len() {
-        codes[count] = sheet::two(formula, at) as u16;
-        count += 1;
-        at += 2;
+    let n = formula.len() / 2;
+    let mut i: usize = 0;
+    while i < n {
+        codes[i] = sheet::two(formula, 2 * i) as u16;
+        i += 1;
     }
-    count
+    n
 }

@@ -1,11 +1,11 @@
 -- The whole formula descended: what its end leaves.
-use Prim.Native.Nat.{ℕ, _+_, _*_, _/_, _^_, _≤_, _<_}
+use Prim.Native.Nat.{ℕ, _+_, _-_, _*_, _/_, _%_, _^_, _≤_, _<_}
 use native.Mathlib.Omega.{arith}
 use native.Mathlib.Nat.{add-zero}
 use mathlib.Core.Path.{_≡_, refl, sym, ap, _∙_}
 use mathlib.Core.Bool.{Bool, true, false}
 use mathlib.Core.List.{List, [], _∷_, _++_}
-use lib.ListN.{length, drop, drop-of-length-le}
+use lib.ListN.{length, take, drop, drop-of-length-le}
 use lib.Dec.{leb}
 use borrow.Author.Tests.{leb-true, leb-false, eq-eqb, ne-eqb}
 use Rattle.outcome.specs.Outcome.{given, refused, part}
@@ -17,81 +17,78 @@ use Rattle.sheet.proofs.Codes.{formulaOf-postfix}
 use Rattle.sheet.proofs.CodesFirst.{first-prefix}
 use Rattle.sheet_codes.specs.Codes.{CodesStand}
 use Rattle.sheet_codes.proofs.CodeSteps.{codes-more}
-use Rattle.sheet_descent.specs.Descent.{IsWhole, IsWrong, IsShort, Descended, FirstFits, GoodFirst, GoodIn, inPostfix}
-use Rattle.sheet_descent.specs.declared.Descent.{Descent}
-use Rattle.sheet_descent.specs.declared.Descent.the-variants.{Whole, Wrong, Short}
+use Rattle.sheet_descent.proofs.Descending.{even-whole, odd-wrong, odd-short}
+use Rattle.sheet_descent.specs.Descent.{IsWhole, shortAt, Descended, FirstFits, GoodFirst, GoodIn, inPostfix}
 
 module _ (n tag first : ℕ) (p : List ℕ) (fits : FirstFits n first p) where
-  module _ (old new : List ℕ) (r : Descent) (said : Descended n p 0 old new 0 r) where
-    pub wrong-near : (q : ℕ) → r ≡ Wrong q → first + q < 2 ^ 64
-    wrong-near q e = let w : IsWrong n p 0 q = rw e at said in omega (arith, fits .near, w .within)
+  module _ (old new : List ℕ) (r : ℕ) (said : Descended n p 0 (length p) old new 0 r) where
+    module _ (odd : r % 2 ≡ 1) where
+      pub wrong-near : r ≤ length p → first + (r - 1) < 2 ^ 64
+      wrong-near h = omega (arith, fits .near)
 
-    wrong-first : (q : ℕ) → r ≡ Wrong q → formulaFirst n tag first (codesOf p) ≡ refused 7 (first + q)
-    unfolding formulaFirst
-    wrong-first q e =
-        let w : IsWrong n p 0 q = rw e at said in
-        let h : allFirst n tag first (codesOf p) 1 ≡ refused 7 (first + q) = rw add-zero at (w .is tag first 0) in
-        rw h
+      wrong-first : r ≤ length p → formulaFirst n tag first (codesOf p) ≡ refused 7 (first + (r - 1))
+      unfolding formulaFirst
+      wrong-first l =
+          let h : allFirst n tag first (codesOf p) 1 ≡ refused 7 (first + (r - 1)) = rw add-zero at (odd-wrong n p 0 (length p) old new 0 r said odd l .is tag first 0) in
+          rw h
 
-    short-first : r ≡ Short → formulaFirst n tag first (codesOf p) ≡ refused 7 tag
-    unfolding formulaFirst
-    short-first e =
-        let w : IsShort n p 0 = rw e at said in
-        let h : allFirst n tag first (codesOf p) 1 ≡ refused 7 tag = rw add-zero at (w .is tag first 0) in
-        rw h
+      short-first : length p < r → formulaFirst n tag first (codesOf p) ≡ refused 7 (shortAt n tag first (codesOf p))
+      unfolding formulaFirst
+      short-first l =
+          let h : allFirst n tag first (codesOf p) 1 ≡ refused 7 (shortAt n tag first (codesOf p)) = rw add-zero at (odd-short n p 0 (length p) old new 0 r said odd l .is tag first 0 (omega arith)) in
+          rw h
 
-    pub judged-wrong : (q : ℕ) → r ≡ Wrong q → refused 7 (first + q) ≡ part leaves (formulaFirst n tag first (codesOf p))
-    judged-wrong q e = rw (wrong-first q e)
+      pub judged-wrong : r ≤ length p → refused 7 (first + (r - 1)) ≡ part leaves (formulaFirst n tag first (codesOf p))
+      judged-wrong l = rw (wrong-first l)
 
-    pub judged-short : r ≡ Short → refused 7 tag ≡ part leaves (formulaFirst n tag first (codesOf p))
-    judged-short e = rw (short-first e)
+      pub judged-short : length p < r → (at : ℕ) → at ≡ shortAt n tag first (codesOf p) → refused 7 at ≡ part leaves (formulaFirst n tag first (codesOf p))
+      judged-short l at is = rw (short-first l, is)
 
-    module _ (next count : ℕ) (e : r ≡ Whole next count) where
-      it : IsWhole n p 0 old new 0 next count
-      it = rw e at said
+    module _ (even : r % 2 ≡ 1 → ⊥) where
+      it : IsWhole n p 0 (length p) old new 0 r
+      it = even-whole n p 0 (length p) old new 0 r said even
 
-      past : allFirst n tag first (codesOf p) 1 ≡ part (λ fs. it .formula ∷ fs) (allFirst n tag (first + next) (codesOf (drop next p)) 0)
+      past : allFirst n tag first (codesOf p) 1 ≡ part (λ fs. it .formula ∷ fs) (allFirst n tag (first + r) (codesOf (drop r p)) 0)
       past =
           let f = it .formula in
-          let q : first + 2 * length (prefix f) ≡ first + next = omega (arith, it .next-is, length-prefix f) in
-          let c : codesOf p ≡ prefix f ++ codesOf (drop next p) = it .codes-are in
-          rw c (first-prefix n (fits .few-names) tag f first (codesOf (drop next p)) 0 (it .over))
-          ∙ ap (λ (i : ℕ). part (λ fs. f ∷ fs) (allFirst n tag i (codesOf (drop next p)) 0)) q
+          let q : first + 2 * length (prefix f) ≡ first + r = omega (arith, it .next-is, length-prefix f) in
+          let c : codesOf p ≡ prefix f ++ codesOf (drop r p) = it .codes-are in
+          rw c (first-prefix n (fits .few-names) tag f first (codesOf (drop r p)) 0 (it .over))
+          ∙ ap (λ (i : ℕ). part (λ fs. f ∷ fs) (allFirst n tag i (codesOf (drop r p)) 0)) q
 
-      pub next-near : first + next < 2 ^ 64
+      pub next-near : first + r < 2 ^ 64
       next-near = omega (arith, fits .near, it .within)
 
-      over-first : next < length p → formulaFirst n tag first (codesOf p) ≡ refused 7 (first + next)
+      over-first : r < length p → formulaFirst n tag first (codesOf p) ≡ refused 7 (first + r)
       unfolding formulaFirst allFirst
       over-first h =
-          let k : next + 1 < length p = omega (arith, fits .even, it .next-is) in
-          let g : allFirst n tag (first + next) (codesOf (drop next p)) 0 ≡ refused 7 (first + next) = rw (codes-more p next k) refl in
+          let k : r + 1 < length p = omega (arith, fits .even, it .next-is) in
+          let g : allFirst n tag (first + r) (codesOf (drop r p)) 0 ≡ refused 7 (first + r) = rw (codes-more p r k) refl in
           rw (past, g)
 
-      good-first : length p ≤ next → formulaFirst n tag first (codesOf p) ≡ given (it .formula)
+      good-first : length p ≤ r → formulaFirst n tag first (codesOf p) ≡ given (it .formula)
       unfolding formulaFirst allFirst codesOf
       good-first h =
-          let g : allFirst n tag (first + next) (codesOf (drop next p)) 0 ≡ given [] = rw (drop-of-length-le p h) refl in
+          let g : allFirst n tag (first + r) (codesOf (drop r p)) 0 ≡ given [] = rw (drop-of-length-le p h) refl in
           rw (past, g)
 
-      pub judged-over : next < length p → refused 7 (first + next) ≡ part leaves (formulaFirst n tag first (codesOf p))
+      pub judged-over : r < length p → refused 7 (first + r) ≡ part leaves (formulaFirst n tag first (codesOf p))
       judged-over h = rw (over-first h)
 
-      pub count-more : count + 1 < 2 ^ 64
-      count-more = let few : length p ≤ 4094 = fits .few in omega (arith, it .next-is, it .more-is, it .within)
-
-      pub judged-good : length p ≤ next → given ((count + 1) / 2) ≡ part leaves (formulaFirst n tag first (codesOf p))
+      pub judged-good : length p ≤ r → given ((r / 2 + 1) / 2) ≡ part leaves (formulaFirst n tag first (codesOf p))
       judged-good h =
-          let half : (count + 1) / 2 ≡ leaves (it .formula) = omega (arith, length-postfix (it .formula), it .more-is) in
+          let half : (r / 2 + 1) / 2 ≡ leaves (it .formula) = omega (arith, length-postfix (it .formula), it .next-is) in
           rw (good-first h, half)
 
-      stands : CodesStand (postfix (it .formula)) new count
-      stands = record { all = omega (arith, it .more-is); are = it .written; sized = it .sized }
+      stands : CodesStand (postfix (it .formula)) new (r / 2)
+      stands =
+          let many : r / 2 ≡ 0 + length (postfix (it .formula)) = omega (arith, it .next-is) in
+          record { all = omega (arith, many); are = ap (λ (k : ℕ). take k new) many ∙ it .written; sized = it .sized }
 
-      stands-by : (f : Formula) → formulaFirst n tag first (codesOf p) ≡ given f → (b : Bool) → leb (length p) next ≡ b → CodesStand (postfix f) new count
+      stands-by : (f : Formula) → formulaFirst n tag first (codesOf p) ≡ given f → (b : Bool) → leb (length p) r ≡ b → CodesStand (postfix f) new (r / 2)
       stands-by f is true q = let e : it .formula ≡ f = given-same _ _ (sym (good-first (leb-true _ _ q)) ∙ is) in rw (← e) stands
       stands-by f is false q =
-          let h : refused 7 (first + next) ≡ given f = sym (over-first (leb-false _ _ q)) ∙ is in
+          let h : refused 7 (first + r) ≡ given f = sym (over-first (leb-false _ _ q)) ∙ is in
           let z : _≡_ {A = ℕ} 0 1 = cc h in
           absurd (omega arith)
 
@@ -101,21 +98,21 @@ module _ (n : ℕ) (p old : List ℕ) (good : GoodFirst n p old) where
   fits-first : FirstFits n 0 p
   fits-first = let few : length p ≤ 4094 = good .fits .few in record { few-names = good .few-names; few = good .fits .few; even = good .fits .even; near = omega arith }
 
-  module _ (new : List ℕ) (r : Descent) (said : Descended n p 0 old new 0 r) where
-    pub filled-whole : (next count : ℕ) → r ≡ Whole next count → CodesStand (inPostfix (formulaFirst n 0 0 (codesOf p))) new count
-    filled-whole next count e = rw (good .is) (stands-by n 0 0 p fits-first old new r said next count e (good .formula) (good .is) (leb (length p) next) refl)
-
-    pub filled-wrong : (q : ℕ) → r ≡ Wrong q → CodesStand (inPostfix (formulaFirst n 0 0 (codesOf p))) new 0
-    filled-wrong q e =
-        let h : refused 7 (0 + q) ≡ given (good .formula) = sym (wrong-first n 0 0 p fits-first old new r said q e) ∙ good .is in
+  module _ (new : List ℕ) (r : ℕ) (said : Descended n p 0 (length p) old new 0 r) where
+    not-wrong : r % 2 ≡ 1 → (b : Bool) → leb r (length p) ≡ b → ⊥
+    not-wrong odd true q =
+        let h : refused 7 (0 + (r - 1)) ≡ given (good .formula) = sym (wrong-first n 0 0 p fits-first old new r said odd (leb-true _ _ q)) ∙ good .is in
         let z : _≡_ {A = ℕ} 0 1 = cc h in
-        absurd (omega arith)
-
-    pub filled-short : r ≡ Short → CodesStand (inPostfix (formulaFirst n 0 0 (codesOf p))) new 0
-    filled-short e =
-        let h : refused 7 0 ≡ given (good .formula) = sym (short-first n 0 0 p fits-first old new r said e) ∙ good .is in
+        omega arith
+    not-wrong odd false q =
+        let h : refused 7 (shortAt n 0 0 (codesOf p)) ≡ given (good .formula) = sym (short-first n 0 0 p fits-first old new r said odd (leb-false _ _ q)) ∙ good .is in
         let z : _≡_ {A = ℕ} 0 1 = cc h in
-        absurd (omega arith)
+        omega arith
+
+    pub filled : CodesStand (inPostfix (formulaFirst n 0 0 (codesOf p))) new (r / 2)
+    filled =
+        let even : r % 2 ≡ 1 → ⊥ = λ odd. not-wrong odd (leb r (length p)) refl in
+        rw (good .is) (stands-by n 0 0 p fits-first old new r said even (good .formula) (good .is) (leb (length p) r) refl)
 
 -- ---- in either edition
 

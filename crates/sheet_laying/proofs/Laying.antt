@@ -1,16 +1,18 @@
--- A formula in postfix order laid with the operation first, from its end.
-use Prim.Native.Nat.{ℕ, suc, _+_, _-_, _*_, _^_, _≤_, _<_}
+-- A formula laid from its end, one code at a time.
+use Prim.Native.Nat.{ℕ, suc, _+_, _-_, _≤_, _<_}
 use native.Mathlib.Omega.{arith}
+use native.Mathlib.Numerals.{add-one}
 use mathlib.Core.Path.{_≡_, refl, sym, ap, _∙_}
-use mathlib.Core.List.{List, [], _∷_, _++_, append-assoc}
-use lib.ListN.{length, getD, take, set, length-set, length-append}
-use lib.Seq.{sets, length-sets, take-suc, take-take, take-at, length-take-le}
-use Rattle.formula.specs.Formula.{Op, firstOperation, code, Formula, leaf, node, postfix, prefix, Over}
+use mathlib.Core.List.{List, [], _∷_, _++_, append-assoc, append-nil}
+use mathlib.Core.Option.{Option, none, some}
+use lib.ListN.{length, getD, take, drop, set, length-set, length-append}
+use lib.Seq.{take-suc, take-suc-set, take-set-le, drop-set-lt, drop-cons, getD-set-same, length-take-le, take-at}
+use Rattle.formula.specs.Formula.{Op, union, intersection, difference, exclusive, firstOperation, code, Formula, leaf, node, postfix, prefix}
 use Rattle.formula.proofs.Laws.{length-prefix}
-use Rattle.sheet_laying.specs.Laid.{Ends, Laying, Laid}
-use Rattle.sheet_laying.proofs.Stores.{sets-before}
+use Rattle.sheet_laying.specs.Laid.{Wholly, Laid}
+use Rattle.sheet_laying.specs.Waiting.{Wait, forBoth, forLeft, marks, unread, ahead, Stands, Between, Settled, Settles}
 
--- ---- the last code
+-- ---- the last one of a list
 
 snoc-same : (xs ys : List ℕ) (x y : ℕ) → xs ++ (x ∷ []) ≡ ys ++ (y ∷ []) → (x ≡ y) × (xs ≡ ys)
 snoc-same [] [] x y e = (cc e, refl)
@@ -22,230 +24,257 @@ snoc-same (a ∷ xs) (b ∷ ys) x y e =
     let r = snoc-same xs ys x y t in
     (r .0, rw (h, r .1))
 
-some-codes : (f : Formula) → 1 ≤ length (postfix f)
-some-codes (leaf s) = omega arith
-some-codes (node o l r) = omega (arith, length-append (postfix l) (postfix r ++ (code o ∷ [])), length-append (postfix r) (code o ∷ []))
+-- The last one of the first k.
+last-of : (l : List ℕ) (k : ℕ) → 0 < k → k ≤ length l → (xs : List ℕ) (x : ℕ) → xs ++ (x ∷ []) ≡ take k l → (x ≡ getD l (k - 1) 0) × (xs ≡ take (k - 1) l)
+last-of l k more within xs x e =
+    let s : suc (k - 1) ≡ k = omega (arith, more) in
+    let t : take (suc (k - 1)) l ≡ take (k - 1) l ++ (getD l (k - 1) 0 ∷ []) = take-suc l (k - 1) 0 (omega (arith, more, within)) in
+    let t′ : take k l ≡ take (k - 1) l ++ (getD l (k - 1) 0 ∷ []) = rw s at t in
+    snoc-same xs (take (k - 1) l) x (getD l (k - 1) 0) (e ∙ t′)
 
-ends-long : (codes : List ℕ) (end : ℕ) (f : Formula) (others : List ℕ) → Ends codes end f others → end ≤ length codes → length others + length (postfix f) ≡ end
-ends-long codes end f others e h = sym (length-append others (postfix f)) ∙ ap length (sym (e .are)) ∙ length-take-le end codes h
+-- What is stored before the rest stands before it.
+stored-before : (l : List ℕ) (i j x : ℕ) → i < length l → j ≡ suc i → drop i (set l i x) ≡ x ∷ drop j l
+stored-before l i j x h e =
+    drop-cons (set l i x) i 0 (omega (arith, h, length-set l i x))
+    ∙ ap (λ (y : ℕ). y ∷ drop (suc i) (set l i x)) (getD-set-same l i x 0 h)
+    ∙ ap (λ (ys : List ℕ). x ∷ ys) (drop-set-lt (suc i) l i x (omega arith))
+    ∙ ap (λ (k : ℕ). x ∷ drop k l) (sym e)
 
-module _ (codes : List ℕ) (end : ℕ) (some : 1 ≤ end) (within : end ≤ length codes) where
-  last-code : (xs : List ℕ) (x : ℕ) → take end codes ≡ xs ++ (x ∷ []) → (x ≡ getD codes (end - 1) 0) × (take (end - 1) codes ≡ xs)
-  last-code xs x e =
-      let k : suc (end - 1) ≡ end = omega (arith, some) in
-      let t : take (suc (end - 1)) codes ≡ take (end - 1) codes ++ (getD codes (end - 1) 0 ∷ []) = take-suc codes (end - 1) 0 (omega (arith, some, within)) in
-      let t′ : take end codes ≡ take (end - 1) codes ++ (getD codes (end - 1) 0 ∷ []) = rw k at t in
-      let r = snoc-same xs (take (end - 1) codes) x (getD codes (end - 1) 0) (sym e ∙ t′) in
-      (r .0, sym (r .1))
+code-below : (o : Op) → code o < 0xFFF4
+code-below union = omega arith
+code-below intersection = omega arith
+code-below difference = omega arith
+code-below exclusive = omega arith
 
-  module _ (c : ℕ) (is : c ≡ getD codes (end - 1) 0) where
-    leaf-of : c < 0xFFF0 → (f : Formula) (others : List ℕ) → Ends codes end f others → f ≡ leaf c
-    leaf-of low (leaf s) others e = ap leaf (last-code others s (e .are) .0 ∙ sym is)
-    leaf-of low (node o l r) others e =
-        let g : others ++ (postfix l ++ (postfix r ++ (code o ∷ []))) ≡ (others ++ (postfix l ++ postfix r)) ++ (code o ∷ []) = simp append-assoc refl in
-        let q = last-code (others ++ (postfix l ++ postfix r)) (code o) (e .are ∙ g) .0 in
-        absurd (omega (arith, q, is, low))
+-- ---- settle
 
-    record Split (f : Formula) (others : List ℕ) : Type 0 where
-      o : Op
-      l : Formula
-      r : Formula
-      is-node : f ≡ node o l r
-      is-code : c ≡ code o
-      right : Ends codes (end - 1) r (others ++ postfix l)
-      over-left : Over firstOperation l
+module _ (laid : List ℕ) (at held : ℕ) (sized : length laid ≡ 2048) (fits : at + held ≤ 2048) (codes all : List ℕ) where
+  many-held : (ws : List Wait) → Stands ws none laid at held codes all → length (marks ws) ≡ held
+  many-held ws s = ap length (sym (s .marked)) ∙ length-take-le held laid (omega (arith, fits, sized))
 
-    split : 0xFFF0 ≤ c → (f : Formula) (others : List ℕ) → Ends codes end f others → Split f others
-    split high (leaf s) others e =
-        let q = last-code others s (e .are) .0 in
-        let low : s < firstOperation = e .over in
-        absurd (omega (arith, q, is, low, high))
-    split high (node o l r) others e =
-        let g : others ++ (postfix l ++ (postfix r ++ (code o ∷ []))) ≡ ((others ++ postfix l) ++ postfix r) ++ (code o ∷ []) = simp append-assoc refl in
-        let q = last-code ((others ++ postfix l) ++ postfix r) (code o) (e .are ∙ g) in
-        record { o = o; l = l; r = r; is-node = refl; is-code = is ∙ sym (q .0); right = record { over = e .over .1; are = q .1 }; over-left = e .over .0 }
+  none-held : (ws : List Wait) → Stands ws none laid at held codes all → held ≡ 0 → Settled laid at held codes all
+  none-held [] s e = record { waits = []; next = none; ends = λ z. refl; stands = s }
+  none-held (forBoth o l ∷ ws) s e = absurd (omega (arith, e, many-held (forBoth o l ∷ ws) s, length-append (marks ws) (code o ∷ [])))
+  none-held (forLeft o ∷ ws) s e = absurd (omega (arith, e, many-held (forLeft o ∷ ws) s, length-append (marks ws) ((code o + 4) ∷ [])))
 
--- what ends where the right operand starts
-left-ends : (codes : List ℕ) (end mid : ℕ) (l r : Formula) (others : List ℕ) → Over firstOperation l → Ends codes end r (others ++ postfix l) → end ≤ length codes → mid + length (postfix r) ≡ end → Ends codes mid l others
-left-ends codes end mid l r others over e within m =
-    let long = ends-long codes end r (others ++ postfix l) e within in
-    let k : length (others ++ postfix l) ≡ mid = omega (arith, long, m) in
-    record {
-      over = over;
-      are = sym (take-take mid end codes (omega (arith, m))) ∙ ap (take mid) (e .are) ∙ take-at (others ++ postfix l) (postfix r) mid k;
-    }
+  pub nothing-waits : Between laid at held codes all → held ≤ 0 → Settled laid at held codes all
+  nothing-waits b h = none-held (b .waits) (b .stands) (omega arith)
 
-node-long : (o : Op) (l r : Formula) → length (postfix (node o l r)) ≡ suc (length (postfix l) + length (postfix r))
-node-long o l r = omega (arith, length-append (postfix l) (postfix r ++ (code o ∷ [])), length-append (postfix r) (code o ∷ []))
+  module _ (more : 0 < held) (c : ℕ) (is : c ≡ getD laid (held - 1) 0) where
+    held-last : (xs : List ℕ) (x : ℕ) → take held laid ≡ xs ++ (x ∷ []) → (x ≡ c) × (xs ≡ take (held - 1) laid)
+    held-last xs x e = let r = last-of laid held more (omega (arith, fits, sized)) xs x (sym e) in (r .0 ∙ sym is, r .1)
 
--- ---- offsets: b codes before `past`, a codes before those, and one before all of them are n
+    -- the right operand was laid
+    stop-at : (ws : List Wait) → Stands ws none laid at held codes all → c < 0xFFF4 → Settled (set laid (held - 1) (c + 4)) at held codes all
+    stop-at [] s h = absurd (omega (arith, more, many-held [] s))
+    stop-at (forLeft o ∷ ws) s h = absurd (omega (arith, h, held-last (marks ws) (code o + 4) (s .marked) .0))
+    stop-at (forBoth o l ∷ ws) s h =
+        let m = held-last (marks ws) (code o) (s .marked) in
+        let e : held ≡ suc (held - 1) = omega (arith, more) in
+        record {
+          waits = forLeft o ∷ ws;
+          next = some l;
+          ends = λ z. let q : _≡_ {A = ℕ} 0 1 = cc z in absurd (omega (arith, q));
+          stands =
+              record {
+                over = s .over .1;
+                over-next = s .over .0;
+                marked = ap (λ (k : ℕ). take k (set laid (held - 1) (c + 4))) e
+                    ∙ take-suc-set laid (held - 1) (c + 4) (omega (arith, more, fits, sized))
+                    ∙ rw (← (m .0), ← (m .1));
+                left = sym (append-nil (unread ws ++ postfix l)) ∙ s .left;
+                whole = ap (λ (ys : List ℕ). ((ahead ws ++ (code o ∷ [])) ++ prefix l) ++ ys) (drop-set-lt (at + held) laid (held - 1) (c + 4) (omega (arith, more)))
+                    ∙ simp append-assoc refl
+                    ∙ s .whole;
+              };
+        }
 
-same-rest : (m x y e : ℕ) → m + x ≡ e → m + y ≡ e → x ≡ y
-same-rest m x y e h g = omega arith
+    pub stops : Between laid at held codes all → c < 0xFFF4 → Settled (set laid (held - 1) (c + 4)) at held codes all
+    stops b h = stop-at (b .waits) (b .stands) h
 
-twice : (i : ℕ) → i < 2048 → i * 2 < 2 ^ 64
-twice i h = omega arith
+    -- both operands were laid
+    on-at : (ws : List Wait) → Stands ws none laid at held codes all → 0xFFF4 ≤ c → Between (set laid (at + (held - 1)) (c - 4)) at (held - 1) codes all
+    on-at [] s h = absurd (omega (arith, more, many-held [] s))
+    on-at (forBoth o l ∷ ws) s h = absurd (omega (arith, h, code-below o, held-last (marks ws) (code o) (s .marked) .0))
+    on-at (forLeft o ∷ ws) s h =
+        let m = held-last (marks ws) (code o + 4) (s .marked) in
+        let e : c - 4 ≡ code o = omega (arith, m .0) in
+        let i = at + (held - 1) in
+        record {
+          waits = ws;
+          stands =
+              record {
+                over = s .over;
+                over-next = tt;
+                marked = take-set-le (held - 1) laid i (c - 4) (omega arith) ∙ sym (m .1);
+                left = s .left;
+                whole = ap (λ (ys : List ℕ). (ahead ws ++ []) ++ ys) (stored-before laid i (at + held) (c - 4) (omega (arith, more, fits, sized)) (omega (arith, more)))
+                    ∙ ap (λ (x : ℕ). (ahead ws ++ []) ++ (x ∷ drop (at + held) laid)) e
+                    ∙ simp append-assoc refl
+                    ∙ s .whole;
+              };
+        }
 
-minus-left : (m x e : ℕ) → m + x ≡ e → e - m ≡ x
-minus-left m x e h = omega arith
+    pub goes-on : Between laid at held codes all → 0xFFF4 ≤ c → Between (set laid (at + (held - 1)) (c - 4)) at (held - 1) codes all
+    goes-on b h = on-at (b .waits) (b .stands) h
 
-module _ (past a b n : ℕ) (all : n ≡ suc (a + b)) (fits : n ≤ past) where
-  right-at : past - b ≡ suc (past - n) + a
-  right-at = omega arith
+pub record Settling (old laid : List ℕ) (at held waiting : ℕ) : Type 0 where
+  pub is : (codes all : List ℕ) → Between old at held codes all → Between laid at waiting codes all
 
-  left-at : past - b - a ≡ suc (past - n)
-  left-at = omega arith
+pub settling-begins : (laid : List ℕ) (at held : ℕ) → Settling laid laid at held held
+settling-begins laid at held = record { is = λ codes all b. b }
 
-  pub start-at : (start mid end : ℕ) → 1 ≤ end → mid + b ≡ end - 1 → start + a ≡ mid → start + n ≡ end
-  start-at start mid end some m k = omega arith
+module _ (old laid : List ℕ) (at held waiting : ℕ) (sized : length laid ≡ 2048) (fits : at + held ≤ 2048) (fewer : waiting ≤ held) (s : Settling old laid at held waiting) where
+  within : at + waiting ≤ 2048
+  within = omega arith
 
-  op-at : past - b - a - 1 ≡ past - n
-  op-at = omega arith
+  pub settles-none : waiting ≤ 0 → Settles old laid at held waiting
+  settles-none h = record { long = sized; fewer = fewer; is = λ codes all b. nothing-waits laid at waiting sized within codes all (s .is codes all b) h }
+
+  module _ (more : 0 < waiting) (c : ℕ) (is : c ≡ getD laid (waiting - 1) 0) where
+    pub settles-here : c < 0xFFF4 → Settles old (set laid (waiting - 1) (c + 4)) at held waiting
+    settles-here h =
+        record {
+          long = length-set laid (waiting - 1) (c + 4) ∙ sized;
+          fewer = fewer;
+          is = λ codes all b. stops laid at waiting sized within codes all more c is (s .is codes all b) h;
+        }
+
+    pub settling-more : 0xFFF4 ≤ c → Settling old (set laid (at + (waiting - 1)) (c - 4)) at held (waiting - 1)
+    settling-more h = record { is = λ codes all b. goes-on laid at waiting sized within codes all more c is (s .is codes all b) h }
 
 -- ---- lay_first
 
-module _ (codes old : List ℕ) (end past : ℕ) (w : Laying codes old end past) where
-  long : length (w .others) + length (postfix (w .formula)) ≡ end
-  long = ends-long codes end (w .formula) (w .others) (w .ends) (omega (arith, w .within, w .sized))
+some-codes : (f : Formula) → 0 < length (postfix f)
+some-codes (leaf s) = omega arith
+some-codes (node o l r) = omega (arith, length-append (postfix l) (postfix r ++ (code o ∷ [])), length-append (postfix r) (code o ∷ []))
 
-  pub end-some : 1 ≤ end
-  end-some = omega (arith, long, some-codes (w .formula))
+-- the last code of an operation, behind others
+node-last : (others : List ℕ) (o : Op) (l r : Formula) → others ++ postfix (node o l r) ≡ ((others ++ postfix l) ++ postfix r) ++ (code o ∷ [])
+node-last others o l r = simp append-assoc refl
 
-  pub end-there : end - 1 < 2048
-  end-there = omega (arith, end-some, w .within)
+module _ (codes laid : List ℕ) (at held : ℕ) (long : length codes ≡ 2048) (sized : length laid ≡ 2048) (fits : at + held ≤ 2048) (more : 0 < at) (all : List ℕ) (c : ℕ) (is : c ≡ getD codes (at - 1) 0) where
+  last-read : (xs : List ℕ) (x : ℕ) → xs ++ (x ∷ []) ≡ take at codes → (x ≡ c) × (xs ≡ take (at - 1) codes)
+  last-read xs x e = let r = last-of codes at more (omega (arith, fits, long)) xs x e in (r .0 ∙ sym is, r .1)
 
-  pub end-twice : (end - 1) * 2 < 2 ^ 64
-  end-twice = omega (arith, end-there)
+  none-read : (ws : List Wait) → ws ≡ [] → Stands ws none laid at held (take at codes) all → ⊥
+  none-read ws e s =
+      let z : 0 ≡ length (take at codes) = ap (λ (vs : List Wait). length (unread vs ++ [])) (sym e) ∙ ap length (s .left) in
+      omega (arith, z, more, length-take-le at codes (omega (arith, fits, long)))
 
-  pub past-some : 1 ≤ past
-  past-some = omega (arith, w .fits, some-codes (w .formula))
+  leaf-at : (ws : List Wait) (next : Option Formula) → (next ≡ none → ws ≡ []) → Stands ws next laid at held (take at codes) all → c < 0xFFF0
+      → Between (set laid (at - 1 + held) c) (at - 1) held (take (at - 1) codes) all
+  leaf-at ws none ends s h = absurd (none-read ws (ends refl) s)
+  leaf-at ws (some (node o l r)) ends s h =
+      let m = last-read ((unread ws ++ postfix l) ++ postfix r) (code o) (sym (node-last (unread ws) o l r) ∙ s .left) in
+      absurd (omega (arith, h, m .0))
+  leaf-at ws (some (leaf t)) ends s h =
+      let m = last-read (unread ws) t (s .left) in
+      let i = at - 1 + held in
+      record {
+        waits = ws;
+        stands =
+            record {
+              over = s .over;
+              over-next = tt;
+              marked = take-set-le held laid i c (omega arith) ∙ s .marked;
+              left = append-nil (unread ws) ∙ m .1;
+              whole = ap (λ (ys : List ℕ). (ahead ws ++ []) ++ ys) (stored-before laid i (at + held) c (omega (arith, more, fits, sized)) (omega (arith, more)))
+                  ∙ ap (λ (x : ℕ). (ahead ws ++ []) ++ (x ∷ drop (at + held) laid)) (sym (m .0))
+                  ∙ simp append-assoc refl
+                  ∙ s .whole;
+            };
+      }
 
-  pub past-there : past - 1 < 2048
-  past-there = omega (arith, past-some, w .room)
+  node-at : (ws : List Wait) (next : Option Formula) → (next ≡ none → ws ≡ []) → Stands ws next laid at held (take at codes) all → 0xFFF0 ≤ c
+      → Settled (set laid held c) (at - 1) (held + 1) (take (at - 1) codes) all
+  node-at ws none ends s h = absurd (none-read ws (ends refl) s)
+  node-at ws (some (leaf t)) ends s h =
+      let m = last-read (unread ws) t (s .left) in
+      let low : t < firstOperation = s .over-next in
+      absurd (omega (arith, h, low, m .0))
+  node-at ws (some (node o l r)) ends s h =
+      let m = last-read ((unread ws ++ postfix l) ++ postfix r) (code o) (sym (node-last (unread ws) o l r) ∙ s .left) in
+      let e : at - 1 + (held + 1) ≡ at + held = omega (arith, more) in
+      record {
+        waits = forBoth o l ∷ ws;
+        next = some r;
+        ends = λ z. let q : _≡_ {A = ℕ} 0 1 = cc z in absurd (omega (arith, q));
+        stands =
+            record {
+              over = (s .over-next .0, s .over);
+              over-next = s .over-next .1;
+              marked = ap (λ (k : ℕ). take k (set laid held c)) (add-one held)
+                  ∙ take-suc-set laid held c (omega (arith, more, fits, sized))
+                  ∙ ap (λ (xs : List ℕ). xs ++ (c ∷ [])) (s .marked)
+                  ∙ ap (λ (x : ℕ). marks ws ++ (x ∷ [])) (sym (m .0));
+              left = m .1;
+              whole = ap (λ (k : ℕ). ((ahead ws ++ (code o ∷ prefix l)) ++ prefix r) ++ drop k (set laid held c)) e
+                  ∙ ap (λ (ys : List ℕ). ((ahead ws ++ (code o ∷ prefix l)) ++ prefix r) ++ ys) (drop-set-lt (at + held) laid held c (omega (arith, more)))
+                  ∙ simp append-assoc refl
+                  ∙ s .whole;
+            };
+      }
 
-  pub past-twice : (past - 1) * 2 < 2 ^ 64
-  past-twice = omega (arith, past-there)
+-- What lies before the loop: the codes that are still to be read and what waits decide.
+pub record Lays (codes : List ℕ) (n : ℕ) (old laid : List ℕ) (at held : ℕ) : Type 0 where
+  pub is : (f : Formula) → Wholly codes n f → Settled laid at held (take at codes) (prefix f ++ drop n old)
 
-  within : end ≤ length codes
-  within = omega (arith, w .within, w .sized)
+pub lays-none : (codes old : List ℕ) (n : ℕ) → Lays codes n old old n 0
+lays-none codes old n =
+    record {
+      is = λ f w.
+          record {
+            waits = [];
+            next = some f;
+            ends = λ z. let q : _≡_ {A = ℕ} 0 1 = cc z in absurd (omega (arith, q));
+            stands =
+                record {
+                  over = tt;
+                  over-next = w .over;
+                  marked = refl;
+                  left = sym (w .are);
+                  whole = let e : n + 0 ≡ n = omega arith in ap (λ (k : ℕ). prefix f ++ drop k old) e;
+                };
+          };
+    }
 
-  module _ (c : ℕ) (is : c ≡ getD codes (end - 1) 0) where
-    pub leaf-laid : c < 0xFFF0 → Laid codes end old (set old (past - 1) c) past (end - 1)
-    leaf-laid low =
+module _ (codes old laid : List ℕ) (n at held : ℕ) (long : length codes ≡ 2048) (sized : length laid ≡ 2048) (few : n ≤ 2048) (fits : at + held ≤ n) (y : Lays codes n old laid at held) where
+  room : at + held ≤ 2048
+  room = omega arith
+
+  module _ (more : 0 < at) (c : ℕ) (is : c ≡ getD codes (at - 1) 0) where
+    pub lays-leaf : c < 0xFFF0 → (new : List ℕ) (less : ℕ) → Settles (set laid (at - 1 + held) c) new (at - 1) held less → Lays codes n old new (at - 1) less
+    lays-leaf h new less s =
         record {
-          before = omega arith;
-          long = length-set old (past - 1) c;
-          starts = λ f others e. rw (leaf-of codes end end-some within c is low f others e) (omega (arith, end-some));
-          written = λ f others e. rw (leaf-of codes end end-some within c is low f others e) refl;
+          is = λ f w.
+              let b = y .is f w in
+              s .is (take (at - 1) codes) (prefix f ++ drop n old) (leaf-at codes laid at held long sized room more (prefix f ++ drop n old) c is (b .waits) (b .next) (b .ends) (b .stands) h);
         }
 
-    module _ (high : 0xFFF0 ≤ c) where
-      me : Split codes end end-some within c is (w .formula) (w .others)
-      me = split codes end end-some within c is high (w .formula) (w .others) (w .ends)
+    pub lays-operation : 0xFFF0 ≤ c → Lays codes n old (set laid held c) (at - 1) (held + 1)
+    lays-operation h =
+        record { is = λ f w. let b = y .is f w in node-at codes laid at held long sized room more (prefix f ++ drop n old) c is (b .waits) (b .next) (b .ends) (b .stands) h }
 
-      sizes : length (postfix (w .formula)) ≡ suc (length (postfix (me .l)) + length (postfix (me .r)))
-      sizes = ap (λ (f : Formula). length (postfix f)) (me .is-node) ∙ node-long (me .o) (me .l) (me .r)
+  module _ (done : at ≤ 0) where
+    all-laid : (f : Formula) → length (postfix f) ≡ n → (ws : List Wait) (next : Option Formula) → (next ≡ none → ws ≡ []) → Stands ws next laid at held (take at codes) (prefix f ++ drop n old) → take n laid ≡ prefix f
+    all-laid f k ws (some g) ends s =
+        let z : length (unread ws ++ postfix g) ≡ length (take at codes) = ap length (s .left) in
+        absurd (omega (arith, z, done, some-codes g, length-append (unread ws) (postfix g), length-take-le at codes (omega (arith, fits, few, long))))
+    all-laid f k ws none ends s =
+        let none-waits : ws ≡ [] = ends refl in
+        let marked : take held laid ≡ [] = s .marked ∙ ap marks none-waits in
+        let z : held ≡ 0 = sym (length-take-le held laid (omega (arith, fits, few, sized))) ∙ ap length marked in
+        let e : at + held ≡ 0 = omega (arith, z, done) in
+        let whole : laid ≡ prefix f ++ drop n old = ap (λ (i : ℕ). drop i laid) (sym e) ∙ ap (λ (vs : List Wait). (ahead vs ++ []) ++ drop (at + held) laid) (sym none-waits) ∙ s .whole in
+        ap (take n) whole ∙ take-at (prefix f) (drop n old) n (length-prefix f ∙ k)
 
-      pub right-laying : Laying codes old (end - 1) past
-      right-laying =
-          record {
-            formula = me .r;
-            others = w .others ++ postfix (me .l);
-            ends = me .right;
-            within = omega (arith, w .within);
-            fits = omega (arith, sizes, w .fits);
-            room = w .room;
-            sized = w .sized;
-            laid-sized = w .laid-sized;
-          }
-
-      pub right-falls : (t : ℕ) → end ≡ t → end - 1 < t
-      right-falls t e = omega (arith, end-some)
-
-      module _ (mids : List ℕ) (mid : ℕ) (one : Laid codes (end - 1) old mids past mid) where
-        mid-is : mid + length (postfix (me .r)) ≡ end - 1
-        mid-is = one .starts (me .r) (w .others ++ postfix (me .l)) (me .right)
-
-        pub left-sub : (end - 1) - mid ≤ past
-        left-sub = omega (arith, mid-is, sizes, w .fits)
-
-        mids-sized : length mids ≡ 2048
-        mids-sized = ap length (one .written (me .r) (w .others ++ postfix (me .l)) (me .right)) ∙ length-sets old (past - length (postfix (me .r))) (prefix (me .r)) ∙ w .laid-sized
-
-        left-end : Ends codes mid (me .l) (w .others)
-        left-end = left-ends codes (end - 1) mid (me .l) (me .r) (w .others) (me .over-left) (me .right) (omega (arith, within)) mid-is
-
-        pub left-laying : Laying codes mids mid (past - ((end - 1) - mid))
-        left-laying =
-            record {
-              formula = me .l;
-              others = w .others;
-              ends = left-end;
-              within = omega (arith, mid-is, w .within);
-              fits = omega (arith, mid-is, sizes, w .fits);
-              room = omega (arith, w .room);
-              sized = w .sized;
-              laid-sized = mids-sized;
-            }
-
-        pub left-falls : (t : ℕ) → end ≡ t → mid < t
-        left-falls t e = omega (arith, mid-is, end-some)
-
-        module _ (news : List ℕ) (start : ℕ) (two : Laid codes mid mids news (past - ((end - 1) - mid)) start) where
-          start-is : start + length (postfix (me .l)) ≡ mid
-          start-is = two .starts (me .l) (w .others) left-end
-
-          pub op-sub : mid - start ≤ past - ((end - 1) - mid)
-          op-sub = omega (arith, start-is, mid-is, sizes, w .fits)
-
-          pub op-some : 1 ≤ past - ((end - 1) - mid) - (mid - start)
-          op-some = omega (arith, start-is, mid-is, sizes, w .fits)
-
-          pub op-there : past - ((end - 1) - mid) - (mid - start) - 1 < 2048
-          op-there = omega (arith, w .room, op-some)
-
-          pub op-twice : (past - ((end - 1) - mid) - (mid - start) - 1) * 2 < 2 ^ 64
-          op-twice = twice (past - ((end - 1) - mid) - (mid - start) - 1) op-there
-
-          laid-by : (f : Formula) (others : List ℕ) (s : Split codes end end-some within c is f others)
-              → (start + length (postfix f) ≡ end) × (set news (past - ((end - 1) - mid) - (mid - start) - 1) c ≡ sets old (past - length (postfix f)) (prefix f))
-          laid-by f others s =
-              let l = s .l in
-              let r = s .r in
-              let m : mid + length (postfix r) ≡ end - 1 = one .starts r (others ++ postfix l) (s .right) in
-              let le = left-ends codes (end - 1) mid l r others (s .over-left) (s .right) (omega (arith, within)) m in
-              let k : start + length (postfix l) ≡ mid = two .starts l others le in
-              let n : length (postfix f) ≡ suc (length (postfix l) + length (postfix r)) = ap (λ (g : Formula). length (postfix g)) (s .is-node) ∙ node-long (s .o) l r in
-              let er : length (postfix r) ≡ length (postfix (me .r)) = same-rest mid _ _ (end - 1) m mid-is in
-              let el : length (postfix l) ≡ length (postfix (me .l)) = same-rest start _ _ mid k start-is in
-              let same : length (postfix f) ≡ length (postfix (w .formula)) = n ∙ rw (el, er) (sym sizes) in
-              let total : length (postfix f) ≤ past = rw same (w .fits) in
-              let i = past - length (postfix f) in
-              let right-long = minus-left mid (length (postfix r)) (end - 1) m in
-              let left-long = minus-left start (length (postfix l)) mid k in
-              let a : past - length (postfix r) ≡ suc i + length (prefix l) = rw (length-prefix l) (right-at past (length (postfix l)) (length (postfix r)) (length (postfix f)) n total) in
-              let b : past - ((end - 1) - mid) - length (postfix l) ≡ suc i = rw right-long (left-at past (length (postfix l)) (length (postfix r)) (length (postfix f)) n total) in
-              let d : past - ((end - 1) - mid) - (mid - start) - 1 ≡ i = rw (right-long, left-long) (op-at past (length (postfix l)) (length (postfix r)) (length (postfix f)) n total) in
-              let right : mids ≡ sets old (suc i + length (prefix l)) (prefix r) = one .written r (others ++ postfix l) (s .right) ∙ ap (λ (j : ℕ). sets old j (prefix r)) a in
-              let both : news ≡ sets old (suc i) (prefix l ++ prefix r) =
-              two .written l others le
-              ∙ ap (λ (j : ℕ). sets mids j (prefix l)) b
-              ∙ ap (λ (xs : List ℕ). sets xs (suc i) (prefix l)) right
-              ∙ sets-before (prefix l) (prefix r) old (suc i) in
-              let e : suc i ≡ i + 1 = omega arith in (
-                start-at past (length (postfix l)) (length (postfix r)) (length (postfix f)) n total start mid end end-some m k,
-                ap (λ (j : ℕ). set news j c) d
-                    ∙ ap (λ (xs : List ℕ). set xs i c) (both ∙ ap (λ (j : ℕ). sets old j (prefix l ++ prefix r)) e)
-                    ∙ sets-before (c ∷ []) (prefix l ++ prefix r) old i
-                    ∙ ap (λ (x : ℕ). sets old i (x ∷ (prefix l ++ prefix r))) (s .is-code)
-                    ∙ ap (λ (g : Formula). sets old i (prefix g)) (sym (s .is-node)),
-              )
-
-          pub node-laid : Laid codes end old (set news (past - ((end - 1) - mid) - (mid - start) - 1) c) past start
-          node-laid =
-              record {
-                before = omega (arith, two .before, one .before);
-                long = length-set news (past - ((end - 1) - mid) - (mid - start) - 1) c ∙ two .long ∙ one .long;
-                starts = λ f others e. laid-by f others (split codes end end-some within c is high f others e) .0;
-                written = λ f others e. laid-by f others (split codes end end-some within c is high f others e) .1;
-              }
+    pub lays-all : Laid codes n laid
+    lays-all =
+        record {
+          long = sized;
+          are = λ f w.
+              let b = y .is f w in
+              let k : length (postfix f) ≡ n = ap length (sym (w .are)) ∙ length-take-le n codes (omega (arith, few, long)) in
+              all-laid f k (b .waits) (b .next) (b .ends) (b .stands);
+        }

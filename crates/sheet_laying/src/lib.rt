@@ -4,25 +4,47 @@ ghost use Prim.Native.Nat.{_+_, _*_, _/_, _%_, _≤_};
 ghost use lib.ListN.{length, take};
 ghost use lib.Seq.{sets};
 ghost use Rattle.sheet_laying.specs.Bytes.{codeBytes};
-ghost use Rattle.sheet_laying.specs.Laid.{Laying, Laid};
+ghost use Rattle.sheet_laying.specs.Laid.{Laid};
+ghost use Rattle.sheet_laying.specs.Waiting.{Settles};
 
-// Lays the formula whose codes end at `end`, in postfix order, with the operation first so that it ends at `past` of the other array, and
-// answers where its codes start. The codes before `end` fall.
-pub fn lay_first(codes: &[u16; 2048], end: usize, laid: &mut [u16; 2048], past: usize) -> usize
-    requires { ⌜ Laying (now codes) (now laid) end past ⌝ }
-    ensures { λ r. ⌜ Laid (now (codes .entry)) end (now (laid .entry)) (now (laid .exit)) past r ⌝ }
+// A formula was laid, and `at` codes are still to be read: the operations that wait for no other operand are laid before it, and the next one
+// now waits for its left operand alone, which 4 more than its code says. Answers how many wait.
+fn settle(laid: &mut [u16; 2048], held: usize, at: usize) -> usize
+    requires { ⌜ (at + held ≤ 2048) × (length (now laid) ≡ 2048) ⌝ }
+    ensures { λ r. ⌜ Settles (now (laid .entry)) (now (laid .exit)) at held r ⌝ }
 {
-    let at = end - 1;
-    let code = codes[at];
-    if code < 0xFFF0 {
-        laid[past - 1] = code;
-        return at;
+    let mut waiting = held;
+    while 0 < waiting {
+        let code = laid[waiting - 1];
+        if code < 0xFFF4 {
+            laid[waiting - 1] = code + 4;
+            return waiting;
+        }
+        waiting -= 1;
+        laid[at + waiting] = code - 4;
     }
-    let mid = lay_first(codes, at, laid, past);
-    let left = past - (at - mid);
-    let start = lay_first(codes, mid, laid, left);
-    laid[left - (mid - start) - 1] = code;
-    start
+    waiting
+}
+
+// Lays the formula of n codes, in postfix order, with the operation first. Codes are read from the last one on and laid from the end; an
+// operation is met before its operands and laid after them, and waits at the array's front, where as many codes are still to be laid.
+pub fn lay_first(codes: &[u16; 2048], n: usize, laid: &mut [u16; 2048])
+    requires { ⌜ (n ≤ 2048) × (length (now codes) ≡ 2048) × (length (now laid) ≡ 2048) ⌝ }
+    ensures { λ _. ⌜ Laid (now (codes .entry)) n (now (laid .exit)) ⌝ }
+{
+    let mut held: usize = 0;
+    let mut at = n;
+    while 0 < at {
+        at -= 1;
+        let code = codes[at];
+        if code < 0xFFF0 {
+            laid[at + held] = code;
+            held = settle(laid, held, at);
+            continue;
+        }
+        laid[held] = code;
+        held += 1;
+    }
 }
 
 fn high_byte(code: u16) -> u8

@@ -145,7 +145,7 @@ unlike-keys (y ∷ ns) x h =
     rw (unlike-key y x (e .0) (same y x) refl) (unlike-keys ns x (e .1))
 
 module _ (f : List ℕ) (m : ℕ) (s : List ℕ) (n : ℕ) (ks x : List ℕ) (known : NamesRead f m s n ks) where
-  pub joined-length : length (walkNames f 5 m ++ walkNames s 5 n) ≡ m + n
+  joined-length : length (walkNames f 5 m ++ walkNames s 5 n) ≡ m + n
   joined-length = length-append (walkNames f 5 m) (walkNames s 5 n) ∙ ap₂ (λ (a b : ℕ). a + b) (walk-length f 5 m) (walk-length s 5 n)
 
   pub taken-unkeyed : (k : ℕ) (r : Bool) → k ≡ keyOf x → r ≡ has (take (m + n) ks) k → r ≡ false → Nobodys ≡ whoseIs (walkNames f 5 m) (walkNames s 5 n) x

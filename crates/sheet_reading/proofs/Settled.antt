@@ -1,26 +1,24 @@
 -- What the promise of reading settles: two answers that meet it are equal; it refuses exactly when the rules say.
 use Prim.Native.Nat.{ℕ}
 use mathlib.Core.Path.{_≡_, refl, sym, ap, _∙_}
-use Rattle.outcome.specs.Outcome.{Outcome, given, refused, unfit, part}
+use Rattle.outcome.specs.Outcome.{refused, unfit, part}
 use Rattle.outcome.proofs.Questions.{part-refused, part-unfit}
-use Rattle.outcome.proofs.Known.{known-by}
+use Rattle.outcome.proofs.Settling.{known-by, saying}
 use Rattle.sheet.specs.Sheet.{Sheets, reading}
 use Rattle.sheet_reading.specs.Reading.{Numbers, numbers, numbersOf, answerOf, told}
 use Rattle.sheet_reading.specs.declared.ReadAnswer.{ReadAnswer}
 use Rattle.sheet_reading.specs.declared.ReadAnswer.the-variants as answer
 
 answerOf-same : (r q : ReadAnswer) → answerOf r ≡ answerOf q → r ≡ q
-answerOf-same = known-by answerOf back same
+answerOf-same = known-by answerOf (saying of-given answer.Refused answer.Unfit) known
   where
-    back : Outcome Numbers → ReadAnswer
-    back (given (numbers names leaves first past)) = answer.Read names leaves first past
-    back (refused number place) = answer.Refused number place
-    back (unfit number place) = answer.Unfit number place
+    of-given : Numbers → ReadAnswer
+    of-given (numbers names leaves first past) = answer.Read names leaves first past
 
-    same : (r : ReadAnswer) → back (answerOf r) ≡ r
-    same (answer.Read names leaves first past) = refl
-    same (answer.Refused number place) = refl
-    same (answer.Unfit number place) = refl
+    known : (r : ReadAnswer) → saying of-given answer.Refused answer.Unfit (answerOf r) ≡ r
+    known (answer.Read names leaves first past) = refl
+    known (answer.Refused number place) = refl
+    known (answer.Unfit number place) = refl
 
 pub read-unique : (s : Sheets) (r q : ReadAnswer) → answerOf r ≡ told s → answerOf q ≡ told s → r ≡ q
 read-unique s r q h k = answerOf-same r q (h ∙ sym k)

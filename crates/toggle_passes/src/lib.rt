@@ -8,6 +8,7 @@ ghost use Rattle.marks.specs.Marks.{all};
 ghost use Rattle.labels.specs.Linked.{Rules};
 ghost use Rattle.toggle_passes.specs.Reworking.{steps, rework};
 ghost use Rattle.toggle_passes.specs.Upwards.{Alone, Due, Climbs, Ripe, Settles, Settled};
+use labels::Size;
 use marks::Marks;
 
 // The nodes reworked above one node whose label alone has changed: straight up, until a label comes out as it was. How many they are.
@@ -16,21 +17,20 @@ pub fn walk(
     kinds: &[u16; 3072],
     firsts: &[u16; 3072],
     seconds: &[u16; 3072],
-    leaves: usize,
-    nodes: usize,
-    parents: &[u16; 3072],
+    size: Size,
+    links: &[u16; 4352],
     labels: &mut [u8; 3072],
     node: usize,
 ) -> u32
-    requires { ⌜ Climbs (now rules) (now kinds) (now firsts) (now seconds) leaves nodes (now parents) (now labels) node ⌝ }
-    ensures { λ r. ⌜ (length (now (labels .exit)) ≡ 3072) × (r ≤ nodes) ⌝ }
-    ensures { λ r. ⌜ ((old : List ℕ) → Alone nodes old (now (labels .entry)) node
-        → steps (take nodes (now (labels .exit))) r
-        ≡ rework old (recs (now (kinds .entry)) (now (firsts .entry)) (now (seconds .entry)) (suc node) (nodes - suc node)) (suc node) (take nodes (now (labels .entry)))) ⌝ }
+    requires { ⌜ Climbs (now rules) (now kinds) (now firsts) (now seconds) (size .leaves) (size .nodes) (now links) (now labels) node ⌝ }
+    ensures { λ r. ⌜ (length (now (labels .exit)) ≡ 3072) × (r ≤ size .nodes) ⌝ }
+    ensures { λ r. ⌜ ((old : List ℕ) → Alone (size .nodes) old (now (labels .entry)) node
+        → steps (take (size .nodes) (now (labels .exit))) r
+        ≡ rework old (recs (now (kinds .entry)) (now (firsts .entry)) (now (seconds .entry)) (suc node) (size .nodes - suc node)) (suc node) (take (size .nodes) (now (labels .entry)))) ⌝ }
 {
-    let mut p = labels::wide(parents[node]);
+    let mut p = labels::wide(links[node]);
     let mut count: u32 = 0;
-    while p < nodes {
+    while p < size.nodes {
         let v = labels::work(rules, kinds, firsts, seconds, labels, p);
         let worked = count + 1;
         if v == labels[p] {
@@ -38,7 +38,7 @@ pub fn walk(
         }
         labels[p] = v;
         count = worked;
-        p = labels::wide(parents[p]);
+        p = labels::wide(links[p]);
     }
     count
 }
@@ -50,14 +50,14 @@ fn rework_node(
     firsts: &[u16; 3072],
     seconds: &[u16; 3072],
     nodes: usize,
-    parents: &[u16; 3072],
+    links: &[u16; 4352],
     labels: &mut [u8; 3072],
     words: &mut [u64; 48],
     m: Marks,
     k: usize,
 ) -> Marks
-    requires { ⌜ Rules (now rules) × Ripe nodes k (now parents) (now words) m ⌝ }
-    ensures { λ r. ⌜ Settled (now (kinds .entry)) (now (firsts .entry)) (now (seconds .entry)) nodes (now (parents .entry)) k
+    requires { ⌜ Rules (now rules) × Ripe nodes k (now links) (now words) m ⌝ }
+    ensures { λ r. ⌜ Settled (now (kinds .entry)) (now (firsts .entry)) (now (seconds .entry)) nodes (now (links .entry)) k
         (now (labels .entry)) (now (words .entry)) m (now (labels .exit)) (now (words .exit)) r ⌝ }
 {
     let left = marks::unmark(m, k);
@@ -66,7 +66,7 @@ fn rework_node(
         return left;
     }
     labels[k] = v;
-    let p = labels::wide(parents[k]);
+    let p = labels::wide(links[k]);
     if p < nodes {
         return marks::mark(words, left, p);
     }
@@ -79,18 +79,17 @@ pub fn settle(
     kinds: &[u16; 3072],
     firsts: &[u16; 3072],
     seconds: &[u16; 3072],
-    leaves: usize,
-    nodes: usize,
-    parents: &[u16; 3072],
+    size: Size,
+    links: &[u16; 4352],
     labels: &mut [u8; 3072],
     words: &mut [u64; 48],
     marked: Marks,
 ) -> u32
-    requires { ⌜ Settles (now rules) (now kinds) (now firsts) (now seconds) leaves nodes (now parents) (now labels) (now words) marked ⌝ }
+    requires { ⌜ Settles (now rules) (now kinds) (now firsts) (now seconds) (size .leaves) (size .nodes) (now links) (now labels) (now words) marked ⌝ }
     ensures { λ _. ⌜ length (now (labels .exit)) ≡ 3072 ⌝ }
-    ensures { λ r. ⌜ ((old : List ℕ) (j : ℕ) → Due (now (kinds .entry)) (now (firsts .entry)) (now (seconds .entry)) nodes old (now (labels .entry)) (all (now (words .entry)) marked) j
-        → steps (take nodes (now (labels .exit))) r
-        ≡ rework old (recs (now (kinds .entry)) (now (firsts .entry)) (now (seconds .entry)) j (nodes - j)) j (take nodes (now (labels .entry)))) ⌝ }
+    ensures { λ r. ⌜ ((old : List ℕ) (j : ℕ) → Due (now (kinds .entry)) (now (firsts .entry)) (now (seconds .entry)) (size .nodes) old (now (labels .entry)) (all (now (words .entry)) marked) j
+        → steps (take (size .nodes) (now (labels .exit))) r
+        ≡ rework old (recs (now (kinds .entry)) (now (firsts .entry)) (now (seconds .entry)) j (size .nodes - j)) j (take (size .nodes) (now (labels .entry)))) ⌝ }
 {
     let mut m = marks::next(words, marked);
     let mut count: u32 = 0;
@@ -101,8 +100,8 @@ pub fn settle(
             kinds,
             firsts,
             seconds,
-            nodes,
-            parents,
+            size.nodes,
+            links,
             labels,
             words,
             m,

@@ -67,22 +67,19 @@ module _ {ks fs xs : List ℕ} {leaves nodes : ℕ} where
   tree-fits t = omega (arith, tree-room t)
 
   -- the same numbers as entries of a list
-  pub narrow-room : {n : ℕ} → Tree ks fs xs leaves nodes → n ≡ nodes → n ≤ 3072
-  narrow-room t e = rw e (tree-room t)
-
   module _ {m n : ℕ} where
     pub narrow-shaped : Tree ks fs xs leaves nodes → m ≡ leaves → n ≡ nodes → Shaped ks fs xs m n
     narrow-shaped t d e = rw (d, e) (tree-shaped t)
 
-    pub narrow-ready : {ps hs ns : List ℕ} → Tree ks fs xs leaves nodes → m ≡ leaves → n ≡ nodes → Parents ks fs xs n ps → Chains ks fs xs m n hs ns
-        → Ready ks fs xs leaves nodes ps hs ns
+    pub narrow-ready : {links : List ℕ} → Tree ks fs xs leaves nodes → m ≡ leaves → n ≡ nodes → Parents ks fs xs n links → Chains ks fs xs m n links
+        → Ready ks fs xs leaves nodes links
     narrow-ready t d e p q = record { linked = record { shaped = tree-shaped t; ups = rw e at p }; chains = rw (d, e) at q }
 
   pub run-list : {toggles roots counts labels : List ℕ} → RunRoom ks fs xs leaves nodes toggles roots counts labels → nodes ≤ length labels
   run-list r = r .for-labels
 
-  pub tables : {m n : ℕ} {rules ls ps hs ns : List ℕ} → Rules rules → Tree ks fs xs leaves nodes → m ≡ leaves → n ≡ nodes → length ls ≡ 3072
-      → take nodes ls ≡ labels outside (recs ks fs xs 0 nodes) → Parents ks fs xs n ps → Chains ks fs xs m n hs ns → Tables rules ks fs xs leaves nodes ls ps hs ns
+  pub tables : {m n : ℕ} {rules ls links : List ℕ} → Rules rules → Tree ks fs xs leaves nodes → m ≡ leaves → n ≡ nodes → length ls ≡ 3072
+      → take nodes ls ≡ labels outside (recs ks fs xs 0 nodes) → Parents ks fs xs n links → Chains ks fs xs m n links → Tables rules ks fs xs leaves nodes ls links
   tables r t d e long is p q = record { ruled = r; ready = narrow-ready t d e p q; long = long; room = tree-room t; labels-are = is }
 
   pub ran : (ss roots counts list l₀ l₁ : List ℕ) {roots′ counts′ list′ : List ℕ} → take nodes l₀ ≡ labels outside (recs ks fs xs 0 nodes)

@@ -12,9 +12,9 @@ use Rattle.labels.specs.Linked.{Rules, Ready}
 use Rattle.toggles.specs.Toggles.{toggleEach}
 
 -- All that a run fills before its first toggle.
-pub record Tables (rules ks fs ss : List ℕ) (leaves nodes : ℕ) (ls ps hs ns : List ℕ) : Type 0 where
+pub record Tables (rules ks fs ss : List ℕ) (leaves nodes : ℕ) (ls links : List ℕ) : Type 0 where
   pub ruled : Rules rules
-  pub ready : Ready ks fs ss leaves nodes ps hs ns
+  pub ready : Ready ks fs ss leaves nodes links
   pub long : length ls ≡ 3072
   pub room : nodes ≤ 3072
   pub labels-are : take nodes ls ≡ labels outside (recs ks fs ss 0 nodes)

@@ -1,4 +1,5 @@
 // A run on lent lists: the toggles one after the other on a dwarf tree, with a root and a count for each, and the last labels.
+use labels::Size;
 ghost use mathlib.Core.Path.{_≡_};
 ghost use Prim.Native.Nat.{_<_, _≤_};
 ghost use lib.ListN.{length, take};
@@ -27,38 +28,23 @@ fn toggle_each(
     kinds: &[u16; 3072],
     firsts: &[u16; 3072],
     seconds: &[u16; 3072],
-    leaves: usize,
-    nodes: usize,
-    parents: &[u16; 3072],
-    heads: &[u16; 256],
-    nexts: &[u16; 1024],
+    size: Size,
+    links: &[u16; 4352],
     labels: &mut [u8; 3072],
     toggles: &[u16],
     roots: &mut [u8],
     counts: &mut [u32],
 )
-    requires { ⌜ Rules (now rules) × Ready (now kinds) (now firsts) (now seconds) leaves nodes (now parents) (now heads) (now nexts) × (length (now labels) ≡ 3072) ⌝ }
+    requires { ⌜ Rules (now rules) × Ready (now kinds) (now firsts) (now seconds) (size .leaves) (size .nodes) (now links) × (length (now labels) ≡ 3072) ⌝ }
     requires { ⌜ ToggleRoom (now toggles) (now roots) (now counts) ⌝ }
-    ensures { λ _. ⌜ RunDone (recs (now (kinds .entry)) (now (firsts .entry)) (now (seconds .entry)) 0 nodes) (take nodes (now (labels .entry))) (now (toggles .entry))
-        (now (roots .entry)) (now (counts .entry)) (take nodes (now (labels .exit))) (now (roots .exit)) (now (counts .exit)) ⌝ }
+    ensures { λ _. ⌜ RunDone (recs (now (kinds .entry)) (now (firsts .entry)) (now (seconds .entry)) 0 (size .nodes)) (take (size .nodes) (now (labels .entry))) (now (toggles .entry))
+        (now (roots .entry)) (now (counts .entry)) (take (size .nodes) (now (labels .exit))) (now (roots .exit)) (now (counts .exit)) ⌝ }
 {
     let mut i = 0;
     while i < toggles.len() {
         let s = labels::wide(toggles[i]);
-        counts[i] = toggles::toggle(
-            rules,
-            kinds,
-            firsts,
-            seconds,
-            leaves,
-            nodes,
-            parents,
-            heads,
-            nexts,
-            labels,
-            s,
-        );
-        roots[i] = root(labels, nodes);
+        counts[i] = toggles::toggle(rules, kinds, firsts, seconds, size, links, labels, s);
+        roots[i] = root(labels, size.nodes);
         i += 1;
     }
 }
@@ -98,28 +84,31 @@ fn narrow(x: usize) -> u16
     x as u16
 }
 
-// The rules of the labels, the labels with every shape outside, each node's parent and the leaves of each shape.
+// The labels with every shape outside, and the links of the nodes.
 pub fn fill_tables(
-    rules: &mut [u8; 256],
+    rules: &[u8; 256],
     kinds: &[u16; 3072],
     firsts: &[u16; 3072],
     seconds: &[u16; 3072],
-    leaves: usize,
-    nodes: usize,
+    size: Size,
     labels: &mut [u8; 3072],
-    parents: &mut [u16; 3072],
-    heads: &mut [u16; 256],
-    nexts: &mut [u16; 1024],
+    links: &mut [u16; 4352],
 )
-    requires { ⌜ Tree (now kinds) (now firsts) (now seconds) leaves nodes ⌝ }
-    ensures { λ _. ⌜ Tables (now (rules .exit)) (now (kinds .entry)) (now (firsts .entry)) (now (seconds .entry)) leaves nodes (now (labels .exit)) (now (parents .exit)) (now (heads .exit)) (now (nexts .exit)) ⌝ }
+    requires { ⌜ Rules (now rules) × Tree (now kinds) (now firsts) (now seconds) (size .leaves) (size .nodes) ⌝ }
+    ensures { λ _. ⌜ Tables (now (rules .entry)) (now (kinds .entry)) (now (firsts .entry)) (now (seconds .entry)) (size .leaves) (size .nodes) (now (labels .exit)) (now (links .exit)) ⌝ }
 {
-    let few = narrow(leaves);
-    let all = narrow(nodes);
-    labels::fill_rules(rules);
-    labels::fill_labels(rules, kinds, firsts, seconds, leaves, nodes, labels);
-    labels::fill_parents(kinds, firsts, seconds, all, parents);
-    labels::fill_chains(kinds, firsts, seconds, few, all, heads, nexts);
+    let few = narrow(size.leaves);
+    let all = narrow(size.nodes);
+    labels::fill_labels(
+        rules,
+        kinds,
+        firsts,
+        seconds,
+        size.leaves,
+        size.nodes,
+        labels,
+    );
+    labels::fill_links(kinds, firsts, seconds, few, all, links);
 }
 
 // A toggle run on a dwarf tree, with every shape outside at first.
@@ -127,48 +116,40 @@ pub fn run_tree(
     kinds: &[u16; 3072],
     firsts: &[u16; 3072],
     seconds: &[u16; 3072],
-    leaves: usize,
-    nodes: usize,
+    size: Size,
     toggles: &[u16],
     roots: &mut [u8],
     counts: &mut [u32],
     labels: &mut [u8],
 )
-    requires { ⌜ RunRoom (now kinds) (now firsts) (now seconds) leaves nodes (now toggles) (now roots) (now counts) (now labels) ⌝ }
-    ensures { λ _. ⌜ ((f : Formula) → Holds (now (kinds .entry)) (now (firsts .entry)) (now (seconds .entry)) leaves nodes f
+    requires { ⌜ RunRoom (now kinds) (now firsts) (now seconds) (size .leaves) (size .nodes) (now toggles) (now roots) (now counts) (now labels) ⌝ }
+    ensures { λ _. ⌜ ((f : Formula) → Holds (now (kinds .entry)) (now (firsts .entry)) (now (seconds .entry)) (size .leaves) (size .nodes) f
         → TreeRun f (now (toggles .entry)) (now (roots .entry)) (now (counts .entry)) (now (labels .entry)) (now (roots .exit)) (now (counts .exit)) (now (labels .exit))) ⌝ }
 {
     let mut rules = [0u8; 256];
     let mut current = [0u8; 3072];
-    let mut parents = [0u16; 3072];
-    let mut heads = [0u16; 256];
-    let mut nexts = [0u16; 1024];
+    let mut links = [0u16; 4352];
+    labels::fill_rules(&mut rules);
     fill_tables(
-        &mut rules,
+        &rules,
         kinds,
         firsts,
         seconds,
-        leaves,
-        nodes,
+        size,
         &mut current,
-        &mut parents,
-        &mut heads,
-        &mut nexts,
+        &mut links,
     );
     toggle_each(
         &rules,
         kinds,
         firsts,
         seconds,
-        leaves,
-        nodes,
-        &parents,
-        &heads,
-        &nexts,
+        size,
+        &links,
         &mut current,
         toggles,
         roots,
         counts,
     );
-    copy_labels(&current, nodes, labels);
+    copy_labels(&current, size.nodes, labels);
 }

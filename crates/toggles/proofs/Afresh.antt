@@ -48,14 +48,14 @@ flip-on zero n = absurd (n refl)
 flip-on (suc v) n = refl
 
 -- each leaf of the shape has the other bit, every other node the same label
-abbrev pub turned : ℕ → Rec → ℕ → ℕ
+abbrev turned : ℕ → Rec → ℕ → ℕ
 turned s r x = cond (isOf s r) (flip x) x
 
-abbrev pub Flips : ℕ → List ℕ → List ℕ → ℕ → List Rec → Type 0
+abbrev Flips : ℕ → List ℕ → List ℕ → ℕ → List Rec → Type 0
 Flips s xs ys n [] = Unit {0}
 Flips s xs ys n (r ∷ rs) = (getD ys n 0 ≡ turned s r (getD xs n 0)) × Flips s xs ys (suc n) rs
 
-pub record Turned (s : ℕ) (rs : List Rec) (i : ℕ) (ls ms : List ℕ) : Type 0 where
+record Turned (s : ℕ) (rs : List Rec) (i : ℕ) (ls ms : List ℕ) : Type 0 where
   pub lower : (k : ℕ) → k < i → getD ms k 0 ≡ getD ls k 0
   pub flips : Flips s ls ms i rs
   pub long : length ms ≡ length ls

@@ -78,7 +78,7 @@ module _ {ks fs ss : List ℕ} {leaves nodes : ℕ} (sh : Shaped ks fs ss leaves
       ∙ rework-skip old (recAt ks fs ss j) (recs ks fs ss (suc j) (nodes - suc j)) j ls (ap (changed old ls) (leaf-none (recAt ks fs ss j) (sh .leaf j (omega arith))))
 
 -- the leaves below `from` are done, and a is the next of the shape
-module _ (ks fs ss : List ℕ) (leaves nodes : ℕ) (ps hs ns : List ℕ) (s : ℕ) (old : List ℕ) where
+module _ (ks fs ss : List ℕ) (leaves nodes : ℕ) (links : List ℕ) (s : ℕ) (old : List ℕ) where
   pub record Turning (a : ℕ) (ls : List ℕ) : Type 0 where
     pub from : ℕ
     pub inside : from ≤ leaves
@@ -96,8 +96,8 @@ module _ (ks fs ss : List ℕ) (leaves nodes : ℕ) (ps hs ns : List ℕ) (s : �
     pub low : (k : ℕ) → k < leaves → marked (all ws m) k ≡ false
     pub dues : (k : ℕ) → k < nodes → changed (take nodes old) ls (children (recAt ks fs ss k)) ≡ marked (all ws m) k
 
-module _ {ks fs ss : List ℕ} {leaves nodes : ℕ} {ps hs ns : List ℕ} (rd : Ready ks fs ss leaves nodes ps hs ns) {s : ℕ} {old : List ℕ} where
-  pub turning-start : {a : ℕ} → s < 256 → a ≡ getD hs s 0 → length old ≡ 3072 → Turning ks fs ss leaves nodes ps hs ns s old a old
+module _ {ks fs ss : List ℕ} {leaves nodes : ℕ} {links : List ℕ} (rd : Ready ks fs ss leaves nodes links) {s : ℕ} {old : List ℕ} where
+  turning-start : {a : ℕ} → s < 256 → a ≡ getD links (3072 + s) 0 → length old ≡ 3072 → Turning ks fs ss leaves nodes links s old a old
   turning-start h e long =
       let d : nodes ≡ nodes - 0 = omega arith in
       record {
@@ -109,7 +109,7 @@ module _ {ks fs ss : List ℕ} {leaves nodes : ℕ} {ps hs ns : List ℕ} (rd : 
         long = long;
       }
 
-  module _ {a : ℕ} {ls : List ℕ} (g : Turning ks fs ss leaves nodes ps hs ns s old a ls) where
+  module _ {a : ℕ} {ls : List ℕ} (g : Turning ks fs ss leaves nodes links s old a ls) where
     nodes-left : g .from + (nodes - g .from) ≡ nodes
     nodes-left = omega (arith, g .inside, rd .linked .shaped .within)
 
@@ -120,7 +120,7 @@ module _ {ks fs ss : List ℕ} {leaves nodes : ℕ} {ps hs ns : List ℕ} (rd : 
         (λ w. absurd (true≢false (sym (ap (λ k. isLeaf (kindAt (getD ks k 0))) (g .here) ∙ and-both _ _ (w .0) .0) ∙ rd .linked .shaped .inner a h (omega (arith, w .2, g .here, nodes-left)))))
         (found ks fs ss (isOf s) (nodes - g .from) (g .from))
 
-    pub turning-end : leaves ≤ a → take nodes ls ≡ flipLeaves s (recs ks fs ss 0 nodes) 0 (take nodes old)
+    turning-end : leaves ≤ a → take nodes ls ≡ flipLeaves s (recs ks fs ss 0 nodes) 0 (take nodes old)
     turning-end h =
         sym (g .same ∙ done (isOf s) (λ rs i. flipLeaves s rs i (take nodes ls)) (take nodes ls) (λ i. refl) (λ r rs i q. flip-skip s r rs i (take nodes ls) q)
         ks fs ss (nodes - g .from) (g .from) (omega (arith, nodes-left, g .here, past-leaves h)))
@@ -143,7 +143,7 @@ module _ {ks fs ss : List ℕ} {leaves nodes : ℕ} {ps hs ns : List ℕ} (rd : 
           ks fs ss (nodes - g .from) (g .from) (omega (arith, nodes-left, rd .linked .shaped .room)) (omega (arith, nodes-left, g .here, rd .linked .shaped .within))
           ∙ rw (nodes-left, ← (g .here)) (flip-here s (recAt ks fs ss a) rs a (take nodes ls) (is-here h .0)) ∙ ap (flipLeaves s rs (suc a)) flipped-here
 
-      pub turning-on : {b : ℕ} → b ≡ getD ns a 0 → Turning ks fs ss leaves nodes ps hs ns s old b (set ls a v)
+      turning-on : {b : ℕ} → b ≡ getD links (3328 + a) 0 → Turning ks fs ss leaves nodes links s old b (set ls a v)
       turning-on {b} q =
           let shape : getD fs a 0 ≡ s = eqb-true (getD fs a 0) s (and-both (isLeaf (kindAt (getD ks a 0))) (eqb (getD fs a 0) s) (is-here h .0) .1) in
           record {
@@ -159,15 +159,15 @@ pub leaf-inside : {ks fs ss : List ℕ} {leaves nodes : ℕ} {a : ℕ} → Shape
 leaf-inside sh h = omega (arith, sh .within)
 
 -- a toggle whose shape has no leaf
-pub toggle-none : {ks fs ss : List ℕ} {leaves nodes : ℕ} {ps hs ns : List ℕ} → Ready ks fs ss leaves nodes ps hs ns → {s a : ℕ} (ls : List ℕ) → leaves ≤ a → a ≡ getD hs s 0 → s < 256
+pub toggle-none : {ks fs ss : List ℕ} {leaves nodes : ℕ} {links : List ℕ} → Ready ks fs ss leaves nodes links → {s a : ℕ} (ls : List ℕ) → leaves ≤ a → a ≡ getD links (3072 + s) 0 → s < 256
     → length ls ≡ 3072 → steps (take nodes ls) 0 ≡ toggle (recs ks fs ss 0 nodes) s (take nodes ls)
 toggle-none {ks} {fs} {ss} {leaves} {nodes} rd {s} ls past e h long =
     let still = turning-end rd (turning-start rd {s = s} {old = ls} h e long) past in
     sym (ap (rework (take nodes ls) (recs ks fs ss 0 nodes) 0) (sym still) ∙ rework-none (take nodes ls) (recs ks fs ss 0 nodes) 0)
 
 -- one whose shape has a single leaf, a
-pub toggle-one : {ks fs ss : List ℕ} {leaves nodes : ℕ} {ps hs ns : List ℕ} → Ready ks fs ss leaves nodes ps hs ns → {s a b v n : ℕ} (ls ms : List ℕ) → a < leaves → a ≡ getD hs s 0
-    → leaves ≤ b → b ≡ getD ns a 0 → v ≡ flip (getD ls a 0) → s < 256 → length ls ≡ 3072
+pub toggle-one : {ks fs ss : List ℕ} {leaves nodes : ℕ} {links : List ℕ} → Ready ks fs ss leaves nodes links → {s a b v n : ℕ} (ls ms : List ℕ) → a < leaves → a ≡ getD links (3072 + s) 0
+    → leaves ≤ b → b ≡ getD links (3328 + a) 0 → v ≡ flip (getD ls a 0) → s < 256 → length ls ≡ 3072
     → ((old : List ℕ) → Alone nodes old (set ls a v) a → steps (take nodes ms) n ≡ rework old (recs ks fs ss (suc a) (nodes - suc a)) (suc a) (take nodes (set ls a v)))
     → steps (take nodes ms) n ≡ toggle (recs ks fs ss 0 nodes) s (take nodes ls)
 toggle-one {ks} {fs} {ss} {leaves} {nodes} rd {s} {a} {b} {v} ls ms h e past q f small long walked =
@@ -186,8 +186,8 @@ toggle-one {ks} {fs} {ss} {leaves} {nodes} rd {s} {a} {b} {v} ls ms h e past q f
         }
 
 -- the marks on the way
-module _ {ks fs ss : List ℕ} {leaves nodes : ℕ} {ps hs ns : List ℕ} (rd : Ready ks fs ss leaves nodes ps hs ns) {s : ℕ} {old : List ℕ} where
-  pub flipping-start : {a : ℕ} {ws : List ℕ} {m : Marks} → s < 256 → a ≡ getD hs s 0 → length old ≡ 3072 → Bare ws m → Flipping ks fs ss leaves nodes ps hs ns s old a old ws m
+module _ {ks fs ss : List ℕ} {leaves nodes : ℕ} {links : List ℕ} (rd : Ready ks fs ss leaves nodes links) {s : ℕ} {old : List ℕ} where
+  pub flipping-start : {a : ℕ} {ws : List ℕ} {m : Marks} → s < 256 → a ≡ getD links (3072 + s) 0 → length old ≡ 3072 → Bare ws m → Flipping ks fs ss leaves nodes links s old a old ws m
   flipping-start h e long bare =
       record {
         turning = turning-start rd h e long;
@@ -200,7 +200,7 @@ module _ {ks fs ss : List ℕ} {leaves nodes : ℕ} {ps hs ns : List ℕ} (rd : 
             ∙ sym (bare .empty .none k);
       }
 
-  module _ {a : ℕ} {ls ws : List ℕ} {m : Marks} (g : Flipping ks fs ss leaves nodes ps hs ns s old a ls ws m) where
+  module _ {a : ℕ} {ls ws : List ℕ} {m : Marks} (g : Flipping ks fs ss leaves nodes links s old a ls ws m) where
     pub flipping-end : leaves ≤ a → Flipped ks fs ss leaves nodes s old ls ws m
     flipping-end h =
         let t = g .turning in
@@ -218,7 +218,7 @@ module _ {ks fs ss : List ℕ} {leaves nodes : ℕ} {ps hs ns : List ℕ} (rd : 
               };
         }
 
-    module _ {p v : ℕ} {ws′ : List ℕ} {m′ : Marks} (h : a < leaves) (e : v ≡ flip (getD ls a 0)) (u : p ≡ getD ps a 0) (on : AddedNode nodes p ws m ws′ m′) where
+    module _ {p v : ℕ} {ws′ : List ℕ} {m′ : Marks} (h : a < leaves) (e : v ≡ flip (getD ls a 0)) (u : p ≡ getD links a 0) (on : AddedNode nodes p ws m ws′ m′) where
       in-nodes : a < nodes
       in-nodes = omega (arith, rd .linked .shaped .within)
 
@@ -241,7 +241,7 @@ module _ {ks fs ss : List ℕ} {leaves nodes : ℕ} {ps hs ns : List ℕ} (rd : 
       either false true false q w = absurd (true≢false (sym q))
       either false false z q w = absurd (true≢false (sym q))
 
-      pub flipping-on : {b : ℕ} → b ≡ getD ns a 0 → Flipping ks fs ss leaves nodes ps hs ns s old b (set ls a v) ws′ m′
+      flipping-on : {b : ℕ} → b ≡ getD links (3328 + a) 0 → Flipping ks fs ss leaves nodes links s old b (set ls a v) ws′ m′
       flipping-on q =
           record {
             turning = turning-on rd (g .turning) h e q;
@@ -274,9 +274,9 @@ module _ {ks fs ss : List ℕ} {leaves nodes : ℕ} {ps hs ns : List ℕ} (rd : 
               none false = refl
 
 -- the same as the loop meets it: the mark put in and the state before it come first, since they tell of what the rest is
-pub flipping-more : {ks fs ss : List ℕ} {leaves nodes : ℕ} {ps hs ns : List ℕ} {s : ℕ} {old : List ℕ} {a b p v : ℕ} {ls ws ws′ : List ℕ} {m m′ : Marks} → AddedNode nodes p ws m ws′ m′
-    → Flipping ks fs ss leaves nodes ps hs ns s old a ls ws m → Ready ks fs ss leaves nodes ps hs ns → a < leaves → v ≡ flip (getD ls a 0) → p ≡ getD ps a 0 → b ≡ getD ns a 0
-    → Flipping ks fs ss leaves nodes ps hs ns s old b (set ls a v) ws′ m′
+pub flipping-more : {ks fs ss : List ℕ} {leaves nodes : ℕ} {links : List ℕ} {s : ℕ} {old : List ℕ} {a b p v : ℕ} {ls ws ws′ : List ℕ} {m m′ : Marks} → AddedNode nodes p ws m ws′ m′
+    → Flipping ks fs ss leaves nodes links s old a ls ws m → Ready ks fs ss leaves nodes links → a < leaves → v ≡ flip (getD ls a 0) → p ≡ getD links a 0 → b ≡ getD links (3328 + a) 0
+    → Flipping ks fs ss leaves nodes links s old b (set ls a v) ws′ m′
 flipping-more on g rd h e u q = flipping-on rd g h e u on q
 
 -- a toggle whose shape has several leaves

@@ -25,9 +25,9 @@ pub record AddedNode (nodes p : ℕ) (ws : List ℕ) (m : Marks) (ws′ : List �
   pub so : (i : ℕ) → marked (all ws′ m′) i ≡ (marked (all ws m) i || (ltb p nodes && eqb i p))
 
 -- What a toggle of shape s asks for.
-pub record Toggles (rules ks fs ss : List ℕ) (leaves nodes : ℕ) (ps hs ns ls : List ℕ) (s : ℕ) : Type 0 where
+pub record Toggles (rules ks fs ss : List ℕ) (leaves nodes : ℕ) (links ls : List ℕ) (s : ℕ) : Type 0 where
   pub ruled : Rules rules
-  pub ready : Ready ks fs ss leaves nodes ps hs ns
+  pub ready : Ready ks fs ss leaves nodes links
   pub long : length ls ≡ 3072
   pub shape : s < 256
 

@@ -8,6 +8,7 @@ ghost use Rattle.labels.specs.Linked.{Ready};
 ghost use Rattle.toggle_passes.specs.Reworking.{steps};
 ghost use Rattle.toggles.specs.Toggles.{flip as flipOf, toggle as toggleOf};
 ghost use Rattle.toggles.specs.Flipping.{Bare, AddedNode, Toggles, Flipped};
+use labels::Size;
 use marks::Marks;
 
 // The other bit.
@@ -33,25 +34,22 @@ fn flip_leaves(
     kinds: &[u16; 3072],
     firsts: &[u16; 3072],
     seconds: &[u16; 3072],
-    leaves: usize,
-    nodes: usize,
-    parents: &[u16; 3072],
-    heads: &[u16; 256],
-    nexts: &[u16; 1024],
+    size: Size,
+    links: &[u16; 4352],
     labels: &mut [u8; 3072],
     words: &mut [u64; 48],
     none: Marks,
     s: usize,
 ) -> Marks
-    requires { ⌜ Ready (now kinds) (now firsts) (now seconds) leaves nodes (now parents) (now heads) (now nexts) × (length (now labels) ≡ 3072) × (s < 256) × Bare (now words) none ⌝ }
-    ensures { λ r. ⌜ Flipped (now (kinds .entry)) (now (firsts .entry)) (now (seconds .entry)) leaves nodes s (now (labels .entry)) (now (labels .exit)) (now (words .exit)) r ⌝ }
+    requires { ⌜ Ready (now kinds) (now firsts) (now seconds) (size .leaves) (size .nodes) (now links) × (length (now labels) ≡ 3072) × (s < 256) × Bare (now words) none ⌝ }
+    ensures { λ r. ⌜ Flipped (now (kinds .entry)) (now (firsts .entry)) (now (seconds .entry)) (size .leaves) (size .nodes) s (now (labels .entry)) (now (labels .exit)) (now (words .exit)) r ⌝ }
 {
-    let mut a = labels::wide(heads[s]);
+    let mut a = labels::wide(links[3072 + s]);
     let mut m = none;
-    while a < leaves {
+    while a < size.leaves {
         labels[a] = flip(labels[a]);
-        m = mark_node(words, m, labels::wide(parents[a]), nodes);
-        a = labels::wide(nexts[a]);
+        m = mark_node(words, m, labels::wide(links[a]), size.nodes);
+        a = labels::wide(links[3328 + a]);
     }
     m
 }
@@ -62,18 +60,15 @@ fn toggle_many(
     kinds: &[u16; 3072],
     firsts: &[u16; 3072],
     seconds: &[u16; 3072],
-    leaves: usize,
-    nodes: usize,
-    parents: &[u16; 3072],
-    heads: &[u16; 256],
-    nexts: &[u16; 1024],
+    size: Size,
+    links: &[u16; 4352],
     labels: &mut [u8; 3072],
     s: usize,
 ) -> u32
-    requires { ⌜ Toggles (now rules) (now kinds) (now firsts) (now seconds) leaves nodes (now parents) (now heads) (now nexts) (now labels) s ⌝ }
+    requires { ⌜ Toggles (now rules) (now kinds) (now firsts) (now seconds) (size .leaves) (size .nodes) (now links) (now labels) s ⌝ }
     ensures { λ _. ⌜ length (now (labels .exit)) ≡ 3072 ⌝ }
-    ensures { λ r. ⌜ steps (take nodes (now (labels .exit))) r
-        ≡ toggleOf (recs (now (kinds .entry)) (now (firsts .entry)) (now (seconds .entry)) 0 nodes) s (take nodes (now (labels .entry))) ⌝ }
+    ensures { λ r. ⌜ steps (take (size .nodes) (now (labels .exit))) r
+        ≡ toggleOf (recs (now (kinds .entry)) (now (firsts .entry)) (now (seconds .entry)) 0 (size .nodes)) s (take (size .nodes) (now (labels .entry))) ⌝ }
 {
     let mut words = [0u64; 48];
     let none = marks::none();
@@ -81,11 +76,8 @@ fn toggle_many(
         kinds,
         firsts,
         seconds,
-        leaves,
-        nodes,
-        parents,
-        heads,
-        nexts,
+        size,
+        links,
         labels,
         &mut words,
         none,
@@ -96,9 +88,8 @@ fn toggle_many(
         kinds,
         firsts,
         seconds,
-        leaves,
-        nodes,
-        parents,
+        size,
+        links,
         labels,
         &mut words,
         m,
@@ -111,49 +102,24 @@ pub fn toggle(
     kinds: &[u16; 3072],
     firsts: &[u16; 3072],
     seconds: &[u16; 3072],
-    leaves: usize,
-    nodes: usize,
-    parents: &[u16; 3072],
-    heads: &[u16; 256],
-    nexts: &[u16; 1024],
+    size: Size,
+    links: &[u16; 4352],
     labels: &mut [u8; 3072],
     s: usize,
 ) -> u32
-    requires { ⌜ Toggles (now rules) (now kinds) (now firsts) (now seconds) leaves nodes (now parents) (now heads) (now nexts) (now labels) s ⌝ }
+    requires { ⌜ Toggles (now rules) (now kinds) (now firsts) (now seconds) (size .leaves) (size .nodes) (now links) (now labels) s ⌝ }
     ensures { λ _. ⌜ length (now (labels .exit)) ≡ 3072 ⌝ }
-    ensures { λ r. ⌜ steps (take nodes (now (labels .exit))) r
-        ≡ toggleOf (recs (now (kinds .entry)) (now (firsts .entry)) (now (seconds .entry)) 0 nodes) s (take nodes (now (labels .entry))) ⌝ }
+    ensures { λ r. ⌜ steps (take (size .nodes) (now (labels .exit))) r
+        ≡ toggleOf (recs (now (kinds .entry)) (now (firsts .entry)) (now (seconds .entry)) 0 (size .nodes)) s (take (size .nodes) (now (labels .entry))) ⌝ }
 {
-    let a = labels::wide(heads[s]);
-    if leaves <= a {
+    let a = labels::wide(links[3072 + s]);
+    if size.leaves <= a {
         return 0;
     }
-    let b = labels::wide(nexts[a]);
-    if b < leaves {
-        return toggle_many(
-            rules,
-            kinds,
-            firsts,
-            seconds,
-            leaves,
-            nodes,
-            parents,
-            heads,
-            nexts,
-            labels,
-            s,
-        );
+    let b = labels::wide(links[3328 + a]);
+    if b < size.leaves {
+        return toggle_many(rules, kinds, firsts, seconds, size, links, labels, s);
     }
     labels[a] = flip(labels[a]);
-    toggle_passes::walk(
-        rules,
-        kinds,
-        firsts,
-        seconds,
-        leaves,
-        nodes,
-        parents,
-        labels,
-        a,
-    )
+    toggle_passes::walk(rules, kinds, firsts, seconds, size, links, labels, a)
 }

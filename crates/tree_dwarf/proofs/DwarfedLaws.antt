@@ -47,7 +47,7 @@ part-entries part of same (r ∷ rs) = ap₂ _∷_ (same r) (part-entries part o
 
 -- leaves numbered, all rounds done, and the height worked out
 module _ (f : Formula) (n : ℕ) {a ks fs ss : List ℕ} (count : ℕ) (started : Leaves (planted f 0) [] (leafRecs f) a ks fs ss (record { at = n; next = count })) where
-  pub count-leaves : count ≡ leaves f
+  count-leaves : count ≡ leaves f
   count-leaves = omega (arith, leaves-next started, length-leafRecs f)
 
   module _ (ks′ fs′ ss′ : List ℕ) (total many tall : ℕ) (end : Contracted (planted f 0) count (entries ks fs ss 0 count) (entries ks′ fs′ ss′ 0 total) many)
@@ -63,7 +63,7 @@ module _ (f : Formula) (n : ℕ) {a ks fs ss : List ℕ} (count : ℕ) (started 
     list-is part of same l long at =
         map-entries part l ks′ fs′ ss′ at total (omega arith) ∙ ap (map part) entries-dwarf ∙ part-entries part of same (dwarf f)
 
-    pub dwarfed : Dwarfed f ks′ fs′ ss′ (record { leaves = count; nodes = total; rounds = many; height = tall })
+    dwarfed : Dwarfed f ks′ fs′ ss′ (record { leaves = count; nodes = total; rounds = many; height = tall })
     dwarfed = record {
       leaves-are = count-leaves;
       nodes-are = sym (length-entries ks′ fs′ ss′ total 0) ∙ ap length entries-dwarf ∙ length-map (dwarf f) entryOf;

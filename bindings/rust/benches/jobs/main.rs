@@ -29,6 +29,9 @@ fn main() {
     if timed && asked("many") {
         return many::print(many);
     }
+    if timed && asked("moves") {
+        return moved(rows::moves_and_reads());
+    }
     let rows = rows::all(if timed { 20_000 } else { 2_000 });
     for row in &rows {
         (row.check)();
@@ -53,11 +56,7 @@ fn main() {
     let [mut pair, mut one] = rows::pair_and_one();
     let times = best(&mut [&mut pair, &mut one]);
     println!("\nReading 128 names beside 128 fittings takes {:.2} of the time of 256 in one sheet.\n", times[0] / times[1]);
-    let [one, two] = rows::moves_and_reads().map(|[mut moving, mut reading]| {
-        let times = best(&mut [&mut moving, &mut reading]);
-        times[0] / times[1]
-    });
-    println!("Moving the largest sheet takes {one:.2} times as long as reading it, of edition 2 {two:.2} times.\n");
+    moved(rows::moves_and_reads());
     for leaves in [256, 1024] {
         let walks = said.iter().filter(|row| row.leaves == leaves).filter_map(|row| row.walk);
         let (least, most) = walks.fold((f64::INFINITY, 0.0), |(least, most): (f64, f64), walk| (least.min(walk), most.max(walk)));
@@ -74,6 +73,19 @@ fn main() {
 }
 
 /// Times an edit beside a toggle of one leaf and a new build: edits and toggles as the difference of two runs.
+fn moved(rows: Vec<rows::MoveAndRead>) {
+    println!("\nNanoseconds a call, of sheets of 1024 leaves.\n");
+    println!("| names | formula | edition | sheet | read | move | move / read |");
+    println!("|---|---|--:|--:|--:|--:|--:|");
+    let mut most = 0.0_f64;
+    for rows::MoveAndRead { sheet, mut moving, mut reading } in rows {
+        let times = best(&mut [&mut moving, &mut reading]);
+        println!("| {sheet} | {:.0} | {:.0} | {:.2} |", times[1], times[0], times[0] / times[1]);
+        most = most.max(times[0] / times[1]);
+    }
+    println!("\nMoving takes at most {most:.2} times as long as reading, where 3 is asked.\n");
+}
+
 fn edited(rows: Vec<edits::Row>) {
     println!("\nNanoseconds an edit, a toggle of a shape with one leaf, and a new build, on one sheet.");
     println!("An edit's and a toggle's time is what a run with 20,000 more of them takes longer.\n");

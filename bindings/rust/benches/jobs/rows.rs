@@ -287,18 +287,43 @@ fn moved(formula: &'static str, leaves: usize) -> Row {
     }
 }
 
-/// Moving the largest sheet of edition 1, with names of 32 bytes, and reading it; and the same of edition 2.
-pub fn moves_and_reads() -> [[Box<dyn FnMut()>; 2]; 2] {
-    let dice = &mut Dice::of(12, 0);
-    let one = make::sheet(&make::names(dice, 256, 32), &make::without_exclusive(make::codes(dice, 256, 1024, Form::Any)));
+/// A move and the reading of the same sheet.
+pub struct MoveAndRead {
+    pub sheet: String,
+    pub moving: Box<dyn FnMut()>,
+    pub reading: Box<dyn FnMut()>,
+}
+
+/// Of a sheet of edition 1, and of the same in edition 2.
+fn move_and_read(names: &str, formula: &str, one: Vec<u8>) -> [MoveAndRead; 2] {
     let two = kressedach::move_sheet(&one).unwrap();
-    [one, two].map(|sheet| -> [Box<dyn FnMut()>; 2] {
+    [(1, one), (2, two)].map(|(edition, sheet)| {
         let (read, mut moved) = (sheet.clone(), vec![0; sheet.len()]);
-        [
-            Box::new(move || _ = black_box(kressedach::move_into(black_box(&sheet), &mut moved))),
-            Box::new(move || _ = black_box(kressedach::read(black_box(&read)))),
-        ]
+        MoveAndRead {
+            sheet: format!("{names} | {formula} | {edition} | {} bytes", sheet.len()),
+            moving: Box::new(move || _ = black_box(kressedach::move_into(black_box(&sheet), &mut moved))),
+            reading: Box::new(move || _ = black_box(kressedach::read(black_box(&read)))),
+        }
     })
+}
+
+/// Sheets of 1024 leaves: under one name, which is read soonest, under 256, and the largest, with names of 32 bytes.
+pub fn moves_and_reads() -> Vec<MoveAndRead> {
+    let dice = &mut Dice::of(12, 0);
+    let forms = [
+        ("chain to the left", Form::LeftChain),
+        ("chain to the right", Form::RightChain),
+        ("balanced", Form::Balanced),
+        ("any", Form::Any),
+    ];
+    let mut all = Vec::new();
+    for (names, count, longest) in [("one", 1, 1), ("256", 256, 2), ("256 of 32 bytes", 256, 32)] {
+        for (formula, form) in forms {
+            let codes = make::without_exclusive(make::codes(dice, count, 1024, form));
+            all.extend(move_and_read(names, formula, make::sheet(&make::names(dice, count, longest), &codes)));
+        }
+    }
+    all
 }
 
 fn build(formula: &'static str, leaves: usize) -> Row {

@@ -13,6 +13,15 @@ Inv-loop kinds numbers lines count sound lows highs halves left₀ lessers₀ gr
 abbrev μ-loop : tie.MeasureT-loop
 μ-loop kinds numbers lines count sound lows highs halves left₀ lessers₀ greaters₀ bytes₀ keys₀ axes₀ total₀ k₀ left lessers greaters bytes keys axes total k = count - k
 
+abbrev probe-of : tie.After-next-line Inv-loop μ-loop → tie.After-probe-at Inv-loop μ-loop
+probe-of s = search
+
+abbrev test-of : tie.After-probe-at Inv-loop μ-loop → tie.In-loop Inv-loop μ-loop
+test-of t = search
+
+abbrev loop-of : tie.In-loop Inv-loop μ-loop → tie.At-loop Inv-loop μ-loop
+loop-of t = search
+
 nothing-kept-requires : tie.Need-nothing-kept-requires Inv-loop μ-loop
 nothing-kept-requires c κs = search needs
 
@@ -41,7 +50,11 @@ loop-less : tie.Need-loop-less Inv-loop μ-loop
 loop-less c = search needs
 
 loop-again : tie.Need-loop-again Inv-loop μ-loop
-loop-again c = let s = c .before .before .before .before in let t = s .before .before .before .before .before .before in let w = t .before .before .loop .inv in let more = t .before .loop-test .taken in let read = t .probe-at .ensures in let kept = s .next-line .ensures in (counting-next _ _ _ _ _ _ _ _ (w .0) more _ read _ _ _ (kept .gathered), kept .drawing)
+loop-again c =
+    let s : tie.After-next-line Inv-loop μ-loop = search in
+    let t = probe-of s in
+    let w = loop-of (test-of t) .loop .inv in
+    (counting-next _ _ _ _ _ _ _ _ (w .0) (test-of t .loop-test .taken) _ (t .probe-at .ensures) _ _ _ (s .next-line .ensures .gathered), s .next-line .ensures .drawing)
 
 returns : tie.Need-returns Inv-loop μ-loop
 returns c = search (counting-ends, needs)

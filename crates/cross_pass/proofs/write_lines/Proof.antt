@@ -7,7 +7,10 @@ columns-of-requires : tie.Need-columns-of-requires
 columns-of-requires c κs = search needs
 
 write-over-requires : tie.Need-write-over-requires
-write-over-requires c κs = let p = c .before .before .before .before .before .before .before .before .before .before .before .before .before .before .before .before .before .pre in (p .0, (p .1 .0, (p .1 .1, c .before .before .before .before .before .before .before .columns-of .ensures)))
+write-over-requires c κs =
+    let f : tie.After-columns-of = search in
+    let s : tie.Start = search in
+    (s .pre .0, (s .pre .1 .0, (s .pre .1 .1, f .columns-of .ensures)))
 
 same-length : tie.Need-same-length
 same-length c = search needs

@@ -15,6 +15,18 @@ Inv-loop kinds numbers lines count sound lows highs halves rows₀ line-numbers�
 abbrev μ-loop : tie.MeasureT-loop
 μ-loop kinds numbers lines count sound lows highs halves rows₀ line-numbers₀ positions₀ shapes₀ left₀ lessers₀ greaters₀ bytes₀ keys₀ axes₀ at₀ k₀ rows line-numbers positions shapes left lessers greaters bytes keys axes at k = count - k
 
+abbrev probe-of : tie.After-next-line Inv-loop μ-loop → tie.After-probe-at Inv-loop μ-loop
+probe-of s = search
+
+abbrev line-of : tie.After-write-line Inv-loop μ-loop → tie.After-next-line Inv-loop μ-loop
+line-of p = search
+
+abbrev test-of : tie.After-probe-at Inv-loop μ-loop → tie.In-loop Inv-loop μ-loop
+test-of t = search
+
+abbrev loop-of : tie.In-loop Inv-loop μ-loop → tie.At-loop Inv-loop μ-loop
+loop-of t = search
+
 nothing-kept-requires : tie.Need-nothing-kept-requires Inv-loop μ-loop
 nothing-kept-requires c κs = search needs
 
@@ -46,13 +58,37 @@ slice-aggregate-write-line-2 : tie.Need-slice-aggregate-write-line-2 Inv-loop μ
 slice-aggregate-write-line-2 c = search needs
 
 write-line-requires : tie.Need-write-line-requires Inv-loop μ-loop
-write-line-requires c κs = let s = c .before .before .before .before .before .before .before .before .before .before in let t = s .before .before .before .before .before .before in let w = t .before .before .loop .inv in let more = t .before .loop-test .taken in let read = t .probe-at .ensures in let kept = s .next-line .ensures in (line-held _ _ _ _ _ _ _ _ _ _ _ _ _ _ _ _ (w .0) more _ read _ _ _ (kept .gathered), line-room _ _ _ _ _ _ _ _ _ _ _ _ _ _ _ _ (w .0) more _ read _ _ _ (kept .gathered))
+write-line-requires c κs =
+    let s : tie.After-next-line Inv-loop μ-loop = search in
+    let t = probe-of s in
+    let w = loop-of (test-of t) .loop .inv in
+    (line-held _ _ _ _ _ _ _ _ _ _ _ _ _ _ _ _ (w .0) (test-of t .loop-test .taken) _ (t .probe-at .ensures) _ _ _ (s .next-line .ensures .gathered), line-room _ _ _ _ _ _ _ _ _ _ _ _ _ _ _ _ (w .0) (test-of t .loop-test .taken) _ (t .probe-at .ensures) _ _ _ (s .next-line .ensures .gathered))
 
 loop-less : tie.Need-loop-less Inv-loop μ-loop
-loop-less c = let t = c .before .before .before .before .before .before .before .before .before .before .before .before .before .before .before .before .before .before .before .before .before .before .before .before .before in omega (arith, t .before .loop-test .taken)
+loop-less c =
+    let s : tie.After-next-line Inv-loop μ-loop = search in
+    omega (arith, test-of (probe-of s) .loop-test .taken)
 
 loop-again : tie.Need-loop-again Inv-loop μ-loop
-loop-again c = let s = c .before .before .before .before .before .before .before .before .before .before .before .before .before .before .before .before .before .before .before in let t = s .before .before .before .before .before .before in let w = t .before .before .loop .inv in let more = t .before .loop-test .taken in let read = t .probe-at .ensures in let kept = s .next-line .ensures in (writing-on _ _ _ _ _ _ _ _ _ _ _ _ _ _ _ _ (w .0) more _ read _ _ _ (kept .gathered) _ _ _ _ _ (c .before .before .before .before .before .before .before .before .write-line .ensures) (search (c .before .before .before .before .before .before .before .keys4 .given, c .before .before .before .before .before .before .before .before .before .before .before .before .before .before .before .before .before .before .before .before .keys .given, needs)) (search (c .before .before .before .before .before .before .rows .given, needs)) (search (c .before .before .before .before .line-numbers .given, needs)) (search (c .before .before .positions .given, needs)) (search (c .before .shapes .given, needs)), kept .drawing)
+loop-again c =
+    let S : tie.After-shapes Inv-loop μ-loop = search in
+    let P : tie.After-positions Inv-loop μ-loop = search in
+    let N : tie.After-line-numbers Inv-loop μ-loop = search in
+    let R : tie.After-rows Inv-loop μ-loop = search in
+    let K : tie.After-keys4 Inv-loop μ-loop = search in
+    let put : tie.After-write-line Inv-loop μ-loop = search in
+    let s = line-of put in
+    let lent : tie.After-keys Inv-loop μ-loop = search in
+    let t = probe-of s in
+    let w = loop-of (test-of t) .loop .inv in (
+      writing-on _ _ _ _ _ _ _ _ _ _ _ _ _ _ _ _ (w .0) (test-of t .loop-test .taken) _ (t .probe-at .ensures) _ _ _ (s .next-line .ensures .gathered) _ _ _ _ _ (put .write-line .ensures)
+          (search (K .keys4 .given, lent .keys .given, needs))
+          (search (R .rows .given, needs))
+          (search (N .line-numbers .given, needs))
+          (search (P .positions .given, needs))
+          (search (S .shapes .given, needs)),
+      s .next-line .ensures .drawing,
+    )
 
 same-length : tie.Need-same-length Inv-loop μ-loop
 same-length c = search needs

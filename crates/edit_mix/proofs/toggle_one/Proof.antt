@@ -1,6 +1,6 @@
 -- `edit_mix::toggle_one` meets its contract.
-use Rattle.edit_mix.proofs.MixLaws.{toggle-done}
 use borrow.Author.Needs.{needs}
+use Rattle.edit_mix.proofs.MixLaws.{shape-toggles, toggle-done}
 use Rattle.edit_mix.proofs.toggle_one.Statement.{statement}
 use Rattle.edit_mix.proofs.toggle_one.Tie as tie
 
@@ -14,25 +14,10 @@ wide-requires : tie.Need-wide-requires
 wide-requires c κs = search needs
 
 toggle-requires : tie.Need-toggle-requires
-toggle-requires c κs = search needs
-
-mul-counts : tie.Need-mul-counts
-mul-counts c = search needs
-
-slice-write-counts : tie.Need-slice-write-counts
-slice-write-counts c = search needs
+toggle-requires c κs = search shape-toggles
 
 root-requires : tie.Need-root-requires
 root-requires c κs = search needs
-
-slice-write-roots : tie.Need-slice-write-roots
-slice-write-roots c = search needs
-
-same-length : tie.Need-same-length
-same-length c = search needs
-
-same-length-2 : tie.Need-same-length-2
-same-length-2 c = search needs
 
 returns : tie.Need-returns
 returns c = search toggle-done
@@ -45,10 +30,5 @@ toggle-one-spec =
     shared-slice-read-wide
     wide-requires
     toggle-requires
-    mul-counts
-    slice-write-counts
     root-requires
-    slice-write-roots
-    same-length
-    same-length-2
     returns)

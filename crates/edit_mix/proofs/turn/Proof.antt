@@ -1,14 +1,35 @@
--- `edit_mix::turn` meets its contract.
-use Rattle.edit_mix.proofs.MixLaws.{turn-running, turn-toggle, turned-on}
+-- `edit_mix::turn` meets its contract: the edit whose moment has come acts, or else the next toggle.
 use borrow.Author.Needs.{needs}
+use Rattle.edit_mix.proofs.MixLaws.{edits-few, turn-readable, turn-edits, turn-operates, edit-room, turn-edited, turn-toggles, root-room, count-room, turn-toggled}
 use Rattle.edit_mix.proofs.turn.Statement.{statement}
 use Rattle.edit_mix.proofs.turn.Tie as tie
 
-act-requires : tie.Need-act-requires
-act-requires c κs = search turn-running
+sub-i : tie.Need-sub-i
+sub-i c = search edits-few
+
+next-edit-requires : tie.Need-next-edit-requires
+next-edit-requires c κs = search turn-readable
+
+enum-known-node : tie.Need-enum-known-node
+enum-known-node c = search needs
+
+edit-requires : tie.Need-edit-requires
+edit-requires c κs = (search turn-edits, search turn-operates)
+
+give-requires : tie.Need-give-requires
+give-requires c κs = search edit-room
+
+enum-told : tie.Need-enum-told
+enum-told c = search needs
 
 toggle-one-requires : tie.Need-toggle-one-requires
-toggle-one-requires c κs = search turn-toggle
+toggle-one-requires c κs = search turn-toggles
+
+give-requires-2 : tie.Need-give-requires-2
+give-requires-2 c κs = search count-room
+
+slice-write-roots : tie.Need-slice-write-roots
+slice-write-roots c = search root-room
 
 same-length : tie.Need-same-length
 same-length c = search needs
@@ -20,9 +41,26 @@ same-length-3 : tie.Need-same-length-3
 same-length-3 c = search needs
 
 returns : tie.Need-returns
-returns c = search turned-on
+returns c = search turn-edited
+
+returns-2 : tie.Need-returns-2
+returns-2 c = search turn-toggled
 
 pub turn-spec : {M : Type 1} → statement M
 turn-spec =
     tie.close
-    (tie.spec act-requires toggle-one-requires same-length same-length-2 same-length-3 returns)
+    (tie.spec
+    sub-i
+    next-edit-requires
+    enum-known-node
+    edit-requires
+    give-requires
+    enum-told
+    toggle-one-requires
+    give-requires-2
+    slice-write-roots
+    same-length
+    returns
+    same-length-2
+    same-length-3
+    returns-2)

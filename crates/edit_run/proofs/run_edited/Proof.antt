@@ -1,36 +1,77 @@
--- `edit_run::run_edited` meets its contract: the node of each position is found, and the run goes from there.
-use Rattle.edit_run.proofs.RunLaws.{room-formula, room-few, room-built, room-runnable, edited-runs}
+-- `edit_run::run_edited` meets its contract: places and tables are filled, and the loop keeps: of j turns k were edits.
+use Prim.Native.Nat.{_-_}
 use borrow.Author.Needs.{needs}
+use Rattle.edit_run.proofs.RunLaws.{Turning, room-formula, room-few, room-built, room-tree, turning-start, turn-left, turning-on, turning-room, turning-list, edited-runs}
 use Rattle.edit_run.proofs.run_edited.Statement.{statement}
 use Rattle.edit_run.proofs.run_edited.Tie as tie
 
-fill-places-requires : tie.Need-fill-places-requires
+abbrev Inv-loop : tie.InvT-loop
+Inv-loop formula n kinds₀ firsts seconds size toggles moments positions codes roots₀ counts₀ labels edit-counts₀ places rules current₀ links all j₀ k₀ kinds roots counts edit-counts current j k = Turning formula n kinds₀ firsts seconds size toggles moments positions codes roots₀ counts₀ labels edit-counts₀ places rules current₀ links all j k kinds current roots counts edit-counts
+
+abbrev μ-loop : tie.MeasureT-loop
+μ-loop formula n kinds₀ firsts seconds size toggles moments positions codes roots₀ counts₀ labels edit-counts₀ places rules current₀ links all j₀ k₀ kinds roots counts edit-counts current j k = all - j
+
+fill-places-requires : tie.Need-fill-places-requires Inv-loop μ-loop
 fill-places-requires c κs = ((search room-formula, search room-few), search room-built)
 
-run-placed-requires : tie.Need-run-placed-requires
-run-placed-requires c κs = search room-runnable
+fill-rules-requires : tie.Need-fill-rules-requires Inv-loop μ-loop
+fill-rules-requires c κs = search needs
 
-same-length : tie.Need-same-length
+fill-tables-requires : tie.Need-fill-tables-requires Inv-loop μ-loop
+fill-tables-requires c κs = (search needs, search room-tree)
+
+turns-requires : tie.Need-turns-requires Inv-loop μ-loop
+turns-requires c κs = search needs
+
+loop-holds : tie.Need-loop-holds Inv-loop μ-loop
+loop-holds c = search turning-start
+
+turn-requires : tie.Need-turn-requires Inv-loop μ-loop
+turn-requires c κs = (search needs, search turn-left)
+
+add-j : tie.Need-add-j Inv-loop μ-loop
+add-j c = search needs
+
+loop-less : tie.Need-loop-less Inv-loop μ-loop
+loop-less c = search needs
+
+loop-again : tie.Need-loop-again Inv-loop μ-loop
+loop-again c = search (turning-on, needs)
+
+copy-labels-requires : tie.Need-copy-labels-requires Inv-loop μ-loop
+copy-labels-requires c κs = (search turning-room, search turning-list)
+
+same-length : tie.Need-same-length Inv-loop μ-loop
 same-length c = search needs
 
-same-length-2 : tie.Need-same-length-2
+same-length-2 : tie.Need-same-length-2 Inv-loop μ-loop
 same-length-2 c = search needs
 
-same-length-3 : tie.Need-same-length-3
+same-length-3 : tie.Need-same-length-3 Inv-loop μ-loop
 same-length-3 c = search needs
 
-same-length-4 : tie.Need-same-length-4
+same-length-4 : tie.Need-same-length-4 Inv-loop μ-loop
 same-length-4 c = search needs
 
-returns : tie.Need-returns
+returns : tie.Need-returns Inv-loop μ-loop
 returns c = search edited-runs
 
 pub run-edited-spec : {M : Type 1} → statement M
 run-edited-spec =
     tie.close
     (tie.spec
+    Inv-loop
+    μ-loop
     fill-places-requires
-    run-placed-requires
+    fill-rules-requires
+    fill-tables-requires
+    turns-requires
+    loop-holds
+    turn-requires
+    add-j
+    loop-less
+    loop-again
+    copy-labels-requires
     same-length
     same-length-2
     same-length-3

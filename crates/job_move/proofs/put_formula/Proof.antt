@@ -1,5 +1,5 @@
 -- `job_move::put_formula` meets its contract.
-use Rattle.job_move.proofs.Putting.{put-few, put-laying, put-postfix, put-prefix}
+use Rattle.job_move.proofs.Putting.{put-few, put-postfix, put-prefix}
 use borrow.Author.Needs.{needs}
 use Rattle.job_move.proofs.put_formula.Statement.{statement}
 use Rattle.job_move.proofs.put_formula.Tie as tie
@@ -14,7 +14,7 @@ returns : tie.Need-returns
 returns c = search put-postfix
 
 lay-first-requires : tie.Need-lay-first-requires
-lay-first-requires c κs = search (put-laying, needs)
+lay-first-requires c κs = search (put-few, needs)
 
 put-codes-requires-2 : tie.Need-put-codes-requires-2
 put-codes-requires-2 c κs = search (put-few, needs)

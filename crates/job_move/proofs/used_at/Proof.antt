@@ -7,8 +7,8 @@ use Rattle.job_move.proofs.used_at.Tie as tie
 shared-slice-read-if1 : tie.Need-shared-slice-read-if1
 shared-slice-read-if1 c = search needs
 
-first-exclusive-requires : tie.Need-first-exclusive-requires
-first-exclusive-requires c κs = search needs
+before-exclusive-requires : tie.Need-before-exclusive-requires
+before-exclusive-requires c κs = search needs
 
 sub-result : tie.Need-sub-result
 sub-result c = search used-few
@@ -30,7 +30,7 @@ used-at-spec =
     tie.close
     (tie.spec
     shared-slice-read-if1
-    first-exclusive-requires
+    before-exclusive-requires
     sub-result
     mul-result
     sub-result-2

@@ -1,18 +1,18 @@
 -- `labels::fill_parents` meets its contract. The loop keeps: the parents among the nodes from j on are filled.
 use Prim.Native.Nat.{_-_}
 use borrow.Author.Needs.{needs}
-use Rattle.labels.proofs.Fills.{ParentsFrom, parents-start, parents-more, parents-end}
+use Rattle.labels.proofs.Fills.{ParentsFrom, parents-start, parents-more, parents-end, parents-kept}
 use Rattle.labels.proofs.fill_parents.Statement.{statement}
 use Rattle.labels.proofs.fill_parents.Tie as tie
 
 abbrev Inv-loop : tie.InvT-loop
-Inv-loop kinds firsts seconds nodes parents₀ j₀ parents j = ParentsFrom kinds firsts seconds nodes j parents
+Inv-loop kinds firsts seconds leaves nodes links₀ j₀ links j = ParentsFrom kinds firsts seconds nodes j links₀ links
 
 abbrev μ-loop : tie.MeasureT-loop
-μ-loop kinds firsts seconds nodes parents₀ j₀ parents j = j
+μ-loop kinds firsts seconds leaves nodes links₀ j₀ links j = j
 
 loop-holds : tie.Need-loop-holds Inv-loop μ-loop
-loop-holds c = parents-start _
+loop-holds c = search parents-start
 
 sub-j : tie.Need-sub-j Inv-loop μ-loop
 sub-j c = search needs
@@ -48,7 +48,7 @@ loop-again : tie.Need-loop-again Inv-loop μ-loop
 loop-again c = search parents-more
 
 returns : tie.Need-returns Inv-loop μ-loop
-returns c = search parents-end
+returns c = (search parents-end, search parents-kept)
 
 pub fill-parents-spec : {M : Type 1} → statement M
 fill-parents-spec =

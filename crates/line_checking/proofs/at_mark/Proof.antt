@@ -5,7 +5,6 @@ use Rattle.line_checking.proofs.at_mark.Statement.{statement}
 use Rattle.line_checking.proofs.at_mark.Tie as tie
 use Rattle.line_checking.proofs.at_mark.Reads as reads
 use Rattle.line_checking.proofs.at_mark.Lts as lts
-use Rattle.line_checking.proofs.not_beyond.Reads as not-beyond-reads
 
 not-beyond-requires : tie.Need-not-beyond-requires
 not-beyond-requires c κs = search needs

@@ -2,7 +2,7 @@
 use borrow.Author.Needs.{needs}
 use Prim.Native.Nat.{_-_}
 use lib.ListN.{length}
-use Rattle.line_checking.proofs.GreatestLaws.{Sought, sought-none, sought-more, sought-all}
+use Rattle.line_lists.proofs.GreatestLaws.{Sought, sought-none, sought-more, sought-all}
 use Rattle.line_checking.proofs.greatest_shape.Statement.{statement}
 use Rattle.line_checking.proofs.greatest_shape.Tie as tie
 

@@ -1,5 +1,5 @@
 -- Word by word.
-use Rattle.line_strips.specs.Strips.{planned, columns}
+use Rattle.line_lists.specs.Block.{planned, columns}
 use Rattle.line_columns.proofs.PlanLaws.{Words, words-none, words-next, words-more, words-full, words-over}
 use Prim.Native.Nat.{_-_}
 use borrow.Author.Needs.{needs}

@@ -3,24 +3,21 @@ use lib.ListN.{length}
 use Rattle.lines.specs.Lines.{lineLists, answerLists}
 use Rattle.line_blocks.specs.Blocks.{leftOf}
 use Rattle.line_blocks.proofs.PassLaws.{pass-whole, pass-said}
-use Rattle.line_judging.specs.Judging.{theirLists}
+use Rattle.line_opinion.specs.Judging.{theirLists}
 use Rattle.line_judge.proofs.JudgeLaws.{Looping, looping-start, looping-sized, looping-ask, looping-ours, looping-less, looping-long, looping-more, looping-wrong, looping-over, looping-right}
 use borrow.Author.Needs.{needs}
 use Rattle.line_judge.proofs.blocks.Statement.{statement}
 use Rattle.line_judge.proofs.blocks.Tie as tie
 
 abbrev Inv-loop : tie.InvT-loop
-Inv-loop stretches links arranged names air words₀ rows line at shape tl ts te count cols₀ starts₀ lasts₀ events₀ wl₀ ws₀ we₀ wf₀ wt₀ p₀ next₀ words cols starts lasts events wl ws we wf wt p next =
-    Looping stretches links arranged names (lineLists rows line at shape) (theirLists tl ts te) count words₀ words cols starts lasts events p next (answerLists wl ws we wf wt)
+Inv-loop stretches links call words₀ rows line at shape tl ts te cols₀ starts₀ lasts₀ events₀ wl₀ ws₀ we₀ wf₀ wt₀ p₀ next₀ words cols starts lasts events wl ws we wf wt p next =
+    Looping stretches links (call .arranged) (call .names) (lineLists rows line at shape) (theirLists tl ts te) (call .count) words₀ words cols starts lasts events p next (answerLists wl ws we wf wt)
 
 abbrev μ-loop : tie.MeasureT-loop
-μ-loop stretches links arranged names air words₀ rows line at shape tl ts te count cols₀ starts₀ lasts₀ events₀ wl₀ ws₀ we₀ wf₀ wt₀ p₀ next₀ words cols starts lasts events wl ws we wf wt p next = length (leftOf names (lineLists rows line at shape) (p .pass))
-
-div-count : tie.Need-div-count Inv-loop μ-loop
-div-count c = search needs
+μ-loop stretches links call words₀ rows line at shape tl ts te cols₀ starts₀ lasts₀ events₀ wl₀ ws₀ we₀ wf₀ wt₀ p₀ next₀ words cols starts lasts events wl ws we wf wt p next = length (leftOf (call .names) (lineLists rows line at shape) (p .pass))
 
 begin-requires : tie.Need-begin-requires Inv-loop μ-loop
-begin-requires c κs = (search pass-whole, search pass-said)
+begin-requires c κs = (search (pass-whole, needs), search pass-said)
 
 loop-holds : tie.Need-loop-holds Inv-loop μ-loop
 loop-holds c = search looping-start
@@ -46,8 +43,30 @@ slice-aggregate-step-4 c = search needs
 slice-aggregate-step-5 : tie.Need-slice-aggregate-step-5 Inv-loop μ-loop
 slice-aggregate-step-5 c = search needs
 
+abbrev step-of : tie.After-eat-all Inv-loop μ-loop → tie.After-step Inv-loop μ-loop
+step-of e = search
+
+abbrev afresh-of : tie.After-step Inv-loop μ-loop → tie.After-afresh Inv-loop μ-loop
+afresh-of s = search
+
+abbrev turn-of : tie.After-afresh Inv-loop μ-loop → tie.Then1 Inv-loop μ-loop
+turn-of a = search
+
+abbrev left-of : tie.Then1 Inv-loop μ-loop → tie.After-is-left Inv-loop μ-loop
+left-of t = search
+
+abbrev loop-of : tie.After-is-left Inv-loop μ-loop → tie.At-loop Inv-loop μ-loop
+loop-of i = search
+
+abbrev kept-of : tie.After-afresh Inv-loop μ-loop → tie.At-loop Inv-loop μ-loop
+kept-of a = loop-of (left-of (turn-of a))
+
 step-requires : tie.Need-step-requires Inv-loop μ-loop
-step-requires c κs = let a = c .before .before .before .before .before .before .before .before .before .before in (looping-ask (a .before .before .before .loop .inv) (a .before .before .is-left .ensures) (a .afresh .ensures) (a .before .if1 .taken), search looping-sized, search needs)
+step-requires c κs =
+    let a : tie.After-afresh Inv-loop μ-loop = search in
+    let t = turn-of a in
+    let i = left-of t in
+    (looping-ask (loop-of i .loop .inv) (i .is-left .ensures) (a .afresh .ensures) (t .if1 .taken), search looping-sized, search needs)
 
 slice-aggregate-eat-all : tie.Need-slice-aggregate-eat-all Inv-loop μ-loop
 slice-aggregate-eat-all c = search needs
@@ -59,25 +78,51 @@ slice-aggregate-eat-all-3 : tie.Need-slice-aggregate-eat-all-3 Inv-loop μ-loop
 slice-aggregate-eat-all-3 c = search needs
 
 eat-all-requires : tie.Need-eat-all-requires Inv-loop μ-loop
-eat-all-requires c κs = let s = c .before .before .before .before .before .before .before .before .before .before .before in let a = s .before .before .before .before .before .before .before .before .before .before .before in let l = a .before .before .before .loop .inv in (l .same, looping-ours l (a .afresh .ensures) (s .step .ensures))
+eat-all-requires c κs =
+    let s : tie.After-step Inv-loop μ-loop = search in
+    let a = afresh-of s in
+    let l = kept-of a in
+    (l .loop .inv .same, looping-ours (l .loop .inv) (a .afresh .ensures) (s .step .ensures))
 
 enum-known-eaten : tie.Need-enum-known-eaten Inv-loop μ-loop
 enum-known-eaten c = search needs
 
 loop-less : tie.Need-loop-less Inv-loop μ-loop
-loop-less c = let s = c .before .before .before .before .before .before .before .before .before .before .before .before .before .before .before in let a = s .before .before .before .before .before .before .before .before .before .before .before in let l = a .before .before .before .loop .inv in looping-less l (a .afresh .ensures) (s .step .ensures)
+loop-less c =
+    let e : tie.After-eat-all Inv-loop μ-loop = search in
+    let s = step-of e in
+    let a = afresh-of s in
+    let l = kept-of a in
+    looping-less (l .loop .inv) (a .afresh .ensures) (s .step .ensures)
 
 loop-again : tie.Need-loop-again Inv-loop μ-loop
-loop-again c = let s = c .before .before .before .before .before .before .before .before .before .before .before .before .before .before .before in let a = s .before .before .before .before .before .before .before .before .before .before .before in let l = a .before .before .before .loop .inv in looping-more l (a .afresh .ensures) (s .step .ensures) (c .before .before .before .eat-all .ensures) (c .before .eaten .given .1)
+loop-again c =
+    let w : tie.After-eaten Inv-loop μ-loop = search in
+    let e : tie.After-eat-all Inv-loop μ-loop = search in
+    let s = step-of e in
+    let a = afresh-of s in
+    let l = kept-of a in
+    looping-more (l .loop .inv) (a .afresh .ensures) (s .step .ensures) (e .eat-all .ensures) (w .eaten .given .1)
 
 enum-known-eaten-2 : tie.Need-enum-known-eaten-2 Inv-loop μ-loop
 enum-known-eaten-2 c = search needs
 
 same-length : tie.Need-same-length Inv-loop μ-loop
-same-length c = let s = c .before .before .before .before .before .before .before .before .before .before .before .before .before .before .before in let a = s .before .before .before .before .before .before .before .before .before .before .before in let l = a .before .before .before .loop .inv in looping-long l (a .afresh .ensures) (s .step .ensures)
+same-length c =
+    let e : tie.After-eat-all Inv-loop μ-loop = search in
+    let s = step-of e in
+    let a = afresh-of s in
+    let l = kept-of a in
+    looping-long (l .loop .inv) (a .afresh .ensures) (s .step .ensures)
 
 returns : tie.Need-returns Inv-loop μ-loop
-returns c = let s = c .before .before .before .before .before .before .before .before .before .before .before .before .before .before .before in let a = s .before .before .before .before .before .before .before .before .before .before .before in let l = a .before .before .before .loop .inv in looping-wrong l (a .afresh .ensures) (s .step .ensures) (c .before .before .before .eat-all .ensures) (c .before .eaten2 .given .1)
+returns c =
+    let w : tie.After-eaten2 Inv-loop μ-loop = search in
+    let e : tie.After-eat-all Inv-loop μ-loop = search in
+    let s = step-of e in
+    let a = afresh-of s in
+    let l = kept-of a in
+    looping-wrong (l .loop .inv) (a .afresh .ensures) (s .step .ensures) (e .eat-all .ensures) (w .eaten2 .given .1)
 
 same-length-2 : tie.Need-same-length-2 Inv-loop μ-loop
 same-length-2 c = search needs
@@ -97,7 +142,6 @@ blocks-spec =
     (tie.spec
     Inv-loop
     μ-loop
-    div-count
     begin-requires
     loop-holds
     is-left-requires

@@ -8,6 +8,9 @@ use Rattle.line_judge.proofs.opine.Tie as tie
 arrange-requires : tie.Need-arrange-requires
 arrange-requires c κs = search needs
 
+div-count : tie.Need-div-count
+div-count c = search needs
+
 slice-aggregate-blocks : tie.Need-slice-aggregate-blocks
 slice-aggregate-blocks c = search needs
 
@@ -15,7 +18,7 @@ slice-aggregate-blocks-2 : tie.Need-slice-aggregate-blocks-2
 slice-aggregate-blocks-2 c = search needs
 
 blocks-requires : tie.Need-blocks-requires
-blocks-requires c κs = (search few-rows, search needs)
+blocks-requires c κs = (search few-rows, search needs, search needs)
 
 returns : tie.Need-returns
 returns c = search opinion-given
@@ -27,7 +30,7 @@ slice-aggregate-blocks-4 : tie.Need-slice-aggregate-blocks-4
 slice-aggregate-blocks-4 c = search needs
 
 blocks-requires-2 : tie.Need-blocks-requires-2
-blocks-requires-2 c κs = (search all-rows, search needs)
+blocks-requires-2 c κs = (search all-rows, search needs, search needs)
 
 returns-2 : tie.Need-returns-2
 returns-2 c = search opinion-given
@@ -37,6 +40,7 @@ opine-spec =
     tie.close
     (tie.spec
     arrange-requires
+    div-count
     slice-aggregate-blocks
     slice-aggregate-blocks-2
     blocks-requires

@@ -1,7 +1,7 @@
 -- Word by word.
 use Rattle.line_runs.proofs.EndLaws.{MarkedTo, run-none, run-word, run-more, run-all}
 use Prim.Native.Nat.{_-_}
-use Rattle.line_strips.specs.Strips.{wide}
+use Rattle.line_lists.specs.Block.{wide}
 use borrow.Author.Needs.{needs}
 use Rattle.line_runs.proofs.mark_run.Statement.{statement}
 use Rattle.line_runs.proofs.mark_run.Tie as tie

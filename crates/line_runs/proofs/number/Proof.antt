@@ -1,7 +1,7 @@
 -- Number by number.
 use borrow.Author.Needs.{needs}
 use Prim.Native.Nat.{_-_}
-use Rattle.line_strips.specs.Strips.{columns}
+use Rattle.line_lists.specs.Block.{columns}
 use Rattle.line_runs.specs.Runs.{Numbered}
 use Rattle.line_runs.proofs.EndLaws.{numbered-none, numbered-more, numbered-all}
 use Rattle.line_runs.proofs.number.Statement.{statement}

@@ -1,7 +1,7 @@
 -- `line_strips::clear` meets its contract.
 use borrow.Author.Needs.{needs}
 use Prim.Native.Nat.{_-_, _*_}
-use Rattle.line_strips.specs.Strips.{wide}
+use Rattle.line_lists.specs.Block.{wide}
 use Rattle.line_strips.proofs.Opens.{Cleared, cleared-none, cleared-more, cleared-fits, cleared-blank}
 use Rattle.line_strips.proofs.clear.Statement.{statement}
 use Rattle.line_strips.proofs.clear.Tie as tie

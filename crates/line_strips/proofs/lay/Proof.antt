@@ -1,7 +1,7 @@
 -- `line_strips::lay` meets its contract.
 use borrow.Author.Needs.{needs}
 use Prim.Native.Nat.{_-_}
-use Rattle.line_strips.specs.Strips.{cell}
+use Rattle.line_lists.specs.Block.{cell}
 use Rattle.line_strips.specs.Filling.{turnsOf}
 use Rattle.line_strips.proofs.Lays.{Word, word-none, word-more, word-end, alone-named, alone-lays}
 use Rattle.line_strips.proofs.lay.Statement.{statement}

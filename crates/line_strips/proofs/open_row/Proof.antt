@@ -1,7 +1,7 @@
 -- `line_strips::open_row` meets its contract.
 use borrow.Author.Needs.{needs}
 use Prim.Native.Nat.{_-_}
-use Rattle.line_strips.specs.Strips.{wide}
+use Rattle.line_lists.specs.Block.{wide}
 use Rattle.line_strips.proofs.Opens.{RowTo, row-none, row-more, row-fits, row-second, row-end}
 use Rattle.line_strips.proofs.open_row.Statement.{statement}
 use Rattle.line_strips.proofs.open_row.Tie as tie

@@ -14,7 +14,10 @@ add-result : tie.Need-add-result
 add-result c = search needs
 
 returns : tie.Need-returns
-returns c = next-noisy _ _ _ _ _ _ (c .before .differing .ensures) (c .zeros .ensures .0) (c .zeros .ensures .1) (c .before .before .pre)
+returns c =
+    let d : tie.After-differing = search in
+    let s : tie.Start = search in
+    next-noisy _ _ _ _ _ _ (d .differing .ensures) (c .zeros .ensures .0) (c .zeros .ensures .1) (s .pre)
 
 pub next-noisy-spec : {M : Type 1} → statement M
 next-noisy-spec = tie.close (tie.spec differing-requires zeros-requires add-result returns)

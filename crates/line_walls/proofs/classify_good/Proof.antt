@@ -23,7 +23,10 @@ enum-told : tie.Need-enum-told
 enum-told c = search needs
 
 write-requires : tie.Need-write-requires
-write-requires c κs = (search needs, search needs, room-there _ (c .before .before .before .before .before .before .before .room .ensures) (c .before .before .before .before .before .enum-told .given .1))
+write-requires c κs =
+    let r : tie.After-room = search in
+    let e : tie.After-enum-told = search in
+    (search needs, search needs, room-there _ (r .room .ensures) (e .enum-told .given .1))
 
 same-length : tie.Need-same-length
 same-length c = search needs

@@ -7,8 +7,8 @@ use Rattle.marks.proofs.lowest.Tie as tie
 mul-result : tie.Need-mul-result
 mul-result c = search needs
 
-lowest-digit-requires : tie.Need-lowest-digit-requires
-lowest-digit-requires c κs = search needs
+lowest-requires : tie.Need-lowest-requires
+lowest-requires c κs = search needs
 
 add-result : tie.Need-add-result
 add-result c = search needs
@@ -17,4 +17,4 @@ returns : tie.Need-returns
 returns c = search lowest-is
 
 pub lowest-spec : {M : Type 1} → statement M
-lowest-spec = tie.close (tie.spec mul-result lowest-digit-requires add-result returns)
+lowest-spec = tie.close (tie.spec mul-result lowest-requires add-result returns)

@@ -10,8 +10,8 @@ returns c = search opened-here
 returns-2 : tie.Need-returns-2
 returns-2 c = search opened-none
 
-lowest-digit-requires : tie.Need-lowest-digit-requires
-lowest-digit-requires c κs = search needs
+lowest-requires : tie.Need-lowest-requires
+lowest-requires c κs = search needs
 
 mul-x : tie.Need-mul-x
 mul-x c = search needs
@@ -37,7 +37,7 @@ next-spec =
     (tie.spec
     returns
     returns-2
-    lowest-digit-requires
+    lowest-requires
     mul-x
     slice-read-x
     mul-s

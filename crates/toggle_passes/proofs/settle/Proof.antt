@@ -8,10 +8,10 @@ use Rattle.toggle_passes.proofs.settle.Statement.{statement}
 use Rattle.toggle_passes.proofs.settle.Tie as tie
 
 abbrev Inv-loop : tie.InvT-loop
-Inv-loop rules kinds firsts seconds leaves nodes parents labels₀ words₀ m₀ count₀ labels words m count = Settling kinds firsts seconds leaves nodes parents labels₀ (all words₀ m₀) labels words m count
+Inv-loop rules kinds firsts seconds size links labels₀ words₀ m₀ count₀ labels words m count = Settling kinds firsts seconds (size .leaves) (size .nodes) links labels₀ (all words₀ m₀) labels words m count
 
 abbrev μ-loop : tie.MeasureT-loop
-μ-loop rules kinds firsts seconds leaves nodes parents labels₀ words₀ m₀ count₀ labels words m count = 3072 - count
+μ-loop rules kinds firsts seconds size links labels₀ words₀ m₀ count₀ labels words m count = 3072 - count
 
 next-requires : tie.Need-next-requires Inv-loop μ-loop
 next-requires c κs = search needs

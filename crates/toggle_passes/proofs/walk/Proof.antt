@@ -7,10 +7,10 @@ use Rattle.toggle_passes.proofs.walk.Statement.{statement}
 use Rattle.toggle_passes.proofs.walk.Tie as tie
 
 abbrev Inv-loop : tie.InvT-loop
-Inv-loop rules kinds firsts seconds leaves nodes parents labels₀ node p₀ count₀ labels p count = Walking kinds firsts seconds leaves nodes parents node labels₀ p labels count
+Inv-loop rules kinds firsts seconds size links labels₀ node p₀ count₀ labels p count = Walking kinds firsts seconds (size .leaves) (size .nodes) links node labels₀ p labels count
 
 abbrev μ-loop : tie.MeasureT-loop
-μ-loop rules kinds firsts seconds leaves nodes parents labels₀ node p₀ count₀ labels p count = nodes - p
+μ-loop rules kinds firsts seconds size links labels₀ node p₀ count₀ labels p count = size .nodes - p
 
 mul-wide : tie.Need-mul-wide Inv-loop μ-loop
 mul-wide c = search needs
@@ -30,8 +30,8 @@ work-requires c κs = search needs
 add-worked : tie.Need-add-worked Inv-loop μ-loop
 add-worked c = search needs
 
-element-copy-out-if1 : tie.Need-element-copy-out-if1 Inv-loop μ-loop
-element-copy-out-if1 c = search needs
+element-copy-out-if2 : tie.Need-element-copy-out-if2 Inv-loop μ-loop
+element-copy-out-if2 c = search needs
 
 returns : tie.Need-returns Inv-loop μ-loop
 returns c = ((search needs, search (few-stopped, few-walked)), search walking-stop)
@@ -69,7 +69,7 @@ walk-spec =
     loop-holds
     work-requires
     add-worked
-    element-copy-out-if1
+    element-copy-out-if2
     returns
     element-write-labels
     mul-wide-2

@@ -4,6 +4,9 @@ use Rattle.toggle_run.proofs.RanLaws.{run-list, ran}
 use Rattle.toggle_run.proofs.run_tree.Statement.{statement}
 use Rattle.toggle_run.proofs.run_tree.Tie as tie
 
+fill-rules-requires : tie.Need-fill-rules-requires
+fill-rules-requires c κs = search needs
+
 fill-tables-requires : tie.Need-fill-tables-requires
 fill-tables-requires c κs = search needs
 
@@ -30,6 +33,7 @@ pub run-tree-spec : {M : Type 1} → statement M
 run-tree-spec =
     tie.close
     (tie.spec
+    fill-rules-requires
     fill-tables-requires
     toggle-each-requires
     copy-labels-requires

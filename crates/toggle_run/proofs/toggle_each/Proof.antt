@@ -9,10 +9,10 @@ use Rattle.toggle_run.proofs.toggle_each.Statement.{statement}
 use Rattle.toggle_run.proofs.toggle_each.Tie as tie
 
 abbrev Inv-loop : tie.InvT-loop
-Inv-loop rules kinds firsts seconds leaves nodes parents heads nexts labels₀ toggles roots₀ counts₀ i₀ labels roots counts i = Running (recs kinds firsts seconds 0 nodes) (take nodes labels₀) toggles roots₀ counts₀ i (take nodes labels) roots counts × (length labels ≡ 3072)
+Inv-loop rules kinds firsts seconds size links labels₀ toggles roots₀ counts₀ i₀ labels roots counts i = Running (recs kinds firsts seconds 0 (size .nodes)) (take (size .nodes) labels₀) toggles roots₀ counts₀ i (take (size .nodes) labels) roots counts × (length labels ≡ 3072)
 
 abbrev μ-loop : tie.MeasureT-loop
-μ-loop rules kinds firsts seconds leaves nodes parents heads nexts labels₀ toggles roots₀ counts₀ i₀ labels roots counts i = length toggles - i
+μ-loop rules kinds firsts seconds size links labels₀ toggles roots₀ counts₀ i₀ labels roots counts i = length toggles - i
 
 loop-holds : tie.Need-loop-holds Inv-loop μ-loop
 loop-holds c = (running-start _ _ _ _ _, search needs)

@@ -8,10 +8,13 @@ use Rattle.toggles.proofs.flip_leaves.Statement.{statement}
 use Rattle.toggles.proofs.flip_leaves.Tie as tie
 
 abbrev Inv-loop : tie.InvT-loop
-Inv-loop kinds firsts seconds leaves nodes parents heads nexts labels₀ words₀ s a₀ m₀ labels words a m = Flipping kinds firsts seconds leaves nodes parents heads nexts s labels₀ a labels words m
+Inv-loop kinds firsts seconds size links labels₀ words₀ s a₀ m₀ labels words a m = Flipping kinds firsts seconds (size .leaves) (size .nodes) links s labels₀ a labels words m
 
 abbrev μ-loop : tie.MeasureT-loop
-μ-loop kinds firsts seconds leaves nodes parents heads nexts labels₀ words₀ s a₀ m₀ labels words a m = leaves - a
+μ-loop kinds firsts seconds size links labels₀ words₀ s a₀ m₀ labels words a m = size .leaves - a
+
+add-wide : tie.Need-add-wide Inv-loop μ-loop
+add-wide c = search needs
 
 mul-wide : tie.Need-mul-wide Inv-loop μ-loop
 mul-wide c = search needs
@@ -46,6 +49,9 @@ wide-requires-2 c κs = search needs
 mark-node-requires : tie.Need-mark-node-requires Inv-loop μ-loop
 mark-node-requires c κs = search needs
 
+add-wide-2 : tie.Need-add-wide-2 Inv-loop μ-loop
+add-wide-2 c = search needs
+
 mul-wide-3 : tie.Need-mul-wide-3 Inv-loop μ-loop
 mul-wide-3 c = search needs
 
@@ -70,6 +76,7 @@ flip-leaves-spec =
     (tie.spec
     Inv-loop
     μ-loop
+    add-wide
     mul-wide
     element-copy-out-wide
     wide-requires
@@ -81,6 +88,7 @@ flip-leaves-spec =
     element-copy-out-wide-2
     wide-requires-2
     mark-node-requires
+    add-wide-2
     mul-wide-3
     element-copy-out-wide-3
     wide-requires-3

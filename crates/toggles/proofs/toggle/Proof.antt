@@ -4,6 +4,9 @@ use Rattle.toggles.proofs.Flipping.{leaf-inside, toggle-none, toggle-on
 use Rattle.toggles.proofs.toggle.Statement.{statement}
 use Rattle.toggles.proofs.toggle.Tie as tie
 
+add-wide : tie.Need-add-wide
+add-wide c = search needs
+
 mul-wide : tie.Need-mul-wide
 mul-wide c = search needs
 
@@ -15,6 +18,9 @@ wide-requires c κs = search needs
 
 returns : tie.Need-returns
 returns c = (search needs, search toggle-none)
+
+add-wide-2 : tie.Need-add-wide-2
+add-wide-2 c = search needs
 
 mul-wide-2 : tie.Need-mul-wide-2
 mul-wide-2 c = search needs
@@ -50,10 +56,12 @@ pub toggle-spec : {M : Type 1} → statement M
 toggle-spec =
     tie.close
     (tie.spec
+    add-wide
     mul-wide
     element-copy-out-wide
     wide-requires
     returns
+    add-wide-2
     mul-wide-2
     element-copy-out-wide-2
     wide-requires-2

@@ -1,2 +1,0 @@
-pub mod GroupLaws
-mod TallyLaws

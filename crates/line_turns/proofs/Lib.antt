@@ -1,2 +1,0 @@
-mod SpotLaws
-pub mod TurnLaws
