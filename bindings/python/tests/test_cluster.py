@@ -11,7 +11,8 @@ import pytest
 from dask import array as da
 from dask import bag as db
 from dask import delayed
-from distributed import Client, LocalCluster
+from distributed import Client, Event, LocalCluster
+from distributed.diagnostics.plugin import SchedulerPlugin
 
 import kressedach
 import kressedach.dask
@@ -128,8 +129,10 @@ def test_memory_is_bounded_by_the_partition(client, sheet, whole):
     assert max(grown) < 6 * partition < everything / 3, (grown, partition)
 
 
-def slowly(first, past):
-    time.sleep(0.2)
+def held_back(first, past):
+    """Of the second half no partition is made before a worker is lost, however slow the machine is."""
+    if first >= LINES // 2:
+        Event("lost").wait()
     return crossed(first, past)
 
 
@@ -143,10 +146,10 @@ def until(so, seconds=60):
 
 def test_a_worker_killed_in_the_middle(client, sheet, whole):
     workers = client.run(os.getpid)
-    running = client.compute(kressedach.dask.walls(sheet, delayed_lists(slowly)))
+    running = client.compute(kressedach.dask.walls(sheet, delayed_lists(held_back)))
     until(lambda: all(client.has_what().values()))
-    assert not running.done()
     os.kill(next(iter(workers.values())), signal.SIGKILL)
+    Event("lost").set()
     assert running.result(timeout=120).tobytes() == whole.tobytes()
     client.wait_for_workers(2, timeout=60)
     assert set(client.run(os.getpid).values()) != set(workers.values())
@@ -173,17 +176,29 @@ def test_a_refused_partition_has_its_place_and_line_in_the_whole(client, sheet):
         assert (refused.line, refused.partition) == (lists.lines[place], 7)
 
 
+class Graphs(SchedulerPlugin):
+    """How many graphs have reached the scheduler. Tasks come and go with those who hold them; a graph that came stays counted."""
+
+    name = "graphs"
+
+    def __init__(self):
+        self.count = 0
+
+    def update_graph(self, scheduler, **said):
+        self.count += 1
+
+
 def test_a_refused_sheet_is_refused_before_anything_is_sent(client):
-    """No task reaches the scheduler."""
+    def graphs():
+        return client.run_on_scheduler(lambda dask_scheduler: dask_scheduler.plugins["graphs"].count)
 
-    def tasks():
-        return client.run_on_scheduler(lambda dask_scheduler: len(dask_scheduler.tasks))
-
-    until(lambda: tasks() == 0)
+    client.register_scheduler_plugin(Graphs())
     with pytest.raises(Refused) as refused:
         kressedach.dask.walls(kressedach.Sheet(b"\1\0\2\0\1\2\0\1A\3\0\2\0\1"), delayed_lists()).compute()
     assert (refused.value.number, refused.value.place) == (7, 12)
-    assert tasks() == 0
+    assert graphs() == 0
+    delayed(crossed)(0, 1).compute()
+    assert graphs() == 1
 
 
 def test_other_threads_of_a_worker_run(client, sheet):

@@ -255,7 +255,7 @@ fn call(job: usize, fitted: bool, fittings: &[u8], sheet: &[u8], g: Lists) {
 }
 
 fn good(c: Case) -> bool {
-    let m = c.marks;
+    let m = c.reached;
     let s = c.sheet;
     let g = c.lists;
     let n = g.lengths;
@@ -264,7 +264,7 @@ fn good(c: Case) -> bool {
 
 pub fn answer(c: Case) {
     if good(c) {
-        let m = c.marks;
+        let m = c.reached;
         let s = closed(c.sheet);
         let bytes = s.bytes;
         let all = part_u8(&bytes, s.length);

@@ -1,5 +1,5 @@
 // What is printed of an answer.
-use cross_marks::mark_of;
+use cross_ranks::rank_of;
 
 pub fn say(words: &[u8]) {
     io::write_all(1, words);
@@ -23,7 +23,7 @@ fn next_u32(n: u32) {
 }
 
 fn next_i32(z: i32) {
-    let m = mark_of(z);
+    let m = rank_of(z);
     if m < 2147483648 {
         say(b" -");
         io::print_decimal(1, (2147483648 - m) as u64);

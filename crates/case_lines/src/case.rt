@@ -9,11 +9,11 @@ use check::same;
 // The parts of a line; below them are the lists.
 pub const NAME: usize = 16;
 
-pub const JOB: usize = 17;
+const JOB: usize = 17;
 
-pub const SHEET: usize = 18;
+const SHEET: usize = 18;
 
-pub const HEADING: usize = 19;
+const HEADING: usize = 19;
 
 // The jobs.
 pub const READ: usize = 1;
@@ -24,7 +24,7 @@ pub const RUN: usize = 3;
 
 pub const CLASSIFY: usize = 4;
 
-pub struct Marks {
+pub struct Reached {
     // Where the line begins, where its name and the colon end, and where the word begins.
     pub line: usize,
     pub colon: usize,
@@ -39,7 +39,7 @@ pub struct Marks {
 }
 
 pub struct Case {
-    pub marks: Marks,
+    pub reached: Reached,
     pub sheet: Draft,
     pub lists: Lists,
 }
@@ -47,7 +47,7 @@ pub struct Case {
 // No case yet, on the line that begins at i.
 pub fn fresh(i: usize) -> Case {
     Case {
-        marks: Marks {
+        reached: Reached {
             line: i,
             colon: i,
             word: i,
@@ -78,7 +78,7 @@ fn job(w: &[u8]) -> usize {
     0
 }
 
-fn headed(m: Marks, list: usize) -> Marks {
+fn headed(m: Reached, list: usize) -> Reached {
     let mut t = m;
     let given = t.given;
     t.part = list;
@@ -91,7 +91,7 @@ fn headed(m: Marks, list: usize) -> Marks {
 }
 
 // A star, which only a piece of a sheet may follow.
-fn often(m: Marks, n: u64, past: usize) -> Marks {
+fn often(m: Reached, n: u64, past: usize) -> Reached {
     let mut t = m;
     t.word = past;
     if t.part == SHEET && t.times == 0 && 0 < n && n < 65536 {
@@ -102,8 +102,8 @@ fn often(m: Marks, n: u64, past: usize) -> Marks {
     t
 }
 
-// The marks after a word that is not empty.
-fn word(m: Marks, w: &[u8]) -> Marks {
+// What is reached after a word that is not empty.
+fn word(m: Reached, w: &[u8]) -> Reached {
     let part = m.part;
     let mut t = m;
     t.times = 0;
@@ -118,8 +118,8 @@ fn word(m: Marks, w: &[u8]) -> Marks {
     }
 }
 
-// The marks after the sign that ends a word.
-fn sign(m: Marks, byte: u8, past: usize) -> Marks {
+// What is reached after the sign that ends a word.
+fn sign(m: Reached, byte: u8, past: usize) -> Reached {
     let mut t = m;
     t.word = past;
     if 0 < t.times && byte != b' ' {
@@ -139,7 +139,7 @@ fn sign(m: Marks, byte: u8, past: usize) -> Marks {
 }
 
 // A name goes up to the first colon.
-fn name(m: Marks, byte: u8, past: usize) -> Marks {
+fn name(m: Reached, byte: u8, past: usize) -> Reached {
     let mut t = m;
     t.word = past;
     if byte == b':' {
@@ -149,7 +149,7 @@ fn name(m: Marks, byte: u8, past: usize) -> Marks {
     t
 }
 
-fn marked(m: Marks, w: &[u8], byte: u8, past: usize) -> Marks {
+fn reach(m: Reached, w: &[u8], byte: u8, past: usize) -> Reached {
     if m.part == NAME {
         return name(m, byte, past);
     }
@@ -162,7 +162,7 @@ fn marked(m: Marks, w: &[u8], byte: u8, past: usize) -> Marks {
     sign(word(m, w), byte, past)
 }
 
-fn sheet(d: Draft, m: Marks, w: &[u8], byte: u8) -> Draft {
+fn sheet(d: Draft, m: Reached, w: &[u8], byte: u8) -> Draft {
     if m.part == SHEET {
         if w.len() > 0 {
             if byte != b'*' {
@@ -173,7 +173,7 @@ fn sheet(d: Draft, m: Marks, w: &[u8], byte: u8) -> Draft {
     d
 }
 
-fn list(g: Lists, m: Marks, w: &[u8]) -> Lists {
+fn list(g: Lists, m: Reached, w: &[u8]) -> Lists {
     if m.part < NAME {
         if w.len() > 0 {
             return lists::word(g, m.part, w);
@@ -184,9 +184,9 @@ fn list(g: Lists, m: Marks, w: &[u8]) -> Lists {
 
 // The case after a word and the byte that ends it; the next word begins at past.
 pub fn taken(c: Case, w: &[u8], byte: u8, past: usize) -> Case {
-    let m = c.marks;
+    let m = c.reached;
     Case {
-        marks: marked(m, w, byte, past),
+        reached: reach(m, w, byte, past),
         sheet: sheet(c.sheet, m, w, byte),
         lists: list(c.lists, m, w),
     }

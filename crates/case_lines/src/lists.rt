@@ -1,19 +1,19 @@
 // The lists that a case gives, number by number.
-use crate::words::marked;
 use crate::words::number;
+use crate::words::ranked;
 use check::same;
-use cross_marks::position_of;
+use cross_ranks::position_of;
 
 // The lists by number; 0 is none.
-pub const LINES: usize = 1;
+const LINES: usize = 1;
 
-pub const POSITIONS: usize = 2;
+const POSITIONS: usize = 2;
 
-pub const SHAPES: usize = 3;
+const SHAPES: usize = 3;
 
-pub const ROOM: usize = 4;
+const ROOM: usize = 4;
 
-pub const ROWS: usize = 5;
+const ROWS: usize = 5;
 
 // Each list and its length. Room is how many entries of each answer list are lent.
 pub struct Lists {
@@ -111,7 +111,7 @@ fn room(g: Lists, n: usize, x: u64) -> Lists {
 fn put(g: Lists, list: usize, n: usize, w: &[u8]) -> Lists {
     match list {
         LINES => line(g, n, number(w)),
-        POSITIONS => position(g, n, marked(w)),
+        POSITIONS => position(g, n, ranked(w)),
         SHAPES => shape(g, n, number(w)),
         ROWS => row(g, n, number(w)),
         _ => room(g, n, number(w)),

@@ -15,7 +15,7 @@ pub struct Draft {
     // A hexadecimal digit that waits for its second one, 16 where none waits, 17 outside of such digits.
     pub half: u8,
     // How often the piece has been put already.
-    pub turn: usize,
+    pub time: usize,
     pub good: bool,
 }
 
@@ -28,7 +28,7 @@ pub fn empty() -> Draft {
         tag: 0,
         body: 0,
         half: 17,
-        turn: 0,
+        time: 0,
         good: true,
     }
 }
@@ -125,16 +125,16 @@ fn hex(d: Draft, high: u8, low: u8) -> Draft {
     bad(d)
 }
 
-// The sign of a piece: # begins hexadecimal digits, % is two letters that count the turns, AA, AB, .. AP, BA; others are letters of a
+// The sign of a piece: # begins hexadecimal digits, % is two letters that count the times, AA, AB, .. AP, BA; others are letters of a
 // name or codes of a formula.
 fn put(d: Draft, sign: u8) -> Draft {
     let half = d.half;
     let tag = d.tag;
-    let turn = d.turn;
+    let time = d.time;
     if sign == b'%' {
         return push(
-            push(d, 65 + low_byte(turn / 16) % 32),
-            65 + low_byte(turn) % 16,
+            push(d, 65 + low_byte(time / 16) % 32),
+            65 + low_byte(time) % 16,
         );
     }
     if sign == b'#' {
@@ -162,9 +162,9 @@ fn put_all(d: Draft, word: &[u8]) -> Draft {
     t
 }
 
-fn piece(d: Draft, word: &[u8], turn: usize) -> Draft {
+fn piece(d: Draft, word: &[u8], time: usize) -> Draft {
     let mut t = d;
-    t.turn = turn;
+    t.time = time;
     t.half = 17;
     let mut u = put_all(t, word);
     if u.half < 16 {

@@ -10,7 +10,7 @@ pub fn between<'a>(text: &'a [u8], from: usize, to: usize) -> &'a [u8] {
 }
 
 // Stands for what is no number, and for a number that no list takes.
-pub const NONE: u64 = 1000000000000;
+const NONE: u64 = 1000000000000;
 
 fn digit(byte: u8) -> u64 {
     match byte {
@@ -51,7 +51,7 @@ fn above(n: u64) -> u64 {
 }
 
 // 2147483648 more than the number, which may have a minus sign.
-pub fn marked(word: &[u8]) -> u64 {
+pub fn ranked(word: &[u8]) -> u64 {
     if word.len() > 0 {
         if word[0] == b'-' {
             return below(number(&word[1..]));

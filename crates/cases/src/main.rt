@@ -22,7 +22,7 @@ fn no_case(line: &[u8]) {
 
 // A line that was read to its end, at i.
 fn ended(c: Case, text: &[u8], i: usize) {
-    let m = c.marks;
+    let m = c.reached;
     let line = between(text, m.line, i);
     if says_something(line) {
         if m.part == case_lines::case::NAME {
@@ -46,7 +46,7 @@ fn next(c: Case, text: &[u8], i: usize) -> Case
     requires { ⌜ i < length (now text) ⌝ }
 {
     let byte = text[i];
-    let m = c.marks;
+    let m = c.reached;
     if ends_a_word(byte) {
         let t = case_lines::case::taken(c, between(text, m.word, i), byte, i + 1);
         if byte == b'\n' {
@@ -65,7 +65,7 @@ fn run_all(text: &[u8]) {
         c = next(c, text, i);
         i += 1;
     }
-    let m = c.marks;
+    let m = c.reached;
     if m.line < text.len() {
         say(b"malformed: the last line has no end\n");
     }

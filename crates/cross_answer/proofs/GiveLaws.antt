@@ -11,8 +11,8 @@ use lib.ListN.{length, take, drop, length-map}
 use lib.Seq.{take-at, length-take-le}
 use Rattle.outcome.specs.Outcome.{Outcome, given, refused, part, _>>_}
 use Rattle.outcome.specs.Lent.{filled}
-use Rattle.cross_marks.specs.Marks.{unmark}
-use Rattle.cross_marks.proofs.MarkLaws.{unmark-lt}
+use Rattle.cross_ranks.specs.Ranks.{unrank}
+use Rattle.cross_ranks.proofs.RankLaws.{unrank-lt}
 use Rattle.cross_order.specs.Order.{rising, inOrder}
 use Rattle.cross_order.proofs.OrderLaws.{length-inOrder, map-inOrder}
 use Rattle.cross_positions.specs.Positions.{allowed}
@@ -21,12 +21,12 @@ use Rattle.cross_cuts.specs.Every.{Every}
 use Rattle.cross_cuts.specs.Keys.{crossingOf, Held, Complete}
 use Rattle.cross_cuts.proofs.EveryLaws.{every-append, every-map, every-inOrder}
 use Rattle.cross_answer.specs.Answer.{countsOf, MadeLists, madeLists, Crossed}
-use Rattle.cross_answer.specs.Giving.{positionIn, shapeIn, Roomy, Written, InRange}
+use Rattle.cross_answer.specs.Giving.{positionIn, shapeIn, LongEnough, Written, InRange}
 use Rattle.cross_answer.specs.declared.CrossAnswer.the-variants as answer
 
 -- ---- keys compare as their crossings do
 keeps : (k l : ℕ) → before (crossingOf k) (crossingOf l) ≡ ltb k l
-keeps k l = rw (unmark-lt (k / 256) (l / 256), unmark-lt (l / 256) (k / 256)) (by (ltb (k / 256) (l / 256)) refl (ltb (l / 256) (k / 256)) refl (ltb (k % 256) (l % 256)) refl)
+keeps k l = rw (unrank-lt (k / 256) (l / 256), unrank-lt (l / 256) (k / 256)) (by (ltb (k / 256) (l / 256)) refl (ltb (l / 256) (k / 256)) refl (ltb (k % 256) (l % 256)) refl)
   where
     by : (a : Bool) → ltb (k / 256) (l / 256) ≡ a → (b : Bool) → ltb (l / 256) (k / 256) ≡ b → (c : Bool) → ltb (k % 256) (l % 256) ≡ c → (a || (not b && c)) ≡ ltb k l
     by true e b f c g = sym (lt-ltb k l (omega (arith, ltb-true (k / 256) (l / 256) e)))
@@ -65,14 +65,14 @@ positions-in-range j (c ∷ cs) r =
 pub crossings-in-range : (cuts : List Cut) → InRange cuts → Every (λ x. allowed (positionOf x)) (lineCrossings cuts)
 crossings-in-range cuts r = every-inOrder (λ x. allowed (positionOf x)) before (crossingsFrom 0 cuts) (positions-in-range 0 cuts r)
 
--- a mark whose position is in range has 32 bits
-mark-bits : (m : ℕ) → allowed (unmark m) ≡ true → m < 4294967296
-mark-bits m h = by (ltb m 2147483648) refl
+-- a rank whose position is in range has 32 bits
+rank-bits : (m : ℕ) → allowed (unrank m) ≡ true → m < 4294967296
+rank-bits m h = by (ltb m 2147483648) refl
   where
     by : (t : Bool) → ltb m 2147483648 ≡ t → m < 4294967296
     by true e = omega (arith, ltb-true m 2147483648 e)
     by false e =
-        let u : unmark m ≡ pos (m - 2147483648) = rw e in
+        let u : unrank m ≡ pos (m - 2147483648) = rw e in
         let a : allowed (pos (m - 2147483648)) ≡ true = rw u at h in
         omega (arith, leb-true (m - 2147483648) 2147483646 a)
 
@@ -80,9 +80,9 @@ mark-bits m h = by (ltb m 2147483648) refl
 positions-read : (ks : List ℕ) → Every (λ x. allowed (positionOf x)) (map crossingOf ks) → map positionIn ks ≡ map positionOf (map crossingOf ks)
 positions-read [] p = refl
 positions-read (k ∷ ks) p =
-    let b = mark-bits (k / 256) (p .0) in
+    let b = rank-bits (k / 256) (p .0) in
     let e : k / 256 % 4294967296 ≡ k / 256 = omega arith in
-    rw e (ap (λ l. unmark (k / 256) ∷ l) (positions-read ks (p .1)))
+    rw e (ap (λ l. unrank (k / 256) ∷ l) (positions-read ks (p .1)))
 
 shapes-read : (ks : List ℕ) → map shapeIn ks ≡ map shapeOf (map crossingOf ks)
 shapes-read [] = refl
@@ -102,7 +102,7 @@ module _ {number : ℕ} {cuts : List Cut} {bytes keys : List ℕ} {n m : ℕ} (w
   in-order : map crossingOf (rising (take m keys)) ≡ lineCrossings cuts
   in-order = map-inOrder crossingOf ltb before keeps (take m keys) ∙ ap (inOrder before) (whole .gathered .keyed)
 
-  pub starts-count : length (startRow cuts) ≡ n
+  starts-count : length (startRow cuts) ≡ n
   starts-count = length-map cuts startOf ∙ whole .gathered .all
 
   pub crossings-count : length (lineCrossings cuts) ≡ m
@@ -137,7 +137,7 @@ module _ {number : ℕ} {cuts : List Cut} {bytes keys : List ℕ} {n m : ℕ} (w
     pub shapes-written : L′ .shapes ≡ filled (map shapeOf (lineCrossings cuts)) (L .shapes)
     shapes-written = w .shapes ∙ ap (λ l. filled l (L .shapes)) (shapes-read (rising (take m keys)) ∙ ap (map shapeOf) in-order)
 
-  pub given-all : (L L′ : MadeLists) → Roomy n m L → Written n m bytes keys L L′ → Crossed (answered number cuts (length (L .starts)) (length (L .positions)) (length (L .shapes))) L (answer.Crossed n m) L′
+  pub given-all : (L L′ : MadeLists) → LongEnough n m L → Written n m bytes keys L L′ → Crossed (answered number cuts (length (L .starts)) (length (L .positions)) (length (L .shapes))) L (answer.Crossed n m) L′
   given-all L L′ room w =
       let o : answered number cuts (length (L .starts)) (length (L .positions)) (length (L .shapes)) ≡ given cuts =
       asked _ _ _ ∙ rw (starts-count, crossings-count, le-leb n (length (L .starts)) (room .starts), le-leb m (length (L .positions)) (room .positions), le-leb m (length (L .shapes)) (room .shapes)) in

@@ -12,7 +12,7 @@ use mir.Syntax.{w32}
 use mir.Val.{toZ, ofZ}
 use mir.ValLaws.{toZ-ofZ}
 use Rattle.outcome.specs.Lent.{filled}
-use Rattle.cross_marks.proofs.MarkLaws.{unmark-fits}
+use Rattle.cross_ranks.proofs.RankLaws.{unrank-fits}
 use Rattle.cross_answer.specs.Giving.{positionIn}
 
 map-take : {A : Type 0} (f : ℕ → A) (n : ℕ) (l : List ℕ) → take n (map f l) ≡ map f (take n l)
@@ -62,4 +62,4 @@ module _ {A : Type 0} (f : ℕ → A) (keys : List ℕ) (old : List A) (n : ℕ)
 
 -- a position is stored by its bits
 pub position-stored : (key : ℕ) (z : ℤ) → z ≡ positionIn key → toZ w32 (ofZ w32 z) ≡ positionIn key
-position-stored key z e = rw e (toZ-ofZ w32 (positionIn key) (unmark-fits (key / 256 % 4294967296) (omega arith)))
+position-stored key z e = rw e (toZ-ofZ w32 (positionIn key) (unrank-fits (key / 256 % 4294967296) (omega arith)))

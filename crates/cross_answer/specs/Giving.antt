@@ -5,22 +5,22 @@ use mathlib.Core.List.{List, [], _∷_, map}
 use lib.IntN.{ℤ}
 use lib.ListN.{length, take}
 use Rattle.outcome.specs.Lent.{filled}
-use Rattle.cross_marks.specs.Marks.{unmark}
+use Rattle.cross_ranks.specs.Ranks.{unrank}
 use Rattle.cross_order.specs.Order.{rising}
 use Rattle.cross_positions.specs.Positions.{allowed}
 use Rattle.cross_cuts.specs.Cuts.{Cut, positionsOf}
 use Rattle.cross_cuts.specs.Every.{Every}
 use Rattle.cross_answer.specs.Answer.{MadeLists}
 
--- Marks have 32 bits.
+-- Ranks have 32 bits.
 abbrev pub positionIn : ℕ → ℤ
-positionIn key = unmark (key / 256 % 4294967296)
+positionIn key = unrank (key / 256 % 4294967296)
 
 abbrev pub shapeIn : ℕ → ℕ
 shapeIn key = key % 256
 
 -- There is room for n entries in the start row, and for m in each of positions and shapes.
-pub record Roomy (n m : ℕ) (lent : MadeLists) : Type 0 where
+pub record LongEnough (n m : ℕ) (lent : MadeLists) : Type 0 where
   pub starts : n ≤ length (lent .starts)
   pub positions : m ≤ length (lent .positions)
   pub shapes : m ≤ length (lent .shapes)

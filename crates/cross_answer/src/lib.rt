@@ -8,7 +8,7 @@ ghost use Rattle.cross_order.specs.Order.{rising};
 ghost use Rattle.cross_cuts.specs.Cuts.{Cut, answered};
 ghost use Rattle.cross_cuts.specs.Keys.{Held, Complete};
 ghost use Rattle.cross_answer.specs.Answer.{madeLists, Crossed};
-ghost use Rattle.cross_answer.specs.Giving.{positionIn, shapeIn, Roomy, Written, InRange};
+ghost use Rattle.cross_answer.specs.Giving.{positionIn, shapeIn, LongEnough, Written, InRange};
 
 // What a crossing job answers: how many entries the start row has, and how many each of positions and shapes.
 pub enum CrossAnswer {
@@ -19,7 +19,7 @@ pub enum CrossAnswer {
 fn position_in(key: u64) -> i32
     ensures { λ r. ⌜ r ≡ positionIn key ⌝ }
 {
-    cross_marks::position_of((key / 256 % 4294967296) as u32)
+    cross_ranks::position_of((key / 256 % 4294967296) as u32)
 }
 
 fn shape_in(key: u64) -> u16
@@ -50,11 +50,15 @@ fn write_shapes(keys: &[u64], n: usize, shapes: &mut [u16])
     }
 }
 
-// Puts the first m keys into order. Where they are few, a short spare array is quicker to make.
+// Puts the first m keys into order. Most lines have so few that they need no spare array; for some more a short one is quicker to make.
 fn order(keys: &mut [u64], m: usize)
     requires { ⌜ (m ≤ length (now keys)) × (m ≤ 512) ⌝ }
     ensures { λ _. ⌜ now (keys .exit) ≡ rising (take m (now (keys .entry))) ++ drop m (now (keys .entry)) ⌝ }
 {
+    if m <= 8 {
+        cross_order::insert_all(&mut keys[0..m]);
+        return;
+    }
     if m <= 32 {
         let mut few = [0u64; 32];
         cross_order::sort(&mut keys[0..m], &mut few);
@@ -74,7 +78,7 @@ pub fn write(
     positions: &mut [i32],
     shapes: &mut [u16],
 )
-    requires { ⌜ Held (now bytes) (now keys) n m × Roomy n m (madeLists (now starts) (now positions) (now shapes)) ⌝ }
+    requires { ⌜ Held (now bytes) (now keys) n m × LongEnough n m (madeLists (now starts) (now positions) (now shapes)) ⌝ }
     ensures { λ _. ⌜ Written n m (now (bytes .entry)) (now (keys .entry)) (madeLists (now (starts .entry)) (now (positions .entry)) (now (shapes .entry))) (madeLists (now (starts .exit)) (now (positions .exit)) (now (shapes .exit))) ⌝ }
 {
     order(keys, m);

@@ -1,26 +1,26 @@
--- What one box's two faces say, and one turn of the loop over the boxes.
+-- What one box's two faces say, and one round of the loop over the boxes.
 use mathlib.Core.Path.{_≡_, refl, sym, ap, _∙_, subst}
-use mathlib.Core.Bool.{Bool, true, false, not, _&&_, true≢false}
+use mathlib.Core.Bool.{Bool, true, false, not, _&&_, Bool·beq, or-true, true≢false}
 use mathlib.Core.List.{List}
 use mathlib.Core.Logic.{_≢_}
 use mathlib.Core.Option.{Option, none, some}
-use Prim.Native.Nat.{ℕ, _+_, _<_, _≤_, min, max}
+use Prim.Native.Nat.{ℕ, zero, suc, _*_, _+_, _<_, _≤_, min, max}
 use native.Mathlib.Omega.{arith}
-use lib.Dec.{eqb}
+use lib.Dec.{T, eqb, eqb·suc-zero}
 use borrow.Author.Tests.{eqb-true, eqb-false}
-use lib.IntN.{ℤ}
+use lib.IntN.{ℤ, pos}
 use lib.ListN.{length, getD, set, length-set}
 use lib.Seq.{getD-set-same, getD-set-other}
-use lib.Dec.{T}
-use lib.Ieee.{Float, nan, inf, fin, lt, binary64, fits, isNan, toBits, ofBits}
+use lib.Ieee.{Float, nan, inf, fin, up, down, lt, eq, binary64, fits, isNan, toBits, ofBits}
 use lib.Ieee.Bits.{ofBits-toBits}
-use Rattle.cross_marks.specs.Marks.{unmark}
+use Rattle.cross_ranks.specs.Ranks.{unrank}
 use Rattle.cross_positions.specs.Positions.{inRange, nearestWhole, distance, position}
+use Rattle.cross_positions.proofs.Numbers.{distance-number}
 use Rattle.cross_quick.specs.Given.{given, isThere}
-use Rattle.cross_quick.proofs.GivenLaws.{found-mark}
+use Rattle.cross_quick.proofs.GivenLaws.{found-rank}
 use Rattle.cross_shapes.specs.Shapes.{finite, isZero, lesser, greater, wrong, from, between, axisRange}
-use Rattle.cross_shapes.proofs.BoxLaws.{lesser-mark, greater-mark}
-use Rattle.cross_axis.specs.Axes.{Codes, rangeAt, Sized, Said, Beside, Filled, SameNumbers}
+use Rattle.cross_shapes.proofs.BoxLaws.{lesser-rank, greater-rank}
+use Rattle.cross_axis.specs.Axes.{Codes, rangeAt, Sized, Fillable, Beside, Filled, SameNumbers}
 use Rattle.cross_axis.specs.declared.Along.{Along}
 
 -- ---- one box
@@ -47,32 +47,58 @@ module _ (low high : Float) (along : Along) where
   slanted z n = rw z at n
 
   module _ (u v l g : ℕ) (z : isZero (along .component) ≡ false)
-      (at-low : position low (along .origin) (along .component) ≢ none → position low (along .origin) (along .component) ≡ some (unmark u))
-      (at-high : position high (along .origin) (along .component) ≢ none → position high (along .origin) (along .component) ≡ some (unmark v))
+      (at-low : position low (along .origin) (along .component) ≢ none → position low (along .origin) (along .component) ≡ some (unrank u))
+      (at-high : position high (along .origin) (along .component) ≢ none → position high (along .origin) (along .component) ≡ some (unrank v))
       (bu : u ≤ 4294967295) (bv : v ≤ 4294967295) (el : l ≡ min u v) (eg : g ≡ max u v) (n : axisRange low high (along .origin) (along .component) ≢ wrong) where
     there : (position low (along .origin) (along .component) ≢ none) × (position high (along .origin) (along .component) ≢ none)
     there = both-there (position low (along .origin) (along .component)) (position high (along .origin) (along .component)) (slanted z n)
 
-    ranged : axisRange low high (along .origin) (along .component) ≡ from (lesser (unmark u) (unmark v)) (greater (unmark u) (unmark v))
+    ranged : axisRange low high (along .origin) (along .component) ≡ from (lesser (unrank u) (unrank v)) (greater (unrank u) (unrank v))
     unfolding axisRange
-    ranged = rw z (ap (λ (o : Option ℤ). between o (position high (along .origin) (along .component))) (at-low (there .0)) ∙ ap (λ (o : Option ℤ). between (some (unmark u)) o) (at-high (there .1)))
+    ranged = rw z (ap (λ (o : Option ℤ). between o (position high (along .origin) (along .component))) (at-low (there .0)) ∙ ap (λ (o : Option ℤ). between (some (unrank u)) o) (at-high (there .1)))
 
     pub slant-both : Codes (axisRange low high (along .origin) (along .component)) l g
-    slant-both = rw ranged (ap unmark el ∙ lesser-mark u v, (ap unmark eg ∙ greater-mark u v, omega (arith, bu, bv, eg)))
+    slant-both = rw ranged (ap unrank el ∙ lesser-rank u v, (ap unrank eg ∙ greater-rank u v, omega (arith, bu, bv, eg)))
 
 -- ---- one face
-pub face-mark : (face : Float) (along : Along) (p : Float) (good : Bool) (u : ℕ) → p ≡ distance face (along .origin) (along .component) → good ≡ given p → (good ≡ true → some (unmark u) ≡ nearestWhole p)
-    → position face (along .origin) (along .component) ≢ none → position face (along .origin) (along .component) ≡ some (unmark u)
+not-zero : (s : Bool) (m : ℕ) (e : ℤ) → isZero (fin s m e) ≡ false → eqb m 0 ≡ false
+unfolding isZero eq
+not-zero s zero e h =
+    let x : zero * up e * 1 ≡ 0 = omega arith in
+    let y : zero * up (pos zero) * down e ≡ 0 = omega arith in
+    absurd (true≢false (sym (rw (x, y, or-true (Bool·beq s false))) ∙ h))
+not-zero s (suc m) e h = eqb·suc-zero m
+
+-- its distance is a number
+pub far-number : (face origin component p : Float) → finite face ≡ true → finite origin ≡ true → finite component ≡ true → isZero component ≡ false → p ≡ distance face origin component → isNan p ≡ false
+unfolding finite
+far-number nan origin component p a b c z e = absurd (true≢false (sym a))
+far-number (inf s) origin component p a b c z e = absurd (true≢false (sym a))
+far-number (fin s m f) nan component p a b c z e = absurd (true≢false (sym b))
+far-number (fin s m f) (inf t) component p a b c z e = absurd (true≢false (sym b))
+far-number (fin s m f) (fin t n g) nan p a b c z e = absurd (true≢false (sym c))
+far-number (fin s m f) (fin t n g) (inf u) p a b c z e = absurd (true≢false (sym c))
+far-number (fin s m f) (fin t n g) (fin u k h) p a b c z e = ap isNan e ∙ distance-number s m f t n g u k h (not-zero u k h z)
+
+pub face-rank : (face : Float) (along : Along) (p : Float) (u : ℕ) → p ≡ distance face (along .origin) (along .component) → (given p ≡ true → some (unrank u) ≡ nearestWhole p)
+    → position face (along .origin) (along .component) ≢ none → position face (along .origin) (along .component) ≡ some (unrank u)
 unfolding given
-face-mark face along p good u e f m n =
-    let g = f ∙ ap (λ (x : Float). isThere (inRange (nearestWhole x))) e ∙ there (position face (along .origin) (along .component)) n in
-    ap (λ (x : Float). inRange (nearestWhole x)) (sym e) ∙ sym (found-mark p u f g (m g))
+face-rank face along p u e m n =
+    let g : given p ≡ true = ap (λ (x : Float). isThere (inRange (nearestWhole x))) e ∙ there (position face (along .origin) (along .component)) n in
+    ap (λ (x : Float). inRange (nearestWhole x)) (sym e) ∙ sym (found-rank p u refl g (m g))
   where
     there : (p : Option ℤ) → p ≢ none → isThere p ≡ true
     there none n = absurd (n refl)
     there (some z) n = refl
 
 -- ---- one box after another
+module _ {at n : ℕ} {along : Along} {lows highs : List Float} {lessers greaters : List ℕ} (f : Fillable at (at + n) along lows highs lessers greaters) (j : ℕ) (more : j < n) where
+  pub low-number : finite (getD lows (at + j) nan) ≡ true
+  low-number = f .low (at + j) (omega arith) (omega arith)
+
+  pub high-number : finite (getD highs (at + j) nan) ≡ true
+  high-number = f .high (at + j) (omega arith) (omega arith)
+
 pub beside-starts : {here there : ℕ} {old : List ℕ} → Beside here there old old
 beside-starts = record { sized = refl; below = λ j h. refl; above = λ j h. refl }
 

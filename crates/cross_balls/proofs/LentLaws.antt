@@ -8,7 +8,7 @@ use lib.ListN.{length, getD}
 use mir.Syntax.{w32}
 use mir.Val.{SFits, toZ, ofZ}
 use mir.ValLaws.{toZ-ofZ}
-use Rattle.cross_marks.specs.Marks.{unmark}
+use Rattle.cross_ranks.specs.Ranks.{unrank}
 use Rattle.cross_cuts.specs.Cuts.{fault}
 use Rattle.cross_cuts.specs.Keys.{cutOf}
 use Rattle.cross_cuts.specs.declared.Met.{Met}
@@ -61,6 +61,6 @@ pub at-begun : (numbers : List ℤ) (i : ℕ) → 4 * i < length numbers → len
 at-begun numbers i h k = sym (cut-begun numbers i h k)
 
 pub at-whole : (numbers : List ℤ) (i u v radius centre : ℕ) (m : Met) → 4 * i + 4 ≤ length numbers
-    → unmark u ≡ getD numbers (4 * i) (pos 0) → unmark v ≡ getD numbers (4 * i + 1) (pos 0) → unmark radius ≡ getD numbers (4 * i + 2) (pos 0) → unmark centre ≡ getD numbers (4 * i + 3) (pos 0)
-    → cutOf m ≡ ballCut (unmark u) (unmark v) (unmark radius) (unmark centre) → cutOf m ≡ getD (ballCuts numbers) i fault
+    → unrank u ≡ getD numbers (4 * i) (pos 0) → unrank v ≡ getD numbers (4 * i + 1) (pos 0) → unrank radius ≡ getD numbers (4 * i + 2) (pos 0) → unrank centre ≡ getD numbers (4 * i + 3) (pos 0)
+    → cutOf m ≡ ballCut (unrank u) (unrank v) (unrank radius) (unrank centre) → cutOf m ≡ getD (ballCuts numbers) i fault
 at-whole numbers i u v radius centre m h eu ev er ec e = e ∙ rw (eu, ev, er, ec) (sym (cut-whole numbers i h))

@@ -1,4 +1,4 @@
--- The marks of a ball whose numbers are in their ranges.
+-- The ranks of a ball whose numbers are in their ranges.
 use Prim.Native.Nat.{ℕ, _≤_}
 
 pub record Small (u v radius centre : ℕ) : Type 0 where

@@ -1,16 +1,16 @@
 -- What is gathered shape by shape is what the definitions give of all the shapes.
-use Prim.Native.Nat.{ℕ, suc, _+_, _*_, _/_, _%_, _<_, _≤_}
+use Prim.Native.Nat.{ℕ, zero, suc, _+_, _*_, _/_, _%_, _<_, _≤_}
 use native.Mathlib.Numerals.{add-one}
 use native.Mathlib.Omega.{arith}
-use mathlib.Core.Path.{_≡_, refl, sym, ap, _∙_}
+use mathlib.Core.Path.{_≡_, refl, sym, ap, _∙_, subst}
 use mathlib.Core.Bool.{Bool, true, false}
 use mathlib.Core.List.{List, [], _∷_, _++_, append-assoc, append-nil, map}
 use lib.ListN.{length, take, drop, getD, set, length-set, length-append, drop-of-length-le}
-use lib.Seq.{take-suc, take-suc-set, drop-cons, take-all}
+use lib.Seq.{getD-set-other, take-suc, take-suc-set, drop-cons, take-all}
 use Rattle.outcome.specs.Outcome.{given, refused}
-use Rattle.cross_marks.specs.Marks.{unmark}
+use Rattle.cross_ranks.specs.Ranks.{unrank}
 use Rattle.cross_cuts.specs.Cuts.{Cut, fault, cut, sound, positionsOf, startOf, startRow, crossedAt, crossingsFrom, faultless}
-use Rattle.cross_cuts.specs.Keys.{cutOf, keyOf, crossingOf, bitOf, Held, Adds, Going, Complete}
+use Rattle.cross_cuts.specs.Keys.{cutOf, keyOf, crossingOf, bitOf, Held, Adds, Elsewhere, Going, Complete}
 use Rattle.cross_cuts.specs.declared.Met.{Met}
 use Rattle.cross_cuts.specs.declared.Met.the-variants.{Fault, Never, Once, Twice}
 use Rattle.cross_cuts.specs.declared.Added.{Added}
@@ -32,13 +32,13 @@ starts-more : (cuts : List Cut) (c : Cut) (starts : List ℕ) (i b : ℕ) → i 
 starts-more cuts c starts i b h e f = rw (add-one, take-suc-set starts i b h, e, f) (sym (map-append startOf cuts (c ∷ [])))
 
 -- ---- one key more at the end
-key-position : (a i : ℕ) → i < 256 → crossingOf (keyOf a i) ≡ crossedAt (unmark a) i
+key-position : (a i : ℕ) → i < 256 → crossingOf (keyOf a i) ≡ crossedAt (unrank a) i
 key-position a i h =
     let p : (a * 256 + i) / 256 ≡ a = omega arith in
     let q : (a * 256 + i) % 256 ≡ i = omega arith in
     rw (p, q)
 
-keys-more : (keys : List ℕ) (m k a i : ℕ) → i < 256 → m < length keys → k ≡ keyOf a i → map crossingOf (take (m + 1) (set keys m k)) ≡ map crossingOf (take m keys) ++ (crossedAt (unmark a) i ∷ [])
+keys-more : (keys : List ℕ) (m k a i : ℕ) → i < 256 → m < length keys → k ≡ keyOf a i → map crossingOf (take (m + 1) (set keys m k)) ≡ map crossingOf (take m keys) ++ (crossedAt (unrank a) i ∷ [])
 keys-more keys m k a i h l e = rw (add-one, take-suc-set keys m k l) (map-append crossingOf (take m keys) (k ∷ []) ∙ ap (λ x. map crossingOf (take m keys) ++ (x ∷ [])) (ap crossingOf e ∙ key-position a i h))
 
 -- ---- the exits of `add`
@@ -51,9 +51,6 @@ module _ (starts keys : List ℕ) (i m : ℕ) (held : Held starts keys i m) (h :
 
   pub second-room : (k : ℕ) → m + 1 < length (set keys m k)
   second-room k = rw length-set room
-
-  pub adds-fault : (met : Met) → met ≡ Fault → Adds (cutOf met) starts keys i m starts keys added.Fault
-  adds-fault met e = rw e
 
   pub adds-never : (met : Met) (inside : Bool) (b : ℕ) → met ≡ Never inside → b ≡ bitOf inside → Adds (cutOf met) starts keys i m (set starts i b) keys (added.Count m)
   adds-never met inside b e f = rw e (
@@ -72,10 +69,10 @@ module _ (starts keys : List ℕ) (i m : ℕ) (held : Held starts keys i m) (h :
     record { starts-sized = length-set starts i b ∙ held .starts-sized; keys-sized = length-set keys m k ∙ held .keys-sized; some = omega arith; few = omega (arith, held .few) },
     λ cuts g. record {
       all = length-append cuts _ ∙ omega (arith, g .all);
-      started = starts-more cuts (cut inside (unmark a ∷ [])) starts i b here (g .started) f;
+      started = starts-more cuts (cut inside (unrank a ∷ [])) starts i b here (g .started) f;
       keyed =
-          keys-more keys m k a i h (omega (arith, room)) p ∙ ap (λ l. l ++ (crossedAt (unmark a) i ∷ [])) (g .keyed)
-          ∙ ap (λ n. crossingsFrom 0 cuts ++ (crossedAt (unmark a) n ∷ [])) (omega (arith, g .all)) ∙ sym (crossings-more 0 cuts (cut inside (unmark a ∷ [])));
+          keys-more keys m k a i h (omega (arith, room)) p ∙ ap (λ l. l ++ (crossedAt (unrank a) i ∷ [])) (g .keyed)
+          ∙ ap (λ n. crossingsFrom 0 cuts ++ (crossedAt (unrank a) n ∷ [])) (omega (arith, g .all)) ∙ sym (crossings-more 0 cuts (cut inside (unrank a ∷ [])));
     },
   )
 
@@ -85,17 +82,23 @@ module _ (starts keys : List ℕ) (i m : ℕ) (held : Held starts keys i m) (h :
     record { starts-sized = length-set starts i 0 ∙ held .starts-sized; keys-sized = length-set (set keys m k) (m + 1) l ∙ length-set keys m k ∙ held .keys-sized; some = omega arith; few = omega (arith, held .few) },
     λ cuts g. record {
       all = length-append cuts _ ∙ omega (arith, g .all);
-      started = starts-more cuts (cut false (unmark a ∷ unmark b ∷ [])) starts i 0 here (g .started) refl;
+      started = starts-more cuts (cut false (unrank a ∷ unrank b ∷ [])) starts i 0 here (g .started) refl;
       keyed =
           let two : m + 2 ≡ m + 1 + 1 = omega arith in
           ap (λ n. map crossingOf (take n (set (set keys m k) (m + 1) l))) two
           ∙ keys-more (set keys m k) (m + 1) l b i h (second-room k) q
-          ∙ ap (λ x. x ++ (crossedAt (unmark b) i ∷ [])) (keys-more keys m k a i h (omega (arith, room)) p ∙ ap (λ x. x ++ (crossedAt (unmark a) i ∷ [])) (g .keyed))
-          ∙ append-assoc (crossingsFrom 0 cuts) (crossedAt (unmark a) i ∷ []) (crossedAt (unmark b) i ∷ [])
-          ∙ ap (λ n. crossingsFrom 0 cuts ++ (crossedAt (unmark a) n ∷ crossedAt (unmark b) n ∷ [])) (omega (arith, g .all))
-          ∙ sym (crossings-more 0 cuts (cut false (unmark a ∷ unmark b ∷ [])));
+          ∙ ap (λ x. x ++ (crossedAt (unrank b) i ∷ [])) (keys-more keys m k a i h (omega (arith, room)) p ∙ ap (λ x. x ++ (crossedAt (unrank a) i ∷ [])) (g .keyed))
+          ∙ append-assoc (crossingsFrom 0 cuts) (crossedAt (unrank a) i ∷ []) (crossedAt (unrank b) i ∷ [])
+          ∙ ap (λ n. crossingsFrom 0 cuts ++ (crossedAt (unrank a) n ∷ crossedAt (unrank b) n ∷ [])) (omega (arith, g .all))
+          ∙ sym (crossings-more 0 cuts (cut false (unrank a ∷ unrank b ∷ [])));
     },
   )
+
+pub same-starts : {i : ℕ} {starts : List ℕ} → Elsewhere i starts starts
+same-starts = record { same = λ j d. refl }
+
+pub one-start : {starts : List ℕ} (i b : ℕ) → Elsewhere i starts (set starts i b)
+one-start {starts} i b = record { same = λ j d. getD-set-other starts i j b 0 d }
 
 -- ---- the shapes in turn
 first-fault : (number i : ℕ) (c : Cut) (cs : List Cut) → c ≡ fault → faultless number i (c ∷ cs) ≡ refused number i
@@ -123,9 +126,6 @@ going-starts number all starts keys s k = record {
 }
 
 module _ (number : ℕ) (all : List Cut) (starts keys : List ℕ) (i m : ℕ) (going : Going number all starts keys i m) where
-  pub going-held : Held starts keys i m
-  going-held = going .held
-
   module _ (more : i < length all) (c : Cut) (is : c ≡ getD all i fault) (starts′ keys′ : List ℕ) (r : Added) (adds : Adds c starts keys i m starts′ keys′ r) where
     adds-it : Adds (getD all i fault) starts keys i m starts′ keys′ r
     adds-it = rw is at adds
@@ -156,3 +156,25 @@ module _ (number : ℕ) (all : List Cut) (starts keys : List ℕ) (i m : ℕ) (g
         gathered = rw e at (rw whole at (going .gathered));
         none = going .left ∙ ap (faultless number i) nothing ∙ none-left number i;
       }
+
+-- ---- shapes that are not crossed and start outside, whose bytes are 0 already
+set-here : (l : List ℕ) (i : ℕ) → i < length l → getD l i 0 ≡ 0 → set l i 0 ≡ l
+set-here [] i h e = absurd (omega arith)
+set-here (x ∷ xs) zero h e = ap (λ (y : ℕ). y ∷ xs) (sym e)
+set-here (x ∷ xs) (suc i) h e = ap (λ (l : List ℕ). x ∷ l) (set-here xs i (omega arith) e)
+
+module _ (number : ℕ) (all : List Cut) (starts keys : List ℕ) (few : length all ≤ 256) (m : ℕ) where
+  past-one : (i : ℕ) → Going number all starts keys i m → i < length all → getD all i fault ≡ cut false [] → getD starts i 0 ≡ 0 → Going number all starts keys (i + 1) m
+  past-one i going more quiet zero-byte =
+      let h : i < 256 = omega arith in
+      let same : set starts i 0 ≡ starts = set-here starts i (omega (arith, going .held .starts-sized)) zero-byte in
+      let added-never = adds-never starts keys i m (going .held) h (Never false) false 0 refl refl in
+      subst (λ (s : List ℕ). Going number all s keys (i + 1) m) same (going-on number all starts keys i m going more (cut false []) (sym quiet) (set starts i 0) keys (added.Count m) added-never m refl)
+
+  pub going-past : (a d : ℕ) → Going number all starts keys a m → a + d ≤ length all
+      → ((j : ℕ) → a ≤ j → j < a + d → (getD all j fault ≡ cut false []) × (getD starts j 0 ≡ 0)) → Going number all starts keys (a + d) m
+  going-past a zero going within quiet = let e : a ≡ a + 0 = omega arith in subst (λ (i : ℕ). Going number all starts keys i m) e going
+  going-past a (suc d) going within quiet =
+      let e : a + d + 1 ≡ a + suc d = omega arith in
+      let q = quiet (a + d) (omega arith) (omega arith) in
+      subst (λ (i : ℕ). Going number all starts keys i m) e (past-one (a + d) (going-past a d going (omega arith) (λ j h l. quiet j h (omega arith))) (omega arith) (q .0) (q .1))

@@ -3,9 +3,10 @@ use Prim.Native.Nat.{ℕ, _+_, _*_, _/_, _%_, _≤_}
 use mathlib.Core.Path.{_≡_}
 use mathlib.Core.Bool.{Bool, true, false, cond}
 use mathlib.Core.List.{List, [], _∷_, _++_, map}
-use lib.ListN.{length, take, drop}
+use mathlib.Core.Logic.{_≢_}
+use lib.ListN.{length, take, drop, getD}
 use Rattle.outcome.specs.Outcome.{given, refused}
-use Rattle.cross_marks.specs.Marks.{unmark}
+use Rattle.cross_ranks.specs.Ranks.{unrank}
 use Rattle.cross_cuts.specs.Cuts.{Cut, fault, cut, sound, startRow, LineCrossing, crossedAt, crossingsFrom, faultless}
 use Rattle.cross_cuts.specs.declared.Met.{Met}
 use Rattle.cross_cuts.specs.declared.Met.the-variants.{Fault, Never, Once, Twice}
@@ -14,19 +15,19 @@ use Rattle.cross_cuts.specs.declared.Added.the-variants as added
 use Rattle.cross_cuts.specs.declared.Row.{Row}
 use Rattle.cross_cuts.specs.declared.Row.the-variants as row
 
--- What the line has of a shape, by what the code meets: no, one or two crossings, each by its mark.
+-- What the line has of a shape, by what the code meets: no, one or two crossings, each by its rank.
 abbrev pub cutOf : Met → Cut
 cutOf Fault = fault
 cutOf (Never inside) = cut inside []
-cutOf (Once inside a) = cut inside (unmark a ∷ [])
-cutOf (Twice a b) = cut false (unmark a ∷ unmark b ∷ [])
+cutOf (Once inside a) = cut inside (unrank a ∷ [])
+cutOf (Twice a b) = cut false (unrank a ∷ unrank b ∷ [])
 
 -- A crossing's key rises as positions do, and at one position as shapes do.
 abbrev pub keyOf : ℕ → ℕ → ℕ
-keyOf mark shape = mark * 256 + shape
+keyOf rank shape = rank * 256 + shape
 
 abbrev pub crossingOf : ℕ → LineCrossing
-crossingOf key = crossedAt (unmark (key / 256)) (key % 256)
+crossingOf key = crossedAt (unrank (key / 256)) (key % 256)
 
 abbrev pub bitOf : Bool → ℕ
 bitOf inside = cond inside 1 0
@@ -49,6 +50,10 @@ abbrev pub Adds : Cut → List ℕ → List ℕ → ℕ → ℕ → List ℕ →
 Adds c starts keys i m starts′ keys′ added.Fault = c ≡ fault
 Adds c starts keys i m starts′ keys′ (added.Count n) =
     (sound c ≡ true) × Held starts′ keys′ (i + 1) n × ((cuts : List Cut) → Gathered cuts starts keys i m → Gathered (cuts ++ (c ∷ [])) starts′ keys′ (i + 1) n)
+
+-- No byte is another than before but that of shape i.
+pub record Elsewhere (i : ℕ) (starts starts′ : List ℕ) : Type 0 where
+  pub same : (j : ℕ) → j ≢ i → getD starts′ j 0 ≡ getD starts j 0
 
 -- The first i of all the cuts are gathered, and what is left decides which is at fault.
 pub record Going (number : ℕ) (all : List Cut) (starts keys : List ℕ) (i m : ℕ) : Type 0 where

@@ -1,9 +1,9 @@
 // What a line meets of each shape, gathered: the start row's bytes, and a key for each crossing.
 ghost use mathlib.Core.Path.{_≡_};
 ghost use Prim.Native.Nat.{_+_, _*_, _<_};
-ghost use Rattle.cross_cuts.specs.Keys.{cutOf, keyOf, bitOf, Held, Adds};
+ghost use Rattle.cross_cuts.specs.Keys.{cutOf, keyOf, bitOf, Held, Adds, Elsewhere};
 
-// What a line meets of a shape: the shape is at fault; or whether it starts inside, with no, one or two crossings, each by its mark.
+// What a line meets of a shape: the shape is at fault; or whether it starts inside, with no, one or two crossings, each by its rank.
 pub enum Met {
     Fault,
     Never(bool),
@@ -23,11 +23,11 @@ pub enum Row {
     Count(usize),
 }
 
-fn key(mark: u32, shape: usize) -> u64
+fn key(rank: u32, shape: usize) -> u64
     requires { ⌜ shape < 256 ⌝ }
-    ensures { λ r. ⌜ r ≡ keyOf mark shape ⌝ }
+    ensures { λ r. ⌜ r ≡ keyOf rank shape ⌝ }
 {
-    basics::long_word(mark) * 256 + shape as u64
+    basics::long_word(rank) * 256 + shape as u64
 }
 
 fn bit(inside: bool) -> u8
@@ -43,6 +43,7 @@ fn bit(inside: bool) -> u8
 pub fn add(met: Met, i: usize, m: usize, starts: &mut [u8], keys: &mut [u64]) -> Added
     requires { ⌜ Held (now starts) (now keys) i m × (i < 256) ⌝ }
     ensures { λ r. ⌜ Adds (cutOf met) (now (starts .entry)) (now (keys .entry)) i m (now (starts .exit)) (now (keys .exit)) r ⌝ }
+    ensures { λ _. ⌜ Elsewhere i (now (starts .entry)) (now (starts .exit)) ⌝ }
 {
     match met {
         Met::Fault => Added::Fault,

@@ -1,8 +1,8 @@
 -- The lines that are lent, one by one.
-use Prim.Native.Nat.{ℕ, zero, suc, _+_, _*_, _/_, _<_}
+use Prim.Native.Nat.{ℕ, zero, suc, _+_, _*_, _/_, _%_, _<_}
 use native.Mathlib.Omega.{arith}
 use mathlib.Core.Path.{_≡_, refl, sym, ap, _∙_}
-use mathlib.Core.List.{List, []}
+use mathlib.Core.List.{List}
 use lib.ListN.{length, drop, getD}
 use lib.Seq.{drop-drop, getD-drop}
 use lib.Ieee.{Float, nan}
@@ -24,6 +24,13 @@ length-probes-from (suc n) lines = ap suc (length-probes-from n (drop 6 lines))
 
 pub length-probes : (lines : List Float) → length (probesOf lines) ≡ (length lines + 5) / 6
 length-probes lines = length-probes-from ((length lines + 5) / 6) lines
+
+-- as the code counts them
+pub whole-lines : (lines : List Float) → length lines % 6 ≡ 0 → length lines / 6 ≡ length (probesOf lines)
+whole-lines lines e = omega (arith, length-probes lines)
+
+pub line-begun : (lines : List Float) → (length lines % 6 ≡ 0 → ⊥) → length lines / 6 + 1 ≡ length (probesOf lines)
+line-begun lines n = omega (arith, n, length-probes lines)
 
 probe-from : (n : ℕ) (lines : List Float) (k : ℕ) (d : Probe) → k < n → getD (probesFrom n lines) k d ≡ probeFrom (drop (6 * k) lines)
 unfolding probesFrom

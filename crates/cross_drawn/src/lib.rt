@@ -2,13 +2,24 @@
 use cross_cuts::Row;
 use cross_shapes::Probe;
 ghost use mathlib.Core.Path.{_≡_};
-ghost use Prim.Native.Nat.{_*_, _<_, _≤_};
+ghost use Prim.Native.Nat.{_*_, _≤_};
 ghost use lib.ListN.{length, drop};
-ghost use Rattle.cross_drawn.specs.Lent.{probeFrom};
+ghost use Rattle.cross_drawn.specs.Lent.{probeFrom, probesOf};
 ghost use Rattle.cross_drawn.specs.Gathered.{LineEnds};
 
+// How many lines there are: a line begun counts.
+pub fn line_count(lines: &[f64]) -> usize
+    ensures { λ r. ⌜ r ≡ length (probesOf (now (lines .entry))) ⌝ }
+{
+    let n = lines.len();
+    if n % 6 == 0 {
+        return n / 6;
+    }
+    n / 6 + 1
+}
+
 pub fn probe_at(lines: &[f64], k: usize) -> Probe
-    requires { ⌜ k < 4294967296 ⌝ }
+    requires { ⌜ k ≤ 4294967296 ⌝ }
     ensures { λ r. ⌜ r ≡ probeFrom (drop (6 * k) (now (lines .entry))) ⌝ }
 {
     let n = 6 * k;

@@ -1,1 +1,3 @@
 pub mod HitLaws
+pub mod VisitLaws
+pub mod BlockLaws

@@ -1,88 +1,143 @@
-// One line over its axes: of the shapes that two axes leave over the third is asked, and the few that are crossed are found without a branch,
-// sixteen at a time, and gathered as for one line.
+// One line over its axes: of the shapes that two axes leave over the third is asked, sixteen at a time and without a branch, and the few
+// that are crossed are gathered as for one line.
 use cross_axis::Along;
 use cross_cuts::Added;
 use cross_cuts::Met;
 use cross_cuts::Row;
 use cross_shapes::Probe;
 ghost use mathlib.Core.Path.{_≡_};
-ghost use mathlib.Core.Bool.{false};
 ghost use mathlib.Core.List.{List};
-ghost use Prim.Native.Nat.{ℕ, _+_, _<_, _≤_, min};
+ghost use Prim.Native.Nat.{ℕ, _+_, _-_, _<_, _≤_, min};
 ghost use lib.ListN.{length, getD};
-ghost use Rattle.cross_axis.specs.Axes.{Beside};
+ghost use Rattle.word_bits.specs.Words.{Picked};
+ghost use Rattle.cross_axis.specs.Axes.{Fillable, Beside};
+ghost use Rattle.cross_columns.specs.Columns.{cutsIn};
 ghost use Rattle.cross_cuts.specs.Cuts.{Cut, fault};
-ghost use Rattle.cross_cuts.specs.Keys.{cutOf, Going, Ends};
-ghost use Rattle.cross_shapes.specs.Shapes.{faceCut, halfSpaceCut};
-ghost use Rattle.cross_line.specs.Crossing.{shapeCuts};
-ghost use Rattle.cross_hits.specs.Hits.{enters, leaves, hitsAt, Sized, MetAt, Blocked, Crosses, Quiet, Outside, Reached};
+ghost use Rattle.cross_cuts.specs.Keys.{cutOf, Held, Ends};
+ghost use Rattle.cross_shapes.specs.declared.Probe.{Probe};
+ghost use Rattle.cross_shapes.specs.Shapes.{isZero, faceCut, halfSpaceCut};
+ghost use Rattle.cross_hits.specs.Hits.{enters, leaves, levelAt, slantAt, Sized, MetAt, Told, Begun, Crosses, Clear, Reached};
 
-// The axis that stands alone: where its part starts, and the line's numbers on it.
+// The axis that stands alone: where its part starts, and the line's numbers on it; how many shapes there are; and of which sixteens the two
+// other axes leave something over, by bits.
 pub struct Alone {
     pub start: usize,
     pub along: Along,
+    pub shapes: usize,
+    pub left: u64,
 }
 
-// Shapes from one to another, and how many crossings are gathered before them.
+// Shapes from one on, sixteen or fewer; which of them may be crossed, by bits; and how many crossings are gathered before them.
 struct Block {
     start: usize,
-    stop: usize,
+    size: usize,
+    hits: u64,
     count: usize,
 }
 
-fn entered(i: usize, alone: usize, lessers: &[u32; 1024]) -> u32
-    requires { ⌜ (i < 256) × (alone ≤ 512) × (length (now lessers) ≡ 1024) ⌝ }
+fn is_level(alone: Alone) -> bool
+    ensures { λ r. ⌜ r ≡ isZero (alone .along .component) ⌝ }
+{
+    let along = alone.along;
+    cross_shapes::is_zero(along.component)
+}
+
+fn entered(i: usize, alone: Alone, lessers: &[u32; 1024]) -> u32
+    requires { ⌜ (i < 256) × (alone .start ≤ 512) × (length (now lessers) ≡ 1024) ⌝ }
     ensures { λ r. ⌜ r ≡ enters alone (now (lessers .entry)) i ⌝ }
 {
-    let at = alone + i;
+    let at = alone.start + i;
     let together = 768 + i;
+    if is_level(alone) {
+        return cross_shapes::most(0, lessers[together]);
+    }
     cross_shapes::most(lessers[at], lessers[together])
 }
 
-fn left(i: usize, alone: usize, greaters: &[u32; 1024]) -> u32
-    requires { ⌜ (i < 256) × (alone ≤ 512) × (length (now greaters) ≡ 1024) ⌝ }
+fn left(i: usize, alone: Alone, greaters: &[u32; 1024]) -> u32
+    requires { ⌜ (i < 256) × (alone .start ≤ 512) × (length (now greaters) ≡ 1024) ⌝ }
     ensures { λ r. ⌜ r ≡ leaves alone (now (greaters .entry)) i ⌝ }
 {
-    let at = alone + i;
+    let at = alone.start + i;
     let together = 768 + i;
+    if is_level(alone) {
+        return cross_shapes::least(4294967295, greaters[together]);
+    }
     cross_shapes::least(greaters[at], greaters[together])
 }
 
-fn hit(
+fn level_at(
     i: usize,
-    alone: usize,
+    alone: Alone,
+    halves: &[u32; 256],
+    lows: &[f64; 768],
+    highs: &[f64; 768],
+) -> bool
+    requires { ⌜ (i < 256) × (alone .start ≤ 512) × (length (now halves) ≡ 256) ⌝ }
+    requires { ⌜ (length (now lows) ≡ 768) × (length (now highs) ≡ 768) ⌝ }
+    ensures { λ r. ⌜ r ≡ levelAt alone (now (halves .entry)) (now (lows .entry)) (now (highs .entry)) i ⌝ }
+{
+    let along = alone.along;
+    let at = alone.start + i;
+    (halves[i] != 0) | ((lows[at] < along.origin) & (along.origin < highs[at]))
+}
+
+// Of sixteen shapes those between whose faces a level line is, and half-spaces.
+fn level_hits(
+    start: usize,
+    alone: Alone,
+    halves: &[u32; 256],
+    lows: &[f64; 768],
+    highs: &[f64; 768],
+) -> u32
+    requires { ⌜ (start + 16 ≤ 256) × (alone .start ≤ 512) × (length (now halves) ≡ 256) ⌝ }
+    requires { ⌜ (length (now lows) ≡ 768) × (length (now highs) ≡ 768) ⌝ }
+    ensures { λ r. ⌜ Picked (λ c. levelAt alone (now (halves .entry)) (now (lows .entry)) (now (highs .entry)) (start + c)) 16 r ⌝ }
+{
+    let mut bits = 0u32;
+    let mut j = 0usize;
+    while j < 16 {
+        let hit = level_at(start + j, alone, halves, lows, highs);
+        bits = word_bits::with_bit(bits, j, hit);
+        j += 1;
+    }
+    bits
+}
+
+fn slant_at(
+    i: usize,
+    alone: Alone,
     halves: &[u32; 256],
     lessers: &[u32; 1024],
     greaters: &[u32; 1024],
 ) -> bool
-    requires { ⌜ i < 256 ⌝ }
-    requires { ⌜ Sized alone (now halves) (now lessers) (now greaters) ⌝ }
-    ensures { λ r. ⌜ r ≡ hitsAt alone (now (halves .entry)) (now (lessers .entry)) (now (greaters .entry)) i ⌝ }
+    requires { ⌜ (i < 256) × Sized alone (now halves) (now lessers) (now greaters) ⌝ }
+    ensures { λ r. ⌜ r ≡ slantAt alone (now (halves .entry)) (now (lessers .entry)) (now (greaters .entry)) i ⌝ }
 {
     let a = entered(i, alone, lessers);
     let b = left(i, alone, greaters);
     (halves[i] != 0) | (a < b)
 }
 
-// Whether one of sixteen shapes is crossed, or is a half-space.
-fn any_hit(
+// Of sixteen shapes those that are crossed, and half-spaces.
+fn slant_hits(
     start: usize,
-    alone: usize,
+    alone: Alone,
     halves: &[u32; 256],
     lessers: &[u32; 1024],
     greaters: &[u32; 1024],
-) -> bool
-    requires { ⌜ start + 16 ≤ 256 ⌝ }
-    requires { ⌜ Sized alone (now halves) (now lessers) (now greaters) ⌝ }
-    ensures { λ r. ⌜ (r ≡ false → Quiet alone (now (halves .entry)) (now (lessers .entry)) (now (greaters .entry)) start (start + 16)) ⌝ }
+) -> u32
+    requires { ⌜ (start + 16 ≤ 256) × Sized alone (now halves) (now lessers) (now greaters) ⌝ }
+    ensures { λ r. ⌜ Picked (λ c. slantAt alone (now (halves .entry)) (now (lessers .entry)) (now (greaters .entry)) (start + c)) 16 r ⌝ }
 {
-    let mut any = false;
+    let mut bits = 0u32;
     let mut j = 0usize;
     while j < 16 {
-        any = any | hit(start + j, alone, halves, lessers, greaters);
+        let hit = slant_at(start + j, alone, halves, lessers, greaters);
+        bits = word_bits::with_bit(bits, j, hit);
         j += 1;
     }
-    any
+    bits
 }
 
 // A face that lies across an axis, with its position worked out as those of boxes are.
@@ -94,23 +149,25 @@ fn face_met(face: f64, origin: f64, component: f64) -> Met
     }
     let p = cross_positions::distance_to(face, origin, component);
     if cross_quick::within(p) {
-        let mark = cross_quick::mark_of_nearest(p);
-        return Met::Once(0.0 < component, mark);
+        let rank = cross_quick::rank_of_nearest(p);
+        return Met::Once(0.0 < component, rank);
     }
     Met::Fault
 }
 
-fn half_met(probe: Probe, axis: u8, face: f64) -> Met
-    ensures { λ r. ⌜ cutOf r ≡ halfSpaceCut probe axis face ⌝ }
+// A half-space by its axis, 1 more.
+fn half_met(probe: Probe, half: u32, face: f64) -> Met
+    requires { ⌜ 0 < half ⌝ }
+    ensures { λ r. ⌜ cutOf r ≡ halfSpaceCut probe (half - 1) face ⌝ }
 {
     if cross_shapes::is_finite(face) {
-        if axis == 0 {
+        if half == 1 {
             return face_met(face, probe.ox, probe.dx);
         }
-        if axis == 1 {
+        if half == 2 {
             return face_met(face, probe.oy, probe.dy);
         }
-        if axis == 2 {
+        if half == 3 {
             return face_met(face, probe.oz, probe.dz);
         }
     }
@@ -120,17 +177,15 @@ fn half_met(probe: Probe, axis: u8, face: f64) -> Met
 // What is met of shape i.
 fn met_at(
     probe: Probe,
-    kinds: &[u8],
-    numbers: &[f64],
     i: usize,
-    alone: usize,
+    alone: Alone,
     halves: &[u32; 256],
+    lows: &[f64; 768],
     lessers: &[u32; 1024],
     greaters: &[u32; 1024],
 ) -> Met
-    requires { ⌜ (i < length (now kinds)) × (i < 256) × Sized alone (now halves) (now lessers) (now greaters) ⌝ }
-    requires { ⌜ MetAt (shapeCuts probe (now kinds) (now numbers)) (now kinds) alone (now halves) (now lessers) (now greaters) i ⌝ }
-    ensures { λ r. ⌜ cutOf r ≡ getD (shapeCuts probe (now (kinds .entry)) (now (numbers .entry))) i fault ⌝ }
+    requires { ⌜ (i < 256) × (length (now lows) ≡ 768) × Sized alone (now halves) (now lessers) (now greaters) ⌝ }
+    ensures { λ r. ⌜ ((cuts : List Cut) → MetAt probe cuts alone (now (halves .entry)) (now (lows .entry)) (now (lessers .entry)) (now (greaters .entry)) i → cutOf r ≡ getD cuts i fault) ⌝ }
 {
     if halves[i] == 0 {
         let a = entered(i, alone, lessers);
@@ -140,112 +195,98 @@ fn met_at(
         }
         return Met::Never(false);
     }
-    half_met(probe, kinds[i], cross_line::number_at(numbers, 6 * i))
+    half_met(probe, halves[i], lows[i])
 }
 
-// Shapes that are not crossed start outside: sixteen of them, or fewer at the end, past which no byte is looked at.
-fn skip(start: usize, bytes: &mut [u8])
-    requires { ⌜ (start + 16 ≤ 256) × (length (now bytes) ≡ 256) ⌝ }
-    ensures { λ r. ⌜ ((cuts : List Cut) (keys : List ℕ) (m stop : ℕ) → start ≤ stop → stop ≤ start + 16 → Going 16 cuts (now (bytes .entry)) keys start m → Outside cuts start stop → Going 16 cuts (now (bytes .exit)) keys stop m) ⌝ }
-{
-    let mut j = 0usize;
-    while j < 16 {
-        let i = start + j;
-        bytes[i] = 0;
-        j += 1;
-    }
-}
-
-// Gathers the shapes of a block.
+// Gathers the shapes of a block that may be crossed.
 fn visit(
     probe: Probe,
-    kinds: &[u8],
-    numbers: &[f64],
     block: Block,
-    alone: usize,
+    alone: Alone,
     halves: &[u32; 256],
+    lows: &[f64; 768],
     lessers: &[u32; 1024],
     greaters: &[u32; 1024],
     bytes: &mut [u8],
     keys: &mut [u64],
 ) -> Row
-    requires { ⌜ (block .start ≤ block .stop) × ((block .stop ≤ length (now kinds)) × (block .stop ≤ 256)) ⌝ }
-    requires { ⌜ Blocked (shapeCuts probe (now kinds) (now numbers)) (now kinds) alone (now halves) (now lessers) (now greaters) (block .start) (block .stop) ⌝ }
-    requires { ⌜ Going 16 (shapeCuts probe (now kinds) (now numbers)) (now bytes) (now keys) (block .start) (block .count) ⌝ }
-    ensures { λ r. ⌜ Reached (shapeCuts probe (now (kinds .entry)) (now (numbers .entry))) (now (bytes .exit)) (now (keys .exit)) (block .stop) r ⌝ }
+    requires { ⌜ (block .start + block .size ≤ 256) × (length (now lows) ≡ 768) × Sized alone (now halves) (now lessers) (now greaters) ⌝ }
+    requires { ⌜ Held (now bytes) (now keys) (block .start) (block .count) ⌝ }
+    ensures { λ r. ⌜ ((cuts : List Cut) → Begun probe cuts alone (now (halves .entry)) (now (lows .entry)) (now (lessers .entry)) (now (greaters .entry)) (now (bytes .entry)) (now (keys .entry)) block
+        → Reached cuts (now (halves .entry)) (now (bytes .exit)) (now (keys .exit)) (block .start + block .size) r) ⌝ }
+    ensures { λ _. ⌜ (length (now (bytes .exit)) ≡ 256) × (length (now (keys .exit)) ≡ 512) ⌝ }
 {
-    let stop = block.stop;
-    let mut i = block.start;
+    let mut rest = block.hits;
     let mut m = block.count;
-    while i < stop {
-        let met = met_at(probe, kinds, numbers, i, alone, halves, lessers, greaters);
+    while rest != 0 {
+        let c = word_bits::lowest(rest);
+        if block.size <= c {
+            return Row::Count(m);
+        }
+        let i = block.start + c;
+        let met = met_at(probe, i, alone, halves, lows, lessers, greaters);
         match cross_cuts::add(met, i, m, bytes, keys) {
             Added::Fault => {
                 return Row::Fault(i);
             }
             Added::Count(n) => {
                 m = n;
-                i += 1;
+                rest = word_bits::others(rest);
             }
         }
     }
     Row::Count(m)
 }
 
-fn stop_of(start: usize, n: usize) -> usize
-    requires { ⌜ start < 256 ⌝ }
-    ensures { λ r. ⌜ r ≡ min (start + 16) n ⌝ }
+// How many shapes there are from start on, sixteen at most.
+fn size_from(start: usize, shapes: usize) -> usize
+    requires { ⌜ start ≤ shapes ⌝ }
+    ensures { λ r. ⌜ r ≡ min 16 (shapes - start) ⌝ }
 {
-    if start + 16 < n {
-        return start + 16;
+    let size = shapes - start;
+    if size < 16 {
+        return size;
     }
-    n
+    16
 }
 
-// The shapes of a block in which some are left over.
+// Which of the shapes from start on may be crossed, by what the third axis says.
 fn ask(
-    probe: Probe,
-    kinds: &[u8],
-    numbers: &[f64],
-    block: Block,
-    alone: usize,
+    start: usize,
+    alone: Alone,
     halves: &[u32; 256],
-    lessers: &[u32; 1024],
-    greaters: &[u32; 1024],
-    bytes: &mut [u8],
-    keys: &mut [u64],
-) -> Row
-    requires { ⌜ (block .start + 16 ≤ 256) × ((block .start ≤ block .stop) × ((block .stop ≤ block .start + 16) × (block .stop ≤ length (now kinds)))) ⌝ }
-    requires { ⌜ Blocked (shapeCuts probe (now kinds) (now numbers)) (now kinds) alone (now halves) (now lessers) (now greaters) (block .start) (block .stop) ⌝ }
-    requires { ⌜ Going 16 (shapeCuts probe (now kinds) (now numbers)) (now bytes) (now keys) (block .start) (block .count) ⌝ }
-    ensures { λ r. ⌜ Reached (shapeCuts probe (now (kinds .entry)) (now (numbers .entry))) (now (bytes .exit)) (now (keys .exit)) (block .stop) r ⌝ }
-    ensures { λ _. ⌜ (length (now (bytes .exit)) ≡ 256) × (length (now (keys .exit)) ≡ 512) ⌝ }
+    lows: &[f64; 768],
+    highs: &[f64; 768],
+    lessers: &mut [u32; 1024],
+    greaters: &mut [u32; 1024],
+) -> u32
+    requires { ⌜ (start + 16 ≤ 256) × (start ≤ alone .shapes) × Sized alone (now halves) (now lessers) (now greaters) ⌝ }
+    requires { ⌜ Fillable (alone .start + start) (alone .start + start + min 16 (alone .shapes - start)) (alone .along) (now lows) (now highs) (now lessers) (now greaters) ⌝ }
+    ensures { λ r. ⌜ ((probe : Probe) (cuts : List Cut) (masks : List ℕ) → Crosses probe cuts (now (lows .entry)) (now (highs .entry)) alone masks (now (halves .entry)) (now (lessers .entry)) (now (greaters .entry))
+        → Told probe cuts alone (now (halves .entry)) (now (lows .entry)) (now (lessers .exit)) (now (greaters .exit)) start (min 16 (alone .shapes - start)) r) ⌝ }
+    ensures { λ _. ⌜ Beside (alone .start) (alone .start + 256) (now (lessers .entry)) (now (lessers .exit)) × Beside (alone .start) (alone .start + 256) (now (greaters .entry)) (now (greaters .exit)) ⌝ }
 {
-    if any_hit(block.start, alone, halves, lessers, greaters) {
-        return visit(
-            probe,
-            kinds,
-            numbers,
-            block,
-            alone,
-            halves,
-            lessers,
-            greaters,
-            bytes,
-            keys,
-        );
+    if is_level(alone) {
+        return level_hits(start, alone, halves, lows, highs);
     }
-    skip(block.start, bytes);
-    Row::Count(block.count)
+    let size = size_from(start, alone.shapes);
+    cross_axis::fill_slant(
+        alone.start + start,
+        size,
+        alone.along,
+        lows,
+        highs,
+        lessers,
+        greaters,
+    );
+    slant_hits(start, alone, halves, lessers, greaters)
 }
 
 // All the shapes of one line, as cross_line::gather gives them.
 pub fn gather(
     probe: Probe,
-    kinds: &[u8],
-    numbers: &[f64],
     alone: Alone,
-    left: &[u8; 16],
+    masks: &[u32; 16],
     halves: &[u32; 256],
     lows: &[f64; 768],
     highs: &[f64; 768],
@@ -254,43 +295,32 @@ pub fn gather(
     bytes: &mut [u8],
     keys: &mut [u64],
 ) -> Row
-    requires { ⌜ (length (now kinds) ≤ 256) × ((length (now bytes) ≡ 256) × (length (now keys) ≡ 512)) ⌝ }
-    requires { ⌜ Crosses (shapeCuts probe (now kinds) (now numbers)) (now kinds) (now lows) (now highs) alone (now left) (now halves) (now lessers) (now greaters) ⌝ }
-    ensures { λ r. ⌜ Ends 16 (shapeCuts probe (now (kinds .entry)) (now (numbers .entry))) (now (bytes .exit)) (now (keys .exit)) r ⌝ }
+    requires { ⌜ (length (now bytes) ≡ 256) × (length (now keys) ≡ 512) × Clear (now halves) (now bytes) 0 (alone .shapes) ⌝ }
+    requires { ⌜ Crosses probe (cutsIn probe (alone .shapes) (now lows) (now highs) (now halves)) (now lows) (now highs) alone (now masks) (now halves) (now lessers) (now greaters) ⌝ }
+    ensures { λ r. ⌜ Ends 16 (cutsIn probe (alone .shapes) (now (lows .entry)) (now (highs .entry)) (now (halves .entry))) (now (bytes .exit)) (now (keys .exit)) r ⌝ }
     ensures { λ _. ⌜ Beside (alone .start) (alone .start + 256) (now (lessers .entry)) (now (lessers .exit)) × Beside (alone .start) (alone .start + 256) (now (greaters .entry)) (now (greaters .exit)) ⌝ }
 {
-    let n = kinds.len();
-    let mut start = 0usize;
+    let mut rest = alone.left;
     let mut m = 0usize;
-    while start < n {
-        let stop = stop_of(start, n);
-        let b = start / 16;
-        if left[b] == 0 {
-            skip(start, bytes);
-            start += 16;
-            continue;
+    while rest != 0 {
+        let b = word_bits::lowest(rest);
+        let start = 16 * b;
+        if alone.shapes <= start {
+            return Row::Count(m);
         }
-        cross_axis::fill(
-            alone.start + start,
-            stop - start,
-            alone.along,
-            lows,
-            highs,
-            lessers,
-            greaters,
-        );
+        let asked = ask(start, alone, halves, lows, highs, lessers, greaters);
         let block = Block {
-            start: start,
-            stop: stop,
+            start,
+            size: size_from(start, alone.shapes),
+            hits: basics::long_word(asked & masks[b]),
             count: m,
         };
-        match ask(
+        match visit(
             probe,
-            kinds,
-            numbers,
             block,
-            alone.start,
+            alone,
             halves,
+            lows,
             lessers,
             greaters,
             bytes,
@@ -301,7 +331,7 @@ pub fn gather(
             }
             Row::Count(k) => {
                 m = k;
-                start += 16;
+                rest = word_bits::others(rest);
             }
         }
     }

@@ -1,27 +1,27 @@
--- What is kept from line to line: which axis stands alone, two axes filled and put together, and the parts of the marks that stay.
-use mathlib.Core.Path.{_≡_, refl, sym, _∙_, subst}
+-- What is kept from line to line: which axis stands alone, two axes filled and put together, and the parts of the ranks that stay.
+use mathlib.Core.Path.{_≡_, refl, sym, ap, _∙_, subst}
 use mathlib.Core.Bool.{Bool, true, false, cond, not, _&&_, _||_, true≢false, and-eq-true-iff}
 use mathlib.Core.List.{List}
 use mathlib.Core.Logic.{_≢_}
-use Prim.Native.Nat.{ℕ, _+_, _*_, _/_, _<_, _≤_, min, max}
+use Prim.Native.Nat.{ℕ, _+_, _-_, _*_, _/_, _%_, _<_, _≤_, min, max}
 use native.Mathlib.Omega.{arith}
 use lib.Dec.{eqb, ltb}
-use borrow.Author.Tests.{eqb-true, eqb-false, ne-eqb}
+use borrow.Author.Tests.{eqb-true, eqb-false, eq-eqb, ne-eqb, ltb-true, ltb-false}
 use lib.ListN.{length, getD, set, length-set}
 use lib.Seq.{getD-set-same, getD-set-other}
-use lib.Ieee.{Float, ofBits, binary64}
-use Rattle.cross_cuts.specs.Keys.{Ends}
-use Rattle.cross_cuts.specs.declared.Row.{Row}
+use lib.Ieee.{Float, nan, ofBits, binary64}
+use Rattle.word_bits.specs.Words.{bit, WithBit, Picked}
+use Rattle.word_bits.proofs.Digits.{bit-none}
 use Rattle.cross_shapes.specs.Shapes.{finite}
 use Rattle.cross_shapes.specs.declared.Probe.{Probe}
-use Rattle.cross_line.specs.Crossing.{goodProbe, shapeCuts}
+use Rattle.cross_line.specs.Crossing.{goodProbe}
 use Rattle.cross_line.proofs.ProbeLaws.{origin-x, origin-y, origin-z, direction-x, direction-y, direction-z}
-use Rattle.cross_columns.specs.Columns.{Columns}
-use Rattle.cross_axis.specs.Axes.{Sized, Said, Beside, Filled, SameNumbers}
+use Rattle.cross_columns.specs.Columns.{FiniteFaces}
+use Rattle.cross_axis.specs.Axes.{Sized, FiniteAlong, Fillable, Said, Beside, Filled, SameNumbers}
 use Rattle.cross_axis.specs.declared.Along.{Along}
 use Rattle.cross_axis.proofs.AxisLaws.{beside-starts}
-use Rattle.cross_kept.specs.Keeping.{IsAxis, x-axis, y-axis, z-axis, first, second, alongAt, AxisStill, keptOn, Stay, FiniteAlong, Numbers, Own, Seen, Joined, Paired, remains, Idle, IdleUnless, Leaves, TwoSaid, Pairs, Marked, Together, Drawing, NothingKept, LineKept}
-use Rattle.cross_kept.specs.declared.Axes.{Axes}
+use Rattle.cross_kept.specs.Keeping.{IsAxis, x-axis, y-axis, z-axis, first, second, alongOf, AxisStill, Serves, Joined, Paired, remains, Leaves, Ranked, CanPair, Followable, Follows, NothingKept}
+use Rattle.cross_kept.specs.declared.Kept.{Kept}
 
 -- ---- before the first line
 zero-finite : finite (ofBits binary64 0) ≡ true
@@ -31,24 +31,19 @@ zero-finite = refl
 abbrev nothing : Along
 nothing = record { origin = ofBits binary64 0; component = ofBits binary64 0 }
 
-pub none-kept : (sound : Bool) → NothingKept sound (record { x = nothing; y = nothing; z = nothing; alone = 0; paired = false; sound = sound })
-none-kept sound =
-    let f : FiniteAlong nothing = (zero-finite, zero-finite) in
-    record { is-sound = refl; numbers = record { x = f; y = f; z = f }; axis = x-axis; apart = refl }
+pub none-kept : (shapes : ℕ) (masks : List ℕ) → NothingKept shapes (record { one = nothing; other = nothing; alone = 0; shapes = shapes; left = 0; masks = masks; paired = false })
+none-kept shapes masks =
+    let f : FiniteAlong nothing = record { origin = zero-finite; component = zero-finite } in
+    record { shapes-are = refl; numbers = record { one = f; other = f }; axis = x-axis; apart = refl }
 
-pub drawing-starts : (kinds : List ℕ) (numbers : List Float) (sound : Bool) (axes : Axes) (lows highs : List Float) (halves left lessers greaters : List ℕ) → length kinds ≤ 256
-    → Columns kinds numbers (length kinds) lows highs halves sound → NothingKept sound axes → length left ≡ 16 → length lessers ≡ 1024 → length greaters ≡ 1024 → Drawing kinds numbers axes lows highs halves left lessers greaters
-drawing-starts kinds numbers sound axes lows highs halves left lessers greaters few columns none w l g = record {
-  columns = subst (λ (s : Bool). Columns kinds numbers (length kinds) lows highs halves s) (sym (none .is-sound)) columns;
-  marked = record {
-    few = few;
-    sized = record { lows-length = columns .sized .lows-length; highs-length = columns .sized .highs-length; lessers-length = l; greaters-length = g };
-    halves-length = columns .sized .halves-length;
-    left-length = w;
-    numbers = none .numbers;
-    axis = none .axis;
-    pairs = λ h. absurd (true≢false (sym h ∙ none .apart));
-  };
+pub ranked-starts : (shapes : ℕ) (kept : Kept) (halves : List ℕ) (lows highs : List Float) (lessers greaters : List ℕ) → shapes ≤ 256 → NothingKept shapes kept → length halves ≡ 256 → Sized lows highs lessers greaters → Ranked kept halves lows highs lessers greaters
+ranked-starts shapes kept halves lows highs lessers greaters few none h s = record {
+  few = omega (arith, none .shapes-are);
+  halves-length = h;
+  sized = s;
+  numbers = none .numbers;
+  axis = none .axis;
+  pairs = λ p. absurd (true≢false (sym p ∙ none .apart));
 }
 
 -- ---- which axis stands alone
@@ -76,96 +71,54 @@ second-is alone e = rw e refl
 pub second-else : (alone : ℕ) → alone ≢ 512 → 512 ≡ second alone
 second-else alone n = rw (ne-eqb alone 512 n) refl
 
-pub along-x : (axes : Axes) (start : ℕ) → start ≡ 0 → axes .x ≡ alongAt axes start
-along-x axes start e = rw e refl
+pub along-x : (probe : Probe) (start : ℕ) → start ≡ 0 → record { origin = probe .ox; component = probe .dx } ≡ alongOf probe start
+along-x probe start e = rw e refl
 
-pub along-y : (axes : Axes) (start : ℕ) → start ≢ 0 → start ≡ 256 → axes .y ≡ alongAt axes start
-along-y axes start n e = rw e refl
+pub along-y : (probe : Probe) (start : ℕ) → start ≢ 0 → start ≡ 256 → record { origin = probe .oy; component = probe .dy } ≡ alongOf probe start
+along-y probe start n e = rw e refl
 
-pub along-z : (axes : Axes) (start : ℕ) → start ≢ 0 → start ≢ 256 → axes .z ≡ alongAt axes start
-along-z axes start n m = rw (ne-eqb start 0 n, ne-eqb start 256 m) refl
+pub along-z : (probe : Probe) (start : ℕ) → start ≢ 0 → start ≢ 256 → record { origin = probe .oz; component = probe .dz } ≡ alongOf probe start
+along-z probe start n m = rw (ne-eqb start 0 n, ne-eqb start 256 m) refl
 
-module _ (start : ℕ) (x y z : Bool) where
-  pub kept-x : start ≡ 0 → x ≡ keptOn start x y z
-  kept-x e = rw e refl
-
-  pub kept-y : start ≢ 0 → start ≡ 256 → y ≡ keptOn start x y z
-  kept-y n e = rw e refl
-
-  pub kept-z : start ≢ 0 → start ≢ 256 → z ≡ keptOn start x y z
-  kept-z n m = rw (ne-eqb start 0 n, ne-eqb start 256 m) refl
-
--- what stayed on an axis is the same number as before
-along-stays : (axes r : Axes) (start : ℕ) (x y z : Bool) → (x ≡ true → axes .x ≡ r .x) → (y ≡ true → axes .y ≡ r .y) → (z ≡ true → axes .z ≡ r .z) → keptOn start x y z ≡ true → alongAt axes start ≡ alongAt r start
-along-stays axes r start x y z f g h = by (eqb start 0) (eqb start 256)
+along-finite : (probe : Probe) → goodProbe probe ≡ true → (start : ℕ) → FiniteAlong (alongOf probe start)
+along-finite probe good start = by (eqb start 0) (eqb start 256)
   where
-    by : (s t : Bool) → cond s x (cond t y z) ≡ true → cond s (axes .x) (cond t (axes .y) (axes .z)) ≡ cond s (r .x) (cond t (r .y) (r .z))
-    by true t e = f e
-    by false true e = g e
-    by false false e = h e
+    by : (s t : Bool) → FiniteAlong (cond s (record { origin = probe .ox; component = probe .dx }) (cond t (record { origin = probe .oy; component = probe .dy }) (record { origin = probe .oz; component = probe .dz })))
+    by true t = record { origin = origin-x probe good; component = direction-x probe good }
+    by false true = record { origin = origin-y probe good; component = direction-y probe good }
+    by false false = record { origin = origin-z probe good; component = direction-z probe good }
 
-pub stay-together : (before alone : ℕ) (x y z : Bool) (one other : ℕ) → one ≡ first alone → other ≡ second alone → (p q : Bool) → p ≡ keptOn one x y z → q ≡ keptOn other x y z → Stay before alone x y z (eqb alone before && (p && q))
-stay-together before alone x y z one other e f p q ep eq = record {
-  same = λ h. eqb-true alone before (and-eq-true-iff (eqb alone before) (p && q) .0 h .0);
-  one = λ h. subst (λ (s : ℕ). keptOn s x y z ≡ true) e (sym ep ∙ and-eq-true-iff p q .0 (and-eq-true-iff (eqb alone before) (p && q) .0 h .1) .0);
-  other = λ h. subst (λ (s : ℕ). keptOn s x y z ≡ true) f (sym eq ∙ and-eq-true-iff p q .0 (and-eq-true-iff (eqb alone before) (p && q) .0 h .1) .1);
+pub finite-along : (probe : Probe) → goodProbe probe ≡ true → (a : Along) (start : ℕ) → a ≡ alongOf probe start → FiniteAlong a
+finite-along probe good a start e = rw e (along-finite probe good start)
+
+-- ---- what is kept serves another line
+pub serves-is : (probe : Probe) (kept : Kept) (one other : ℕ) → one ≡ first (kept .alone) → other ≡ second (kept .alone) → (a b : Along) → a ≡ alongOf probe one → b ≡ alongOf probe other → (p q : Bool)
+    → SameNumbers (kept .one) a p → SameNumbers (kept .other) b q → Serves probe kept (kept .paired && (p && q))
+serves-is probe kept one other e f a b ea eb p q sp sq = record {
+  paired = λ h. all h .0;
+  one = λ h. sp .are (two h .0) ∙ (ea ∙ ap (alongOf probe) e);
+  other = λ h. sq .are (two h .1) ∙ (eb ∙ ap (alongOf probe) f);
 }
+  where
+    all : (kept .paired && (p && q)) ≡ true → (kept .paired ≡ true) × ((p && q) ≡ true)
+    all h = and-eq-true-iff (kept .paired) (p && q) .0 h
 
-module _ (probe : Probe) (good : goodProbe probe ≡ true) (axes : Axes) (x y z : Bool) (alone : ℕ) where
-  abbrev along-of-x : Along
-  along-of-x = record { origin = probe .ox; component = probe .dx }
+    two : (kept .paired && (p && q)) ≡ true → (p ≡ true) × (q ≡ true)
+    two h = and-eq-true-iff p q .0 (all h .1)
 
-  abbrev along-of-y : Along
-  along-of-y = record { origin = probe .oy; component = probe .dy }
+module _ {probe : Probe} {kept : Kept} {halves : List ℕ} {lows highs : List Float} {lessers greaters : List ℕ} (can : Followable probe kept halves lows highs lessers greaters) where
+  pub serves-follows : (r : Bool) → Serves probe kept r → r ≡ true → Follows probe (kept .shapes) halves lows highs lessers greaters kept
+  serves-follows r serves h = record { shapes-still = refl; one = serves .one h; other = serves .other h; paired = serves .paired h; ranked = can .ranked }
 
-  abbrev along-of-z : Along
-  along-of-z = record { origin = probe .oz; component = probe .dz }
-
-  module _ (fx : SameNumbers (axes .x) along-of-x x) (fy : SameNumbers (axes .y) along-of-y y) (fz : SameNumbers (axes .z) along-of-z z) (axis : AxisStill (axes .alone) alone)
-      (still : Bool) (stay : Stay (axes .alone) alone x y z still) where
-    abbrev now-seen : Axes
-    now-seen = record { x = along-of-x; y = along-of-y; z = along-of-z; alone = alone; paired = axes .paired && still; sound = axes .sound }
-
-    parts : now-seen .paired ≡ true → (axes .paired ≡ true) × (still ≡ true)
-    parts h = and-eq-true-iff (axes .paired) still .0 h
-
-    pub seen-now : Seen probe axes now-seen
-    seen-now = record {
-      own = record { x = refl; y = refl; z = refl };
-      numbers = record { x = (origin-x probe good, direction-x probe good); y = (origin-y probe good, direction-y probe good); z = (origin-z probe good, direction-z probe good) };
-      axis = axis .is;
-      sound-still = refl;
-      were = λ h. parts h .0;
-      same = λ h. stay .same (parts h .1);
-      first-still = λ h. along-stays axes now-seen (first alone) x y z (fx .are) (fy .are) (fz .are) (stay .one (parts h .1));
-      second-still = λ h. along-stays axes now-seen (second alone) x y z (fx .are) (fy .are) (fz .are) (stay .other (parts h .1));
-    }
-
-module _ {shapes : ℕ} {probe : Probe} {axes r : Axes} {lows highs : List Float} {halves left l g : List ℕ} where
-  -- nothing of the marks has changed yet
-  pub marked-seen : Marked shapes axes lows highs halves left l g → Seen probe axes r → Marked shapes r lows highs halves left l g
-  marked-seen m s = record {
-    few = m .few;
-    sized = m .sized;
-    halves-length = m .halves-length;
-    left-length = m .left-length;
-    numbers = s .numbers;
-    axis = s .axis (m .axis);
-    pairs = λ h.
-        let p = m .pairs (s .were h) in
-        let e = s .same h in
-        record {
-          said-first = subst (λ (a : Along). Said lows highs (first (r .alone)) (first (r .alone) + shapes) a l g) (s .first-still h)
-              (subst (λ (a : ℕ). Said lows highs (first a) (first a + shapes) (alongAt axes (first a)) l g) (sym e) (p .said-first));
-          said-second = subst (λ (a : Along). Said lows highs (second (r .alone)) (second (r .alone) + shapes) a l g) (s .second-still h)
-              (subst (λ (a : ℕ). Said lows highs (second a) (second a + shapes) (alongAt axes (second a)) l g) (sym e) (p .said-second));
-          joined = subst (λ (a : ℕ). Joined (first a) (second a) shapes l g) (sym e) (p .joined);
-          leaves = p .leaves;
-        };
+  pub can-pair : (alone : ℕ) → AxisStill (kept .alone) alone → CanPair probe alone (kept .shapes) halves lows highs lessers greaters
+  can-pair alone still = record {
+    good = can .good;
+    axis = still .is (can .ranked .axis);
+    few = can .ranked .few;
+    halves-length = can .ranked .halves-length;
+    sized = can .ranked .sized;
+    faces = can .faces;
   }
-
-pub still-together : {axes : Axes} → axes .paired ≡ true → Together axes axes
-still-together h = record { x = refl; y = refl; z = refl; paired = h; sound = refl }
 
 -- ---- two axes put together
 pub record Pairing (one other i : ℕ) (old-lessers old-greaters lessers greaters : List ℕ) : Type 0 where
@@ -177,19 +130,19 @@ pub record Pairing (one other i : ℕ) (old-lessers old-greaters lessers greater
 pub pairing-starts : {one other : ℕ} {lessers greaters : List ℕ} → Pairing one other 0 lessers greaters lessers greaters
 pairing-starts = record { lessers-beside = beside-starts; greaters-beside = beside-starts; lesser = λ j h. absurd (omega arith); greater = λ j h. absurd (omega arith) }
 
--- one list of marks, with what is to stand at each
-put-more : (value : ℕ → ℕ) (marks : List ℕ) (i v : ℕ) → length marks ≡ 1024 → i < 256 → v ≡ value i → ((j : ℕ) → j < i → getD marks (768 + j) 0 ≡ value j)
-    → (j : ℕ) → j < i + 1 → getD (set marks (768 + i) v) (768 + j) 0 ≡ value j
-put-more value marks i v long inside e before j less = go (eqb j i) refl
+-- one list of ranks, with what is to stand at each
+put-more : (value : ℕ → ℕ) (ranks : List ℕ) (i v : ℕ) → length ranks ≡ 1024 → i < 256 → v ≡ value i → ((j : ℕ) → j < i → getD ranks (768 + j) 0 ≡ value j)
+    → (j : ℕ) → j < i + 1 → getD (set ranks (768 + i) v) (768 + j) 0 ≡ value j
+put-more value ranks i v long inside e before j less = go (eqb j i) refl
   where
-    go : (t : Bool) → eqb j i ≡ t → getD (set marks (768 + i) v) (768 + j) 0 ≡ value j
+    go : (t : Bool) → eqb j i ≡ t → getD (set ranks (768 + i) v) (768 + j) 0 ≡ value j
     go true q =
         let s : j ≡ i = eqb-true j i q in
-        rw s (getD-set-same marks (768 + i) v 0 (omega arith) ∙ e)
+        rw s (getD-set-same ranks (768 + i) v 0 (omega arith) ∙ e)
     go false q =
         let n : j ≢ i = eqb-false j i q in
         let d : 768 + j ≢ 768 + i = λ t. n (omega arith) in
-        getD-set-other marks (768 + i) (768 + j) v 0 d ∙ before j (omega arith)
+        getD-set-other ranks (768 + i) (768 + j) v 0 d ∙ before j (omega arith)
 
 beside-put : {old new : List ℕ} (i v : ℕ) → Beside 768 1024 old new → i < 256 → Beside 768 1024 old (set new (768 + i) v)
 beside-put {old} {new} i v b h = record {
@@ -228,52 +181,68 @@ module _ {one other shapes i : ℕ} {old-lessers old-greaters lessers greaters :
   }
 
 -- ---- what remains
-module _ {halves lessers greaters : List ℕ} (start : ℕ) where
-  pub idle-starts : {any : Bool} → IdleUnless any halves lessers greaters start (start + 0)
-  idle-starts = record { idle = λ e. record { none = λ j h k. absurd (omega arith) } }
-
-  pub idle-turn : (j : ℕ) (any w : Bool) → IdleUnless any halves lessers greaters start (start + j) → w ≡ remains halves lessers greaters (start + j) → IdleUnless (any || w) halves lessers greaters start (start + (j + 1))
-  idle-turn j any w before says = record { idle = λ e. record { none = λ k h l. go e k h l (eqb k (start + j)) refl } }
-    where
-      neither : (s t : Bool) → (s || t) ≡ false → (s ≡ false) × (t ≡ false)
-      neither true t e = absurd (true≢false e)
-      neither false t e = (refl, e)
-
-      go : (any || w) ≡ false → (k : ℕ) → start ≤ k → k < start + (j + 1) → (t : Bool) → eqb k (start + j) ≡ t → remains halves lessers greaters k ≡ false
-      go e k h l true q =
-          let s : k ≡ start + j = eqb-true k (start + j) q in
-          subst (λ (k : ℕ). remains halves lessers greaters k ≡ false) (sym s) (sym says ∙ neither any w e .1)
-      go e k h l false q =
-          let d : k ≢ start + j = eqb-false k (start + j) q in
-          let u : k < start + j = omega (arith, d) in
-          before .idle (neither any w e .0) .none k h u
-
-  pub idle-ends : (j : ℕ) (any : Bool) → j ≤ 16 → 16 ≤ j → IdleUnless any halves lessers greaters start (start + j) → IdleUnless any halves lessers greaters start (start + 16)
-  idle-ends j any h k before = let s : j ≡ 16 = omega arith in subst (λ (j : ℕ). IdleUnless any halves lessers greaters start (start + j)) s before
+pub record Leaving (halves lessers greaters masks : List ℕ) (left b : ℕ) : Type 0 where
+  pub long : length masks ≡ 16
+  pub over : (i : ℕ) → i < 16 * b → bit (getD masks (i / 16) 0) (i % 16) ≡ remains halves lessers greaters i
+  pub none : (i : ℕ) → i < 16 * b → bit left (i / 16) ≡ false → remains halves lessers greaters i ≡ false
+  pub high : (c : ℕ) → b ≤ c → c < 32 → bit left c ≡ false
 
 module _ {halves lessers greaters : List ℕ} where
-  pub leaves-start : {left : List ℕ} → length left ≡ 16 → Leaves halves lessers greaters left 0
-  leaves-start long = record { long = long; idle = λ b h. absurd (omega arith) }
+  pub leaving-starts : {masks : List ℕ} → length masks ≡ 16 → Leaving halves lessers greaters masks 0 0
+  leaving-starts long = record { long = long; over = λ i h. absurd (omega arith); none = λ i h. absurd (omega arith); high = λ c h l. bit-none c }
 
-  pub leaves-on : {left : List ℕ} (b v : ℕ) (any : Bool) → b < 16 → Leaves halves lessers greaters left b → v ≡ cond any 1 0 → IdleUnless any halves lessers greaters (16 * b) (16 * b + 16) → Leaves halves lessers greaters (set left b v) (b + 1)
-  leaves-on {left} b v any inside before e idle = record { long = length-set left b v ∙ before .long; idle = λ k h z. go k h z (eqb k b) refl }
-    where
-      none : (any : Bool) → _≡_ {A = ℕ} (cond any 1 0) 0 → any ≡ false
-      none true h = absurd (omega arith)
-      none false h = refl
+  module _ {masks : List ℕ} {left b : ℕ} (at : Leaving halves lessers greaters masks left b) (inside : b < 16) (v : ℕ) (picked : Picked (λ c. remains halves lessers greaters (16 * b + c)) 16 v)
+      {r : ℕ} (put : WithBit left b (not (eqb v 0)) r) where
+    here : (i : ℕ) → 16 * b ≤ i → i < 16 * (b + 1) → (i / 16 ≡ b) × (remains halves lessers greaters i ≡ bit v (i % 16))
+    here i h l =
+        let q : i / 16 ≡ b = omega arith in
+        let e : 16 * b + i % 16 ≡ i = omega arith in
+        (q, sym (picked .are (i % 16) (omega arith) ∙ ap (λ (k : ℕ). remains halves lessers greaters k) e))
 
-      go : (k : ℕ) → k < b + 1 → getD (set left b v) k 0 ≡ 0 → (t : Bool) → eqb k b ≡ t → Idle halves lessers greaters (16 * k) (16 * k + 16)
-      go k h z true q =
-          let s : k ≡ b = eqb-true k b q in
-          let m : b < length left = omega (arith, before .long) in
-          let y : getD (set left b v) b 0 ≡ 0 = subst (λ (k : ℕ). getD (set left b v) k 0 ≡ 0) s z in
-          subst (λ (k : ℕ). Idle halves lessers greaters (16 * k) (16 * k + 16)) (sym s) (idle .idle (none any (sym e ∙ (sym (getD-set-same left b v 0 m) ∙ y))))
-      go k h z false q =
-          let d : k ≢ b = eqb-false k b q in
-          before .idle k (omega (arith, d)) (sym (getD-set-other left b k v 0 d) ∙ z)
+    over-now : (i : ℕ) → i < 16 * (b + 1) → (t : Bool) → ltb i (16 * b) ≡ t → bit (getD (set masks b v) (i / 16) 0) (i % 16) ≡ remains halves lessers greaters i
+    over-now i h true e =
+        let l : i < 16 * b = ltb-true i (16 * b) e in
+        let d : i / 16 ≢ b = λ q. omega arith in
+        rw (getD-set-other masks b (i / 16) v 0 d) (at .over i l)
+    over-now i h false e =
+        let l : 16 * b ≤ i = ltb-false i (16 * b) e in
+        let n = here i l h in
+        let m : b < length masks = omega (arith, at .long) in
+        rw (n .0, getD-set-same masks b v 0 m) (sym (n .1))
 
-  pub leaves-end : {left : List ℕ} (b : ℕ) → b ≤ 16 → 16 ≤ b → Leaves halves lessers greaters left b → Leaves halves lessers greaters left 16
-  leaves-end {left} b h k at = let e : b ≡ 16 = omega arith in subst (λ (n : ℕ). Leaves halves lessers greaters left n) e at
+    neither : (s t : Bool) → (s || t) ≡ false → (s ≡ false) × (t ≡ false)
+    neither true t e = absurd (true≢false e)
+    neither false t e = (refl, e)
+
+    none-now : (i : ℕ) → i < 16 * (b + 1) → bit r (i / 16) ≡ false → (t : Bool) → ltb i (16 * b) ≡ t → remains halves lessers greaters i ≡ false
+    none-now i h off true e =
+        let l : i < 16 * b = ltb-true i (16 * b) e in
+        at .none i l (neither (bit left (i / 16)) _ (sym (put .is (i / 16) (omega arith)) ∙ off) .0)
+    none-now i h off false e =
+        let l : 16 * b ≤ i = ltb-false i (16 * b) e in
+        let n = here i l h in
+        n .1 ∙ zero-bit (eqb v 0) refl (sym (rw (n .0, eq-eqb b b refl)) ∙ neither (bit left (i / 16)) _ (sym (put .is (i / 16) (omega arith)) ∙ off) .1)
+      where
+        zero-bit : (t : Bool) → eqb v 0 ≡ t → (not (eqb v 0) && true) ≡ false → bit v (i % 16) ≡ false
+        zero-bit true q f = rw (eqb-true v 0 q) (bit-none (i % 16))
+        zero-bit false q f = absurd (true≢false (sym (rw q) ∙ f))
+
+    pub leaving-on : Leaving halves lessers greaters (set masks b v) r (b + 1)
+    leaving-on = record {
+      long = length-set masks b v ∙ at .long;
+      over = λ i h. over-now i h (ltb i (16 * b)) refl;
+      none = λ i h off. none-now i h off (ltb i (16 * b)) refl;
+      high = λ c h l.
+          let d : c ≢ b = λ e. omega arith in
+          put .is c l ∙ rw (at .high c (omega arith) l, ne-eqb c b d) (and-none (not (eqb v 0)));
+    }
+      where
+        and-none : (t : Bool) → (t && false) ≡ false
+        and-none true = refl
+        and-none false = refl
+
+  pub leaving-ends : {masks : List ℕ} {left b : ℕ} (shapes r : ℕ) → shapes ≤ 16 * b → r ≡ left → Leaving halves lessers greaters masks left b → Leaves halves lessers greaters masks r shapes
+  leaving-ends {masks} {left} {b} shapes r past e at = rw e (record { long = at .long; over = λ i h. at .over i (omega arith); none = λ i h off. at .none i (omega arith) off })
 
 -- ---- a part that stays
 record Stays (start : ℕ) (old new : List ℕ) : Type 0 where
@@ -295,12 +264,12 @@ module _ {shapes : ℕ} (few : shapes ≤ 256) {l₀ g₀ l g : List ℕ} where
     greater = λ i h. rw (gt .at (768 + i) (omega arith) (omega arith), go .at (one + i) (omega arith) (omega arith), ga .at (other + i) (omega arith) (omega arith)) (t .greater i h);
   }
 
-leaves-stay : {halves left l₀ g₀ l g : List ℕ} → Stays 768 l₀ l → Stays 768 g₀ g → Leaves halves l₀ g₀ left 16 → Leaves halves l g left 16
-leaves-stay lt gt v = record {
+-- what remains goes by what two axes say together
+leaves-stay : {halves masks l₀ g₀ l g : List ℕ} {left shapes : ℕ} → shapes ≤ 256 → Stays 768 l₀ l → Stays 768 g₀ g → Leaves halves l₀ g₀ masks left shapes → Leaves halves l g masks left shapes
+leaves-stay few lt gt v = record {
   long = v .long;
-  idle = λ b h z. record {
-    none = λ i low less. rw (lt .at (768 + i) (omega arith) (omega arith), gt .at (768 + i) (omega arith) (omega arith)) (v .idle b h z .none i low less);
-  };
+  over = λ i h. rw (lt .at (768 + i) (omega arith) (omega arith), gt .at (768 + i) (omega arith) (omega arith)) (v .over i h);
+  none = λ i h off. rw (lt .at (768 + i) (omega arith) (omega arith), gt .at (768 + i) (omega arith) (omega arith)) (v .none i h off);
 }
 
 -- the axis that stands alone is beside the two others, and beside what they say together
@@ -317,39 +286,43 @@ apart z-axis b = record { one = stays-below 0 b (omega arith); other = stays-bel
 still-sized : {lows highs : List Float} {l₀ g₀ l g : List ℕ} → Sized lows highs l₀ g₀ → length l ≡ length l₀ → length g ≡ length g₀ → Sized lows highs l g
 still-sized s el eg = record { lows-length = s .lows-length; highs-length = s .highs-length; lessers-length = el ∙ s .lessers-length; greaters-length = eg ∙ s .greaters-length }
 
-module _ {shapes : ℕ} {axes : Axes} {lows highs : List Float} {halves left l₀ g₀ l g : List ℕ} where
-  -- after the axis that stands alone was asked
-  pub marked-beside : Marked shapes axes lows highs halves left l₀ g₀ → Beside (axes .alone) (axes .alone + 256) l₀ l → Beside (axes .alone) (axes .alone + 256) g₀ g → Marked shapes axes lows highs halves left l g
-  marked-beside m bl bg =
-      let al = apart (m .axis) bl in
-      let ag = apart (m .axis) bg in
-      record {
-        few = m .few;
-        sized = still-sized (m .sized) (bl .sized) (bg .sized);
-        halves-length = m .halves-length;
-        left-length = m .left-length;
-        numbers = m .numbers;
-        axis = m .axis;
-        pairs = λ h.
-            let p = m .pairs h in
-            record {
-              said-first = said-stays (m .few) (al .one) (ag .one) (p .said-first);
-              said-second = said-stays (m .few) (al .other) (ag .other) (p .said-second);
-              joined = joined-stays (m .few) (first (axes .alone)) (second (axes .alone)) (al .one) (al .other) (al .both) (ag .one) (ag .other) (ag .both) (p .joined);
-              leaves = leaves-stay (al .both) (ag .both) (p .leaves);
-            };
-      }
+-- after the axis that stands alone was asked
+pub ranked-beside : {kept : Kept} {halves : List ℕ} {lows highs : List Float} {l₀ g₀ l g : List ℕ} → Ranked kept halves lows highs l₀ g₀
+    → Beside (kept .alone) (kept .alone + 256) l₀ l → Beside (kept .alone) (kept .alone + 256) g₀ g → Ranked kept halves lows highs l g
+ranked-beside {kept} m bl bg =
+    let al = apart (m .axis) bl in
+    let ag = apart (m .axis) bg in
+    record {
+      few = m .few;
+      halves-length = m .halves-length;
+      sized = still-sized (m .sized) (bl .sized) (bg .sized);
+      numbers = m .numbers;
+      axis = m .axis;
+      pairs = λ h.
+          let p = m .pairs h in
+          record {
+            said-one = said-stays (m .few) (al .one) (ag .one) (p .said-one);
+            said-other = said-stays (m .few) (al .other) (ag .other) (p .said-other);
+            joined = joined-stays (m .few) (first (kept .alone)) (second (kept .alone)) (al .one) (al .other) (al .both) (ag .one) (ag .other) (ag .both) (p .joined);
+            leaves = leaves-stay (m .few) (al .both) (ag .both) (p .leaves);
+          };
+    }
 
 -- ---- two axes filled, one after the other, and put together
-first-near : {alone : ℕ} → IsAxis alone → first alone ≤ 512
-first-near x-axis = omega arith
-first-near y-axis = omega arith
-first-near z-axis = omega arith
+first-axis : {alone : ℕ} → IsAxis alone → IsAxis (first alone)
+first-axis x-axis = y-axis
+first-axis y-axis = x-axis
+first-axis z-axis = x-axis
 
-second-near : {alone : ℕ} → IsAxis alone → second alone ≤ 512
-second-near x-axis = omega arith
-second-near y-axis = omega arith
-second-near z-axis = omega arith
+second-axis : {alone : ℕ} → IsAxis alone → IsAxis (second alone)
+second-axis x-axis = z-axis
+second-axis y-axis = z-axis
+second-axis z-axis = y-axis
+
+pub axis-near : {start : ℕ} → IsAxis start → start ≤ 512
+axis-near x-axis = omega arith
+axis-near y-axis = omega arith
+axis-near z-axis = omega arith
 
 -- filling the second leaves the first as it is
 first-stays : {alone there : ℕ} {old new : List ℕ} → IsAxis alone → Beside (second alone) there old new → Stays (first alone) old new
@@ -357,62 +330,89 @@ first-stays x-axis b = stays-below 256 b (omega arith)
 first-stays y-axis b = stays-below 0 b (omega arith)
 first-stays z-axis b = stays-below 0 b (omega arith)
 
-module _ {shapes : ℕ} (axes : Axes) {lows highs : List Float} {l₀ g₀ : List ℕ} (few : shapes ≤ 256) (axis : IsAxis (axes .alone)) (sized : Sized lows highs l₀ g₀) where
-  module _ {l₁ g₁ : List ℕ} (one : ℕ) (e : one ≡ first (axes .alone)) (a : Along) (ea : a ≡ alongAt axes one) (filled : Filled lows highs one (one + shapes) a l₀ g₀ l₁ g₁) where
-    pub sized-then : Sized lows highs l₁ g₁
-    sized-then = still-sized sized (filled .lessers-beside .sized) (filled .greaters-beside .sized)
+-- an axis of finite faces
+pub low-on : {shapes : ℕ} {lows highs : List Float} → FiniteFaces shapes lows highs → {start : ℕ} → IsAxis start → (i : ℕ) → i < shapes → finite (getD lows (start + i) nan) ≡ true
+low-on f x-axis i h = let e : i ≡ 0 + i = omega arith in rw (← e) (f .low .x i h)
+low-on f y-axis i h = f .low .y i h
+low-on f z-axis i h = f .low .z i h
 
-    pub two-said : {l g : List ℕ} (other : ℕ) → other ≡ second (axes .alone) → (b : Along) → b ≡ alongAt axes other → Filled lows highs other (other + shapes) b l₁ g₁ l g → TwoSaid shapes axes lows highs l g
-    two-said {l} {g} other f b eb filled′ =
-        let s : Said lows highs one (one + shapes) (alongAt axes one) l₁ g₁ = subst (λ (a : Along). Said lows highs one (one + shapes) a l₁ g₁) ea (filled .said) in
-        let t = subst (λ (o : ℕ). Said lows highs o (o + shapes) (alongAt axes o) l₁ g₁) e s in
-        let u : Said lows highs other (other + shapes) (alongAt axes other) l g = subst (λ (b : Along). Said lows highs other (other + shapes) b l g) eb (filled′ .said) in
-        let bl = subst (λ (o : ℕ). Beside o (o + shapes) l₁ l) f (filled′ .lessers-beside) in
-        let bg = subst (λ (o : ℕ). Beside o (o + shapes) g₁ g) f (filled′ .greaters-beside) in
-        record {
-          sized = still-sized sized-then (filled′ .lessers-beside .sized) (filled′ .greaters-beside .sized);
-          said-first = said-stays few (first-stays axis bl) (first-stays axis bg) t;
-          said-second = subst (λ (o : ℕ). Said lows highs o (o + shapes) (alongAt axes o) l g) f u;
+pub high-on : {shapes : ℕ} {lows highs : List Float} → FiniteFaces shapes lows highs → {start : ℕ} → IsAxis start → (i : ℕ) → i < shapes → finite (getD highs (start + i) nan) ≡ true
+high-on f x-axis i h = let e : i ≡ 0 + i = omega arith in rw (← e) (f .high .x i h)
+high-on f y-axis i h = f .high .y i h
+high-on f z-axis i h = f .high .z i h
+
+fillable : (probe : Probe) {shapes start : ℕ} {lows highs : List Float} {l g : List ℕ} → goodProbe probe ≡ true → FiniteFaces shapes lows highs → shapes ≤ 256 → Sized lows highs l g → IsAxis start → Fillable start (start + shapes) (alongOf probe start) lows highs l g
+fillable probe {shapes} {start} {lows} {highs} good faces few sized axis = record {
+  sized = sized;
+  inside = omega (arith, axis-near axis);
+  numbers = along-finite probe good start;
+  low = λ k h l.
+      let e : start + (k - start) ≡ k = omega arith in
+      subst (λ (i : ℕ). finite (getD lows i nan) ≡ true) e (low-on faces axis (k - start) (omega arith));
+  high = λ k h l.
+      let e : start + (k - start) ≡ k = omega arith in
+      subst (λ (i : ℕ). finite (getD highs i nan) ≡ true) e (high-on faces axis (k - start) (omega arith));
+}
+
+module _ {probe : Probe} {alone shapes : ℕ} {halves : List ℕ} {lows highs : List Float} {l₀ g₀ : List ℕ} (can : CanPair probe alone shapes halves lows highs l₀ g₀) (one other : ℕ) (e : one ≡ first alone) (f : other ≡ second alone) (a b : Along) (ea : a ≡ alongOf probe one) (eb : b ≡ alongOf probe other) where
+  pub one-fillable : Fillable one (one + shapes) a lows highs l₀ g₀
+  one-fillable = rw (ea, e) (fillable probe (can .good) (can .faces) (can .few) (can .sized) (first-axis (can .axis)))
+
+  pub one-near : one ≤ 512
+  one-near = rw e (axis-near (first-axis (can .axis)))
+
+  pub other-near : other ≤ 512
+  other-near = rw f (axis-near (second-axis (can .axis)))
+
+  module _ {l₁ g₁ : List ℕ} (filled : Filled lows highs one (one + shapes) a l₀ g₀ l₁ g₁) where
+    sized-then : Sized lows highs l₁ g₁
+    sized-then = still-sized (can .sized) (filled .lessers-beside .sized) (filled .greaters-beside .sized)
+
+    pub other-fillable : Fillable other (other + shapes) b lows highs l₁ g₁
+    other-fillable = rw (eb, f) (fillable probe (can .good) (can .faces) (can .few) sized-then (second-axis (can .axis)))
+
+    module _ {l₂ g₂ : List ℕ} (filled′ : Filled lows highs other (other + shapes) b l₁ g₁ l₂ g₂) where
+      pub both-sized : Sized lows highs l₂ g₂
+      both-sized = still-sized sized-then (filled′ .lessers-beside .sized) (filled′ .greaters-beside .sized)
+
+      module _ {l g : List ℕ} (paired : Paired one other shapes l₂ g₂ l g) where
+        pub paired-sized : Sized lows highs l g
+        paired-sized = still-sized both-sized (paired .lessers-beside .sized) (paired .greaters-beside .sized)
+
+        -- what the first says stays when the second is filled, and what both say when they are put together
+        said-first : Said lows highs (first alone) (first alone + shapes) a l g
+        said-first =
+            let near : first alone + 256 ≤ 768 = omega (arith, axis-near (first-axis (can .axis))) in
+            let s : Said lows highs (first alone) (first alone + shapes) a l₁ g₁ = subst (λ (o : ℕ). Said lows highs o (o + shapes) a l₁ g₁) e (filled .said) in
+            let bl = subst (λ (o : ℕ). Beside o (o + shapes) l₁ l₂) f (filled′ .lessers-beside) in
+            let bg = subst (λ (o : ℕ). Beside o (o + shapes) g₁ g₂) f (filled′ .greaters-beside) in
+            said-stays (can .few) (stays-below (first alone) (paired .lessers-beside) near) (stays-below (first alone) (paired .greaters-beside) near)
+            (said-stays (can .few) (first-stays (can .axis) bl) (first-stays (can .axis) bg) s)
+
+        said-second : Said lows highs (second alone) (second alone + shapes) b l g
+        said-second =
+            let near : second alone + 256 ≤ 768 = omega (arith, axis-near (second-axis (can .axis))) in
+            let s : Said lows highs (second alone) (second alone + shapes) b l₂ g₂ = subst (λ (o : ℕ). Said lows highs o (o + shapes) b l₂ g₂) f (filled′ .said) in
+            said-stays (can .few) (stays-below (second alone) (paired .lessers-beside) near) (stays-below (second alone) (paired .greaters-beside) near) s
+
+        pub pair-follows : (masks : List ℕ) (left : ℕ) → Leaves halves l g masks left shapes
+            → Follows probe shapes halves lows highs l g (record { one = a; other = b; alone = alone; shapes = shapes; left = left; masks = masks; paired = true })
+        pair-follows masks left leaves = record {
+          shapes-still = refl;
+          one = ea ∙ ap (alongOf probe) e;
+          other = eb ∙ ap (alongOf probe) f;
+          paired = refl;
+          ranked = record {
+            few = can .few;
+            halves-length = can .halves-length;
+            sized = paired-sized;
+            numbers = record { one = finite-along probe (can .good) a one ea; other = finite-along probe (can .good) b other eb };
+            axis = can .axis;
+            pairs = λ h. record {
+              said-one = said-first;
+              said-other = said-second;
+              joined = subst (λ (o : ℕ). Joined (first alone) o shapes l g) f (subst (λ (o : ℕ). Joined o other shapes l g) e (paired .joined));
+              leaves = leaves;
+            };
+          };
         }
-
-pub one-near : (alone one : ℕ) → IsAxis alone → one ≡ first alone → one ≤ 512
-one-near alone one axis e = omega (arith, first-near axis)
-
-pub other-near : (alone other : ℕ) → IsAxis alone → other ≡ second alone → other ≤ 512
-other-near alone other axis e = omega (arith, second-near axis)
-
-pub one-room : (alone one shapes : ℕ) → IsAxis alone → one ≡ first alone → shapes ≤ 256 → one + shapes ≤ 768
-one-room alone one shapes axis e few = omega (arith, first-near axis)
-
-pub other-room : (alone other shapes : ℕ) → IsAxis alone → other ≡ second alone → shapes ≤ 256 → other + shapes ≤ 768
-other-room alone other shapes axis e few = omega (arith, second-near axis)
-
-module _ {shapes : ℕ} {axes : Axes} {lows highs : List Float} {halves left l₀ g₀ l₁ g₁ l g : List ℕ} (m : Marked shapes axes lows highs halves left l₀ g₀) (two : TwoSaid shapes axes lows highs l₁ g₁)
-    (one other : ℕ) (e : one ≡ first (axes .alone)) (f : other ≡ second (axes .alone)) (paired : Paired one other shapes l₁ g₁ l g) where
-  pub paired-sized : Sized lows highs l g
-  paired-sized = still-sized (two .sized) (paired .lessers-beside .sized) (paired .greaters-beside .sized)
-
-  abbrev now-paired : Axes
-  now-paired = record { x = axes .x; y = axes .y; z = axes .z; alone = axes .alone; paired = true; sound = axes .sound }
-
-  pub now-together : Together axes now-paired
-  now-together = record { x = refl; y = refl; z = refl; paired = refl; sound = refl }
-
-  pub now-marked : {left′ : List ℕ} → Leaves halves l g left′ 16 → Marked shapes now-paired lows highs halves left′ l g
-  now-marked leaves =
-      let near : first (axes .alone) + 256 ≤ 768 = omega (arith, first-near (m .axis)) in
-      let near′ : second (axes .alone) + 256 ≤ 768 = omega (arith, second-near (m .axis)) in
-      record {
-        few = m .few;
-        sized = paired-sized;
-        halves-length = m .halves-length;
-        left-length = leaves .long;
-        numbers = record { x = m .numbers .x; y = m .numbers .y; z = m .numbers .z };
-        axis = m .axis;
-        pairs = λ h. record {
-          said-first = said-stays (m .few) (stays-below (first (axes .alone)) (paired .lessers-beside) near) (stays-below (first (axes .alone)) (paired .greaters-beside) near) (two .said-first);
-          said-second = said-stays (m .few) (stays-below (second (axes .alone)) (paired .lessers-beside) near′) (stays-below (second (axes .alone)) (paired .greaters-beside) near′) (two .said-second);
-          joined = subst (λ (o : ℕ). Joined (first (axes .alone)) o shapes l g) f (subst (λ (o : ℕ). Joined o other shapes l g) e (paired .joined));
-          leaves = leaves;
-        };
-      }

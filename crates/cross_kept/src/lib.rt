@@ -5,46 +5,41 @@ use cross_cuts::Row;
 use cross_hits::Alone;
 use cross_shapes::Probe;
 ghost use mathlib.Core.Path.{_≡_};
-ghost use mathlib.Core.Bool.{true, false, cond, _&&_};
-ghost use Prim.Native.Nat.{_+_, _*_, _<_, _≤_};
+ghost use mathlib.Core.Bool.{true, false};
+ghost use Prim.Native.Nat.{_+_, _<_, _≤_};
 ghost use lib.ListN.{length};
-ghost use Rattle.cross_cuts.specs.Keys.{Complete};
-ghost use Rattle.cross_axis.specs.Axes.{Sized};
-ghost use Rattle.cross_line.specs.Crossing.{goodProbe, shapeCuts};
-ghost use Rattle.cross_kept.specs.Keeping.{IsAxis, AxisStill, first, second, alongAt, keptOn, Stay, Numbers, Seen, Paired, remains, IdleUnless, Leaves, TwoSaid, Marked, Together, Follows, Over, Drawing, NothingKept, Counted, Next, LineKept};
+ghost use Rattle.word_bits.specs.Words.{Picked};
+ghost use Rattle.cross_line.specs.Crossing.{goodProbe};
+ghost use Rattle.cross_kept.specs.Keeping.{AxisStill, first, second, alongOf, Serves, Paired, remains, Leaves, CanPair, Numbers, Followable, Follows, Over, Crossed, NothingKept, Counted};
 
-// The last line's numbers on each axis; which axis stands alone, by where its part starts, and whether the two others are together;
-// whether no box of the drawing is at fault.
-pub struct Axes {
-    pub x: Along,
-    pub y: Along,
-    pub z: Along,
+// What is kept: the numbers of two axes; which one stands alone, by where its part starts; how many shapes there are; of which sixteens two
+// axes leave something over, and of which of their shapes, by bits; and whether anything is kept yet.
+pub struct Kept {
+    pub one: Along,
+    pub other: Along,
     pub alone: usize,
+    pub shapes: usize,
+    pub left: u64,
+    pub masks: [u32; 16],
     pub paired: bool,
-    pub sound: bool,
-}
-
-// What is kept for the next line, and how many crossings this one has.
-pub struct Lined {
-    pub axes: Axes,
-    pub count: usize,
 }
 
 // Before the first line.
-pub fn nothing_kept(sound: bool) -> Axes
-    ensures { λ r. ⌜ NothingKept sound r ⌝ }
+pub fn nothing_kept(shapes: usize) -> Kept
+    ensures { λ r. ⌜ NothingKept shapes r ⌝ }
 {
     let none = Along {
         origin: 0.0,
         component: 0.0,
     };
-    Axes {
-        x: none,
-        y: none,
-        z: none,
+    Kept {
+        one: none,
+        other: none,
         alone: 0,
+        shapes,
+        left: 0,
+        masks: [0u32; 16],
         paired: false,
-        sound,
     }
 }
 
@@ -66,89 +61,61 @@ fn second_of(alone: usize) -> usize
     512
 }
 
-fn along_on(axes: Axes, start: usize) -> Along
-    ensures { λ r. ⌜ r ≡ alongAt axes start ⌝ }
+// A line's numbers on the axis that starts there.
+fn along_of(probe: Probe, start: usize) -> Along
+    ensures { λ r. ⌜ r ≡ alongOf probe start ⌝ }
 {
     if start == 0 {
-        return axes.x;
+        return Along {
+            origin: probe.ox,
+            component: probe.dx,
+        };
     }
     if start == 256 {
-        return axes.y;
+        return Along {
+            origin: probe.oy,
+            component: probe.dy,
+        };
     }
-    axes.z
+    Along {
+        origin: probe.oz,
+        component: probe.dz,
+    }
 }
 
-fn kept_on(start: usize, x: bool, y: bool, z: bool) -> bool
-    ensures { λ r. ⌜ r ≡ keptOn start x y z ⌝ }
+// Whether the two axes that are kept are those of this line too.
+pub fn serves(probe: Probe, kept: Kept) -> bool
+    requires { ⌜ (goodProbe probe ≡ true) × Numbers kept ⌝ }
+    ensures { λ r. ⌜ Serves probe kept r ⌝ }
 {
-    if start == 0 {
-        return x;
-    }
-    if start == 256 {
-        return y;
-    }
-    z
+    let one = cross_axis::same(kept.one, along_of(probe, first_of(kept.alone)));
+    let other = cross_axis::same(kept.other, along_of(probe, second_of(kept.alone)));
+    kept.paired & (one & other)
 }
 
-// The axis that stands alone goes on to where it moved, or where none did; else the last that moved stands alone.
-fn choose(before: usize, x: bool, y: bool, z: bool) -> usize
+fn moves(probe: Probe, next: Probe, start: usize) -> bool {
+    let here = along_of(probe, start);
+    let there = along_of(next, start);
+    (here.origin != there.origin) | (here.component != there.component)
+}
+
+// The axis that is to stand alone: one that is another at the next line, so that the two others may serve it.
+fn choose(before: usize, probe: Probe, next: Probe) -> usize
     ensures { λ r. ⌜ AxisStill before r ⌝ }
 {
-    if !kept_on(before, x, y, z) {
+    if moves(probe, next, before) {
         return before;
     }
-    if !z {
+    if moves(probe, next, 512) {
         return 512;
     }
-    if !y {
+    if moves(probe, next, 256) {
         return 256;
     }
-    if !x {
+    if moves(probe, next, 0) {
         return 0;
     }
     before
-}
-
-// Whether the two axes beside the one that stands alone are those that were, and stayed.
-fn stay(before: usize, alone: usize, x: bool, y: bool, z: bool) -> bool
-    ensures { λ r. ⌜ Stay before alone x y z r ⌝ }
-{
-    let one = kept_on(first_of(alone), x, y, z);
-    let other = kept_on(second_of(alone), x, y, z);
-    (alone == before) & (one & other)
-}
-
-// The next line's numbers, which axis stands alone, and whether the two others are together as they were.
-fn see(probe: Probe, axes: Axes) -> Axes
-    requires { ⌜ goodProbe probe ≡ true ⌝ }
-    requires { ⌜ Numbers axes ⌝ }
-    ensures { λ r. ⌜ Seen probe axes r ⌝ }
-{
-    let ax = Along {
-        origin: probe.ox,
-        component: probe.dx,
-    };
-    let ay = Along {
-        origin: probe.oy,
-        component: probe.dy,
-    };
-    let az = Along {
-        origin: probe.oz,
-        component: probe.dz,
-    };
-    let x = cross_axis::same(axes.x, ax);
-    let y = cross_axis::same(axes.y, ay);
-    let z = cross_axis::same(axes.z, az);
-    let alone = choose(axes.alone, x, y, z);
-    let still = stay(axes.alone, alone, x, y, z);
-    Axes {
-        x: ax,
-        y: ay,
-        z: az,
-        alone,
-        paired: axes.paired & still,
-        sound: axes.sound,
-    }
 }
 
 // Puts two axes together.
@@ -182,134 +149,110 @@ fn remains(i: usize, halves: &[u32; 256], lessers: &[u32; 1024], greaters: &[u32
     (halves[i] != 0) | (lessers[together] < greaters[together])
 }
 
-// Whether two axes leave one of sixteen shapes over, or one is a half-space.
-fn any_left(
+// Which of sixteen shapes two axes leave over.
+fn remaining(
     start: usize,
     halves: &[u32; 256],
     lessers: &[u32; 1024],
     greaters: &[u32; 1024],
-) -> bool
+) -> u32
     requires { ⌜ (start + 16 ≤ 256) × (length (now halves) ≡ 256) × (length (now lessers) ≡ 1024) × (length (now greaters) ≡ 1024) ⌝ }
-    ensures { λ r. ⌜ IdleUnless r (now (halves .entry)) (now (lessers .entry)) (now (greaters .entry)) start (start + 16) ⌝ }
+    ensures { λ r. ⌜ Picked (λ c. remains (now (halves .entry)) (now (lessers .entry)) (now (greaters .entry)) (start + c)) 16 r ⌝ }
 {
-    let mut any = false;
+    let mut bits = 0u32;
     let mut j = 0usize;
     while j < 16 {
-        any = any | remains(start + j, halves, lessers, greaters);
+        let over = remains(start + j, halves, lessers, greaters);
+        bits = word_bits::with_bit(bits, j, over);
         j += 1;
     }
-    any
+    bits
 }
 
-fn bit(b: bool) -> u8
-    ensures { λ r. ⌜ r ≡ cond b 1 0 ⌝ }
+// And of all the shapes; of which sixteens there are any.
+fn leave(
+    shapes: usize,
+    halves: &[u32; 256],
+    lessers: &[u32; 1024],
+    greaters: &[u32; 1024],
+    masks: &mut [u32; 16],
+) -> u64
+    requires { ⌜ (shapes ≤ 256) × (length (now halves) ≡ 256) × (length (now lessers) ≡ 1024) × (length (now greaters) ≡ 1024) × (length (now masks) ≡ 16) ⌝ }
+    ensures { λ r. ⌜ Leaves (now (halves .entry)) (now (lessers .entry)) (now (greaters .entry)) (now (masks .exit)) r shapes ⌝ }
 {
-    if b {
-        return 1;
-    }
-    0
-}
-
-// Of which sixteen shapes something is left over.
-fn leave(halves: &[u32; 256], lessers: &[u32; 1024], greaters: &[u32; 1024], left: &mut [u8; 16])
-    requires { ⌜ (length (now halves) ≡ 256) × (length (now lessers) ≡ 1024) × (length (now greaters) ≡ 1024) × (length (now left) ≡ 16) ⌝ }
-    ensures { λ _. ⌜ Leaves (now (halves .entry)) (now (lessers .entry)) (now (greaters .entry)) (now (left .exit)) 16 ⌝ }
-{
+    let mut left = 0u32;
     let mut b = 0usize;
-    while b < 16 {
-        left[b] = bit(any_left(16 * b, halves, lessers, greaters));
+    while 16 * b < shapes {
+        let over = remaining(16 * b, halves, lessers, greaters);
+        masks[b] = over;
+        left = word_bits::with_bit(left, b, over != 0);
         b += 1;
     }
-}
-
-// What the two axes beside the one that stands alone say.
-fn fill_two(
-    axes: Axes,
-    shapes: usize,
-    lows: &[f64; 768],
-    highs: &[f64; 768],
-    lessers: &mut [u32; 1024],
-    greaters: &mut [u32; 1024],
-)
-    requires { ⌜ (shapes ≤ 256) × IsAxis (axes .alone) × Sized (now lows) (now highs) (now lessers) (now greaters) ⌝ }
-    ensures { λ _. ⌜ TwoSaid shapes axes (now (lows .entry)) (now (highs .entry)) (now (lessers .exit)) (now (greaters .exit)) ⌝ }
-{
-    let one = first_of(axes.alone);
-    let other = second_of(axes.alone);
-    let first = along_on(axes, one);
-    let second = along_on(axes, other);
-    cross_axis::fill(one, shapes, first, lows, highs, lessers, greaters);
-    cross_axis::fill(other, shapes, second, lows, highs, lessers, greaters);
+    basics::long_word(left)
 }
 
 // The two axes beside the one that stands alone, filled and put together.
 fn pair_axes(
-    axes: Axes,
-    shapes: usize,
-    lows: &[f64; 768],
-    highs: &[f64; 768],
-    halves: &[u32; 256],
-    left: &mut [u8; 16],
-    lessers: &mut [u32; 1024],
-    greaters: &mut [u32; 1024],
-) -> Axes
-    requires { ⌜ Marked shapes axes (now lows) (now highs) (now halves) (now left) (now lessers) (now greaters) ⌝ }
-    ensures { λ r. ⌜ Together axes r × Marked shapes r (now (lows .entry)) (now (highs .entry)) (now (halves .entry)) (now (left .exit)) (now (lessers .exit)) (now (greaters .exit)) ⌝ }
-{
-    fill_two(axes, shapes, lows, highs, lessers, greaters);
-    let one = first_of(axes.alone);
-    let other = second_of(axes.alone);
-    pair(one, other, shapes, lessers, greaters);
-    leave(halves, lessers, greaters, left);
-    let x = axes.x;
-    let y = axes.y;
-    let z = axes.z;
-    Axes {
-        x,
-        y,
-        z,
-        alone: axes.alone,
-        paired: true,
-        sound: axes.sound,
-    }
-}
-
-fn keep_axes(
-    axes: Axes,
-    shapes: usize,
-    lows: &[f64; 768],
-    highs: &[f64; 768],
-    halves: &[u32; 256],
-    left: &mut [u8; 16],
-    lessers: &mut [u32; 1024],
-    greaters: &mut [u32; 1024],
-) -> Axes
-    requires { ⌜ Marked shapes axes (now lows) (now highs) (now halves) (now left) (now lessers) (now greaters) ⌝ }
-    ensures { λ r. ⌜ Together axes r × Marked shapes r (now (lows .entry)) (now (highs .entry)) (now (halves .entry)) (now (left .exit)) (now (lessers .exit)) (now (greaters .exit)) ⌝ }
-{
-    if axes.paired {
-        return axes;
-    }
-    pair_axes(axes, shapes, lows, highs, halves, left, lessers, greaters)
-}
-
-// The next line's numbers, and two of its axes together.
-fn follow(
     probe: Probe,
-    axes: Axes,
+    alone: usize,
     shapes: usize,
+    halves: &[u32; 256],
     lows: &[f64; 768],
     highs: &[f64; 768],
-    halves: &[u32; 256],
-    left: &mut [u8; 16],
     lessers: &mut [u32; 1024],
     greaters: &mut [u32; 1024],
-) -> Axes
-    requires { ⌜ (goodProbe probe ≡ true) × Marked shapes axes (now lows) (now highs) (now halves) (now left) (now lessers) (now greaters) ⌝ }
-    ensures { λ r. ⌜ Follows probe axes r × Marked shapes r (now (lows .entry)) (now (highs .entry)) (now (halves .entry)) (now (left .exit)) (now (lessers .exit)) (now (greaters .exit)) ⌝ }
+) -> Kept
+    requires { ⌜ CanPair probe alone shapes (now halves) (now lows) (now highs) (now lessers) (now greaters) ⌝ }
+    ensures { λ r. ⌜ Follows probe shapes (now (halves .entry)) (now (lows .entry)) (now (highs .entry)) (now (lessers .exit)) (now (greaters .exit)) r ⌝ }
 {
-    let seen = see(probe, axes);
-    keep_axes(seen, shapes, lows, highs, halves, left, lessers, greaters)
+    let one = first_of(alone);
+    let other = second_of(alone);
+    let on_one = along_of(probe, one);
+    let on_other = along_of(probe, other);
+    cross_axis::fill(one, shapes, on_one, lows, highs, lessers, greaters);
+    cross_axis::fill(other, shapes, on_other, lows, highs, lessers, greaters);
+    pair(one, other, shapes, lessers, greaters);
+    let mut masks = [0u32; 16];
+    let left = leave(shapes, halves, lessers, greaters, &mut masks);
+    Kept {
+        one: on_one,
+        other: on_other,
+        alone,
+        shapes,
+        left,
+        masks,
+        paired: true,
+    }
+}
+
+// Two axes of line k, which those that are kept do not serve.
+pub fn take_up(
+    probe: Probe,
+    lines: &[f64],
+    k: usize,
+    kept: Kept,
+    halves: &[u32; 256],
+    lows: &[f64; 768],
+    highs: &[f64; 768],
+    lessers: &mut [u32; 1024],
+    greaters: &mut [u32; 1024],
+) -> Kept
+    requires { ⌜ k < 4294967296 ⌝ }
+    requires { ⌜ Followable probe kept (now halves) (now lows) (now highs) (now lessers) (now greaters) ⌝ }
+    ensures { λ r. ⌜ Follows probe (kept .shapes) (now (halves .entry)) (now (lows .entry)) (now (highs .entry)) (now (lessers .exit)) (now (greaters .exit)) r ⌝ }
+{
+    let next = cross_drawn::probe_at(lines, k + 1);
+    let alone = choose(kept.alone, probe, next);
+    pair_axes(
+        probe,
+        alone,
+        kept.shapes,
+        halves,
+        lows,
+        highs,
+        lessers,
+        greaters,
+    )
 }
 
 // How many crossings there are in a row that is not at fault.
@@ -323,36 +266,31 @@ fn counted(row: Row) -> usize
 }
 
 // What a line has of its shapes, over its axes.
-fn over_axes(
+pub fn over_axes(
     probe: Probe,
-    kinds: &[u8],
-    numbers: &[f64],
-    axes: Axes,
+    kept: Kept,
+    halves: &[u32; 256],
     lows: &[f64; 768],
     highs: &[f64; 768],
-    halves: &[u32; 256],
-    left: &[u8; 16],
     lessers: &mut [u32; 1024],
     greaters: &mut [u32; 1024],
     bytes: &mut [u8],
     keys: &mut [u64],
 ) -> usize
-    requires { ⌜ Over probe (now kinds) (now numbers) axes (now lows) (now highs) (now halves) (now left) (now lessers) (now greaters) ⌝ }
-    requires { ⌜ (length (now bytes) ≡ 256) × (length (now keys) ≡ 512) ⌝ }
-    ensures { λ r. ⌜ Complete 16 (shapeCuts probe (now (kinds .entry)) (now (numbers .entry))) (now (bytes .exit)) (now (keys .exit)) (length (now (kinds .entry))) r ⌝ }
-    ensures { λ _. ⌜ Drawing (now (kinds .entry)) (now (numbers .entry)) axes (now (lows .entry)) (now (highs .entry)) (now (halves .entry)) (now (left .entry)) (now (lessers .exit)) (now (greaters .exit)) ⌝ }
+    requires { ⌜ Over probe kept (now halves) (now lows) (now highs) (now lessers) (now greaters) (now bytes) (now keys) ⌝ }
+    ensures { λ r. ⌜ Crossed probe kept (now (halves .entry)) (now (lows .entry)) (now (highs .entry)) (now (lessers .exit)) (now (greaters .exit)) (now (bytes .exit)) (now (keys .exit)) r ⌝ }
 {
-    let along = along_on(axes, axes.alone);
     let alone = Alone {
-        start: axes.alone,
-        along,
+        start: kept.alone,
+        along: along_of(probe, kept.alone),
+        shapes: kept.shapes,
+        left: kept.left,
     };
+    let masks = kept.masks;
     let row = cross_hits::gather(
         probe,
-        kinds,
-        numbers,
         alone,
-        left,
+        &masks,
         halves,
         lows,
         highs,
@@ -362,55 +300,4 @@ fn over_axes(
         keys,
     );
     counted(row)
-}
-
-// The next line of many, which is not at fault: gathered as cross_line::gather does it, over the axes if the drawing is sound.
-pub fn next_line(
-    probe: Probe,
-    kinds: &[u8],
-    numbers: &[f64],
-    axes: Axes,
-    lows: &[f64; 768],
-    highs: &[f64; 768],
-    halves: &[u32; 256],
-    left: &mut [u8; 16],
-    lessers: &mut [u32; 1024],
-    greaters: &mut [u32; 1024],
-    bytes: &mut [u8],
-    keys: &mut [u64],
-) -> Lined
-    requires { ⌜ Next probe (now kinds) (now numbers) axes (now lows) (now highs) (now halves) (now left) (now lessers) (now greaters) (now bytes) (now keys) ⌝ }
-    ensures { λ r. ⌜ LineKept probe (now (kinds .entry)) (now (numbers .entry)) (now (lows .entry)) (now (highs .entry)) (now (halves .entry)) (now (left .exit)) (now (lessers .exit)) (now (greaters .exit)) (now (bytes .exit)) (now (keys .exit)) r ⌝ }
-{
-    if axes.sound {
-        let kept = follow(
-            probe,
-            axes,
-            kinds.len(),
-            lows,
-            highs,
-            halves,
-            left,
-            lessers,
-            greaters,
-        );
-        let count = over_axes(
-            probe,
-            kinds,
-            numbers,
-            kept,
-            lows,
-            highs,
-            halves,
-            left,
-            lessers,
-            greaters,
-            bytes,
-            keys,
-        );
-        return Lined { axes: kept, count };
-    }
-    let row = cross_line::gather(probe, kinds, numbers, bytes, keys);
-    let count = counted(row);
-    Lined { axes, count }
 }

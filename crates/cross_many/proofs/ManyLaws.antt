@@ -1,5 +1,5 @@
 -- The exits of the job for many lines.
-use Prim.Native.Nat.{ℕ, _+_, _*_, _/_, _<_, _≤_, min}
+use Prim.Native.Nat.{ℕ, _*_, _/_, _<_, _≤_, min}
 use native.Mathlib.Nat.{mul-le-mul}
 use native.Mathlib.Omega.{arith}
 use mathlib.Core.Path.{_≡_, refl, sym, ap, _∙_}
@@ -20,7 +20,6 @@ use Rattle.cross_drawn.specs.Lent.{probesOf}
 use Rattle.cross_drawn.specs.Refusing.{OfLines, gives, refuses, partOf, ofNone, _>>_}
 use Rattle.cross_drawn.proofs.DrawnLaws.{positions-many, shapes-many, rows-count}
 use Rattle.cross_drawn.proofs.FewLaws.{lines-few}
-use Rattle.cross_drawn.proofs.ProbeLaws.{length-probes}
 use Rattle.cross_pass.specs.Passing.{Fits, AllWritten}
 use Rattle.cross_many.specs.Answer.{manyCountsOf, manyOf, CrossedMany}
 use Rattle.cross_many.specs.Crossing.{crossingProbes, crossingMany}
@@ -31,9 +30,6 @@ use Rattle.cross_many.specs.declared.ManyAnswer.{ManyAnswer}
 use Rattle.cross_many.specs.declared.ManyAnswer.the-variants as answer
 
 -- ---- what is known where the lines are counted and judged
-pub counted-lines : (lines : List Float) (count : ℕ) → count ≡ (length lines + 5) / 6 → count ≡ length (probesOf lines)
-counted-lines lines count e = e ∙ sym (length-probes lines)
-
 pub none-wrong : (kinds : List ℕ) (numbers : List Float) (probes : List Probe) (r : Judged) → judgedOf r ≡ linesJudged 0 kinds numbers probes → r ≡ judged.Right → linesJudged 0 kinds numbers probes ≡ gives tt
 none-wrong kinds numbers probes r says e = sym says ∙ ap judgedOf e
 

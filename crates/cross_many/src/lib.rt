@@ -3,7 +3,7 @@ use cross_cuts::Row;
 use cross_judge::Reach;
 use cross_shapes::Probe;
 ghost use mathlib.Core.Path.{_≡_};
-ghost use Prim.Native.Nat.{_+_, _/_, _≤_, min};
+ghost use Prim.Native.Nat.{_/_, _≤_, min};
 ghost use lib.ListN.{length};
 ghost use Rattle.lines.specs.Lines.{lineLists};
 ghost use Rattle.cross_drawn.specs.Asking.{lineJudged};
@@ -33,15 +33,6 @@ pub enum ManyAnswer {
 enum Judged {
     Wrong { place: usize, line: usize },
     Right,
-}
-
-fn line_count(n: usize) -> usize
-    ensures { λ r. ⌜ r ≡ (n + 5) / 6 ⌝ }
-{
-    if n % 6 == 0 {
-        return n / 6;
-    }
-    n / 6 + 1
 }
 
 // Line k by the way of one line, which names the shape at fault.
@@ -165,7 +156,6 @@ fn give_lines(
         kinds,
         numbers,
         lines,
-        count,
         rows,
         line_numbers,
         positions,
@@ -193,7 +183,7 @@ pub fn cross(
     if 256 < kinds.len() {
         return refused(16, 256, 0);
     }
-    let count = line_count(lines.len());
+    let count = cross_drawn::line_count(lines);
     if 4294967296 < count {
         return refused(14, 0, 0);
     }

@@ -15,7 +15,7 @@ use Rattle.cross_drawn.specs.Lent.{probesOf}
 use Rattle.cross_drawn.proofs.DrawnLaws.{rows-join, lines-join, positions-join, shapes-join}
 use Rattle.cross_drawn.proofs.ProbeLaws.{length-probes}
 use Rattle.cross_many.proofs.Settled.{many-drawn}
-use Rattle.cross_parts.specs.Parts.{probeParts, EachDrawn, inTurn}
+use Rattle.cross_parts.specs.Parts.{probeParts, EachDrawn, oneAfterAnother}
 use Rattle.cross_parts.proofs.ProbeParts.{probes-cut, probes-first, rest-whole}
 
 -- ---- the lists of some lines and then of others, which are numbered on
@@ -60,20 +60,20 @@ module _ (kinds : List ℕ) (numbers : List Float) where
   abbrev pub drawnOf : List (List Float) → List Drawn
   drawnOf parts = map all parts
 
-  pub drawn-turn : (sizes : List ℕ) (lines : List Float) → 6 * total sizes ≤ length lines → all lines ≡ inTurn (drawnOf (probeParts sizes lines))
-  drawn-turn [] lines h = sym (append-nil (all lines))
-  drawn-turn (r ∷ rs) lines h =
+  pub drawn-after : (sizes : List ℕ) (lines : List Float) → 6 * total sizes ≤ length lines → all lines ≡ oneAfterAnother (drawnOf (probeParts sizes lines))
+  drawn-after [] lines h = sym (append-nil (all lines))
+  drawn-after (r ∷ rs) lines h =
       let p = rest-whole r rs lines h in
-      drawn-cut r lines (p .0) ∙ ap (λ (v : Drawn). all (take (6 * r) lines) ++ v) (drawn-turn rs (drop (6 * r) lines) (p .1))
+      drawn-cut r lines (p .0) ∙ ap (λ (v : Drawn). all (take (6 * r) lines) ++ v) (drawn-after rs (drop (6 * r) lines) (p .1))
 
-  lists-turn : (sizes : List ℕ) (lines : List Float) → 6 * total sizes ≤ length lines → drawnLists (all lines) ≡ joinLists sizes (map drawnLists (drawnOf (probeParts sizes lines)))
-  lists-turn [] lines h = refl
-  lists-turn (r ∷ rs) lines h =
+  lists-after : (sizes : List ℕ) (lines : List Float) → 6 * total sizes ≤ length lines → drawnLists (all lines) ≡ joinLists sizes (map drawnLists (drawnOf (probeParts sizes lines)))
+  lists-after [] lines h = refl
+  lists-after (r ∷ rs) lines h =
       let p = rest-whole r rs lines h in
       ap drawnLists (drawn-cut r lines (p .0))
       ∙ lists-together (all (take (6 * r) lines)) (all (drop (6 * r) lines))
       ∙ ap (λ (n : ℕ). together n (drawnLists (all (take (6 * r) lines))) (drawnLists (all (drop (6 * r) lines)))) (drawn-long r lines (p .0))
-      ∙ ap (together r (drawnLists (all (take (6 * r) lines)))) (lists-turn rs (drop (6 * r) lines) (p .1))
+      ∙ ap (together r (drawnLists (all (take (6 * r) lines)))) (lists-after rs (drop (6 * r) lines) (p .1))
 
   pub each-drawn : (parts : List (List Float)) (vs : List Drawn) → EachDrawn (crossingMany kinds numbers) parts vs → vs ≡ drawnOf parts
   each-drawn [] [] g = refl
@@ -83,7 +83,7 @@ module _ (kinds : List ℕ) (numbers : List Float) where
 
   module _ (sizes : List ℕ) (lines : List Float) (whole : 6 * total sizes ≤ length lines) (vs : List Drawn) (g : EachDrawn (crossingMany kinds numbers) (probeParts sizes lines) vs) where
     -- The start rows and crossings of the parts, part after part, with line numbers raised, are those of the whole.
-    pub lists-of-parts : drawnLists (inTurn vs) ≡ joinLists sizes (map drawnLists vs)
+    pub lists-of-parts : drawnLists (oneAfterAnother vs) ≡ joinLists sizes (map drawnLists vs)
     lists-of-parts =
         let is = each-drawn (probeParts sizes lines) vs g in
-        ap (λ (ws : List Drawn). drawnLists (inTurn ws)) is ∙ ap drawnLists (sym (drawn-turn sizes lines whole)) ∙ lists-turn sizes lines whole ∙ ap (λ (ws : List Drawn). joinLists sizes (map drawnLists ws)) (sym is)
+        ap (λ (ws : List Drawn). drawnLists (oneAfterAnother ws)) is ∙ ap drawnLists (sym (drawn-after sizes lines whole)) ∙ lists-after sizes lines whole ∙ ap (λ (ws : List Drawn). joinLists sizes (map drawnLists ws)) (sym is)

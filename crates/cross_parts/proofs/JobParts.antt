@@ -19,9 +19,9 @@ use Rattle.cross_drawn.specs.Drawn.{Drawn, drawnLists}
 use Rattle.cross_drawn.specs.Lent.{probesOf}
 use Rattle.cross_drawn.specs.Refusing.{OfLines, gives, refuses, ofLine, ofNone, _>>_}
 use Rattle.cross_many.proofs.Settled.{many-few, many-drawn}
-use Rattle.cross_parts.specs.Parts.{probeParts, EachDrawn, inTurn}
+use Rattle.cross_parts.specs.Parts.{probeParts, EachDrawn, oneAfterAnother}
 use Rattle.cross_parts.proofs.ProbeParts.{probes-cut, rest-whole}
-use Rattle.cross_parts.proofs.DrawnParts.{all, drawnOf, drawn-turn, each-drawn, lists-of-parts}
+use Rattle.cross_parts.proofs.DrawnParts.{all, drawnOf, drawn-after, each-drawn, lists-of-parts}
 
 -- ---- which lines are good
 
@@ -122,12 +122,12 @@ module _ (kinds : List ℕ) (numbers : List Float) where
   shapes-few (r ∷ rs) lines (v ∷ vs) g = asked-of (take (6 * r) lines) (g .0 .0) v (g .0 .1) .0
 
   module _ (sizes : List ℕ) (lines : List Float) (whole : 6 * total sizes ≤ length lines) where
-    pub drawn-whole : (vs : List Drawn) → EachDrawn (crossingMany kinds numbers) (probeParts sizes lines) vs → all kinds numbers lines ≡ inTurn vs
-    drawn-whole vs g = drawn-turn kinds numbers sizes lines whole ∙ ap inTurn (sym (each-drawn kinds numbers (probeParts sizes lines) vs g))
+    pub drawn-whole : (vs : List Drawn) → EachDrawn (crossingMany kinds numbers) (probeParts sizes lines) vs → all kinds numbers lines ≡ oneAfterAnother vs
+    drawn-whole vs g = drawn-after kinds numbers sizes lines whole ∙ ap oneAfterAnother (sym (each-drawn kinds numbers (probeParts sizes lines) vs g))
 
     -- What the job gives for the parts, each with lists of its own, it gives for the whole, if there are not too many lines in all and it is lent the room it asks for.
     pub crossing-parts : (vs : List Drawn) → EachDrawn (crossingMany kinds numbers) (probeParts sizes lines) vs → length (probesOf lines) ≤ 4294967296
-        → (lent : LineLists) → listRoom (joinLists sizes (map drawnLists vs)) lent ≡ given tt → crossingMany kinds numbers lines lent ≡ gives (inTurn vs)
+        → (lent : LineLists) → listRoom (joinLists sizes (map drawnLists vs)) lent ≡ given tt → crossingMany kinds numbers lines lent ≡ gives (oneAfterAnother vs)
     crossing-parts vs g few lent room =
         let is = drawn-whole vs g in
         let roomy : listRoom (drawnLists (all kinds numbers lines)) lent ≡ given tt = ap (λ (c : LineLists). listRoom c lent) (ap drawnLists is ∙ lists-of-parts kinds numbers sizes lines whole vs g) ∙ room in
@@ -145,11 +145,11 @@ module _ (kinds : List ℕ) (numbers : List Float) where
 
   -- What the job gives for the whole, it gives for every part, lent the room that it asks for.
   pub crossing-whole : (sizes : List ℕ) (lines : List Float) → 6 * total sizes ≤ length lines → (lent : LineLists) (v : Drawn) → crossingMany kinds numbers lines lent ≡ gives v
-      → (vs : List Drawn) × EachDrawn (crossingMany kinds numbers) (probeParts sizes lines) vs × (v ≡ inTurn vs)
+      → (vs : List Drawn) × EachDrawn (crossingMany kinds numbers) (probeParts sizes lines) vs × (v ≡ oneAfterAnother vs)
   crossing-whole sizes lines whole lent v g =
       let a = asked-of lines lent v g in
       let parts : List (List Float) = probeParts sizes lines in (
         drawnOf kinds numbers parts,
         each-answered (a .0) sizes lines whole (many-few kinds numbers lines lent v g) (good-each kinds numbers sizes lines whole (a .1)),
-        many-drawn kinds numbers lines lent v g ∙ drawn-turn kinds numbers sizes lines whole,
+        many-drawn kinds numbers lines lent v g ∙ drawn-after kinds numbers sizes lines whole,
       )

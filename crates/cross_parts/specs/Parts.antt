@@ -21,6 +21,6 @@ EachDrawn job (lines ∷ parts) [] = ⊥
 EachDrawn job (lines ∷ parts) (v ∷ vs) = ((lent : LineLists) × (job lines lent ≡ gives v)) × EachDrawn job parts vs
 
 -- What the lines of each part have of each shape, part after part.
-abbrev pub inTurn : List Drawn → Drawn
-inTurn [] = []
-inTurn (v ∷ vs) = v ++ inTurn vs
+abbrev pub oneAfterAnother : List Drawn → Drawn
+oneAfterAnother [] = []
+oneAfterAnother (v ∷ vs) = v ++ oneAfterAnother vs

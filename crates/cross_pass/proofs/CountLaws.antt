@@ -1,21 +1,24 @@
 -- The lines gone through in turn, and their crossings counted.
-use Prim.Native.Nat.{ℕ, _+_, _*_, _<_, _≤_}
+use Prim.Native.Nat.{ℕ, zero, suc, _+_, _*_, _-_, _<_, _≤_}
 use native.Mathlib.Omega.{arith}
-use mathlib.Core.Path.{_≡_, refl, sym, ap, _∙_}
-use mathlib.Core.Bool.{true, false, true≢false}
+use mathlib.Core.Path.{_≡_, refl, sym, ap, _∙_, subst}
+use mathlib.Core.Bool.{Bool, true, false, cond, _||_, true≢false}
 use mathlib.Core.List.{List, map}
-use lib.ListN.{length, take, drop, length-append, length-map}
+use lib.ListN.{length, getD, replicate, take, drop, length-append, length-map}
 use lib.Seq.{take-all}
 use lib.Ieee.{Float}
 use Rattle.outcome.specs.Outcome.{Outcome, given, refused, unfit, need}
 use Rattle.outcome.proofs.Questions.{need-yes, then-given}
-use Rattle.cross_cuts.specs.Cuts.{lineCrossings, LineCrossing, faultless}
+use Rattle.cross_cuts.specs.Cuts.{Cut, lineCrossings, LineCrossing, faultless}
 use Rattle.cross_cuts.specs.Keys.{Complete}
 use Rattle.cross_shapes.specs.declared.Probe.{Probe}
 use Rattle.cross_line.specs.Crossing.{goodProbe, shapeCuts}
-use Rattle.cross_columns.specs.Columns.{Columns, Sized}
-use Rattle.cross_kept.specs.Keeping.{Drawing, Next}
-use Rattle.cross_kept.specs.declared.Axes.{Axes}
+use Rattle.cross_columns.specs.Columns.{Columns, cutsIn}
+use Rattle.cross_columns.proofs.CutLaws.{columns-cuts, columns-finite}
+use Rattle.cross_hits.specs.Hits.{Clear}
+use Rattle.cross_kept.specs.Keeping.{Ranked, Lent, NothingKept, Serves, Followable, Follows, Over, Crossed}
+use Rattle.cross_kept.specs.declared.Kept.{Kept}
+use Rattle.cross_kept.proofs.KeepLaws.{ranked-starts, serves-follows}
 use Rattle.cross_drawn.specs.Asking.{lineJudged}
 use Rattle.cross_drawn.specs.Drawn.{linesFrom, drawn}
 use Rattle.cross_drawn.specs.Gathered.{Sound}
@@ -23,6 +26,74 @@ use Rattle.cross_drawn.specs.Judging.{linesJudged}
 use Rattle.cross_drawn.specs.Lent.{probeFrom, probesOf}
 use Rattle.cross_drawn.specs.Refusing.{OfLines, gives, refuses, ofLine, _>>_}
 use Rattle.cross_drawn.proofs.LineLaws.{sound-count, sound-few, lines-next, left-here}
+
+-- the drawing in columns, and what is kept of the lines before
+pub record Drawing (kinds : List ℕ) (numbers : List Float) (kept : Kept) (lows highs : List Float) (halves lessers greaters bytes : List ℕ) : Type 0 where
+  pub columns : Columns kinds numbers (length kinds) lows highs halves
+  pub shapes : kept .shapes ≡ length kinds
+  pub ranked : Ranked kept halves lows highs lessers greaters
+  pub clear : Clear halves bytes 0 (length kinds)
+
+no-byte : (n j : ℕ) → _≡_ {A = ℕ} (getD (replicate n 0) j 0) 0
+no-byte zero j = refl
+no-byte (suc n) zero = refl
+no-byte (suc n) (suc j) = no-byte n j
+
+pub drawing-starts : (kinds : List ℕ) (numbers : List Float) (kept : Kept) (lows highs : List Float) (halves lessers greaters : List ℕ) → length kinds ≤ 256 → Columns kinds numbers (length kinds) lows highs halves → NothingKept (length kinds) kept
+    → length lessers ≡ 1024 → length greaters ≡ 1024 → Drawing kinds numbers kept lows highs halves lessers greaters (replicate 256 0)
+drawing-starts kinds numbers kept lows highs halves lessers greaters few columns none l g = record {
+  columns = columns;
+  shapes = none .shapes-are;
+  ranked = ranked-starts (length kinds) kept halves lows highs lessers greaters few none (columns .sized .halves-length)
+      (record { lows-length = columns .sized .lows-length; highs-length = columns .sized .highs-length; lessers-length = l; greaters-length = g });
+  clear = record { zero = λ j h k z. no-byte 256 j };
+}
+
+module _ {kinds : List ℕ} {numbers : List Float} {kept : Kept} {lows highs : List Float} {halves l₀ g₀ bytes₀ : List ℕ} (drawing : Drawing kinds numbers kept lows highs halves l₀ g₀ bytes₀) {probe : Probe} {l g : List ℕ} where
+  pub drawing-taken : {now : Kept} → Follows probe (kept .shapes) halves lows highs l g now → Drawing kinds numbers now lows highs halves l g bytes₀
+  drawing-taken follows = record { columns = drawing .columns; shapes = follows .shapes-still ∙ drawing .shapes; ranked = follows .ranked; clear = drawing .clear }
+
+  module _ {bytes keys : List ℕ} {m : ℕ} (crossed : Crossed probe kept halves lows highs l g bytes keys m) where
+    pub line-gathered : Complete 16 (shapeCuts probe kinds numbers) bytes keys (length kinds) m
+    line-gathered =
+        subst (λ (cuts : List Cut). Complete 16 cuts bytes keys (length kinds) m) (columns-cuts probe lows highs halves (drawing .columns))
+        (subst (λ (n : ℕ). Complete 16 (cutsIn probe n lows highs halves) bytes keys n m) (drawing .shapes) (crossed .gathered))
+
+    pub drawing-next : Drawing kinds numbers kept lows highs halves l g bytes
+    drawing-next = record {
+      columns = drawing .columns;
+      shapes = drawing .shapes;
+      ranked = crossed .ranked;
+      clear = subst (λ (n : ℕ). Clear halves bytes 0 n) (drawing .shapes) (crossed .clear);
+    }
+
+-- once they are taken up, the axes that are kept are those of line k
+pub record Ready (ready : Bool) (lines : List Float) (k : ℕ) (kept : Kept) (lows highs : List Float) (halves lessers greaters : List ℕ) : Type 0 where
+  pub follows : ready ≡ true → Follows (probeFrom (drop (6 * k) lines)) (kept .shapes) halves lows highs lessers greaters kept
+
+pub not-ready : {lines : List Float} {k : ℕ} {kept : Kept} {lows highs : List Float} {halves l g : List ℕ} → Ready false lines k kept lows highs halves l g
+not-ready = record { follows = λ e. absurd (true≢false (sym e)) }
+
+pub ready-taken : (lines : List Float) (k shapes : ℕ) {probe : Probe} {kept : Kept} {lows highs : List Float} {halves l g : List ℕ} → probe ≡ probeFrom (drop (6 * k) lines) → Follows probe shapes halves lows highs l g kept → Ready true lines k kept lows highs halves l g
+ready-taken lines k shapes {probe} {kept} {lows} {highs} {halves} {l} {g} read f = record {
+  follows = λ e.
+      subst (λ (p : Probe). Follows p (kept .shapes) halves lows highs l g kept) read
+      (record { shapes-still = refl; one = f .one; other = f .other; paired = f .paired; ranked = f .ranked });
+}
+
+-- a line takes at most two rounds: its axes are taken up, and it is gone through
+unfoldable pub rounds : ℕ → ℕ → Bool → ℕ
+rounds count k ready = 2 * (count - k) + cond ready 0 1
+
+pub round-taken : (count k : ℕ) (ready s : Bool) → (ready || s) ≡ false → rounds count k true < rounds count k ready
+unfolding rounds
+round-taken count k true s e = absurd (true≢false e)
+round-taken count k false s e = omega arith
+
+pub round-next : (count k : ℕ) (ready : Bool) → k < count → rounds count (k + 1) false < rounds count k ready
+unfolding rounds
+round-next count k true h = omega arith
+round-next count k false h = omega arith
 
 -- k lines are gone through, and have so many crossings; no line that is left is at fault
 pub record Counting (kinds : List ℕ) (numbers lines : List Float) (count : ℕ) (bytes keys : List ℕ) (k total : ℕ) : Type 0 where
@@ -54,11 +125,32 @@ module _ (kinds : List ℕ) (numbers lines : List Float) (count : ℕ) (bytes₀
         by (refused number place) e = absurd (never-both number place k e)
         by (unfit number place) e = absurd (never-both number place k e)
 
-    pub line-next : {axes : Axes} {lows highs : List Float} {halves left l g : List ℕ} → Drawing kinds numbers axes lows highs halves left l g → Next probe kinds numbers axes lows highs halves left l g bytes₀ keys₀
+    line-asked : (goodProbe probe ≡ true) × (faultless 16 0 (shapeCuts probe kinds numbers) ≡ given tt)
     unfolding lineJudged
-    line-next drawing =
+    line-asked =
         let asked = then-given (need (goodProbe probe) 16 65535) (faultless 16 0 (shapeCuts probe kinds numbers)) tt line-sound in
-        record { good = need-yes (goodProbe probe) 16 65535 (asked .1); no-fault = asked .2; drawing = drawing; bytes-sized = counting .bytes-sized; keys-sized = counting .keys-sized }
+        (need-yes (goodProbe probe) 16 65535 (asked .1), asked .2)
+
+    module _ {kept : Kept} {lows highs : List Float} {halves l g : List ℕ} (drawing : Drawing kinds numbers kept lows highs halves l g bytes₀) where
+      line-lent : Lent probe (kept .shapes) halves lows highs bytes₀ keys₀
+      line-lent = subst (λ (n : ℕ). Lent probe n halves lows highs bytes₀ keys₀) (sym (drawing .shapes)) (record {
+        good = line-asked .0;
+        no-fault = ap (faultless 16 0) (columns-cuts probe lows highs halves (drawing .columns)) ∙ line-asked .1;
+        faces = columns-finite (drawing .columns) probe (line-asked .1);
+        bytes-sized = counting .bytes-sized;
+        keys-sized = counting .keys-sized;
+        clear = drawing .clear;
+      })
+
+      pub line-followable : Followable probe kept halves lows highs l g
+      line-followable = record { good = line-lent .good; faces = line-lent .faces; ranked = drawing .ranked }
+
+      pub line-over : {ready s : Bool} → Ready ready lines k kept lows highs halves l g → Serves probe kept s → (ready || s) ≡ true → Over probe kept halves lows highs l g bytes₀ keys₀
+      line-over {ready} {s} at serves either = record { lent = line-lent; follows = by ready (at .follows) either }
+        where
+          by : (t : Bool) → (t ≡ true → Follows (probeFrom (drop (6 * k) lines)) (kept .shapes) halves lows highs l g kept) → (t || s) ≡ true → Follows probe (kept .shapes) halves lows highs l g kept
+          by true f e = subst (λ (p : Probe). Follows p (kept .shapes) halves lows highs l g kept) (sym read) (f refl)
+          by false f e = serves-follows line-followable s serves e
 
     pub more-lines : k < length (probesOf lines)
     more-lines = omega (arith, counting .all)
@@ -99,7 +191,3 @@ module _ (kinds : List ℕ) (numbers lines : List Float) (count : ℕ) (bytes₀
 
   pub counting-ends : count ≤ k → total ≡ length (linesFrom 0 (drawn kinds numbers (probesOf lines)))
   counting-ends h = counting .counted ∙ ap (λ l. length (linesFrom 0 (drawn kinds numbers l))) (take-all k (probesOf lines) (omega (arith, counting .all)))
-
--- ---- where no columns are filled, nothing is said of them
-pub no-columns : {kinds : List ℕ} {numbers : List Float} {lows highs : List Float} {halves : List ℕ} → Sized lows highs halves → Columns kinds numbers (length kinds) lows highs halves false
-no-columns sized = record { sized = sized; right = λ h. absurd (true≢false (sym h)) }

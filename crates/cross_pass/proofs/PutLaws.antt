@@ -19,8 +19,6 @@ use Rattle.cross_shapes.specs.declared.Probe.{Probe}
 use Rattle.cross_line.specs.Crossing.{shapeCuts}
 use Rattle.cross_line.proofs.LentLaws.{length-cuts, cuts-in-range}
 use Rattle.cross_drawn.specs.Drawn.{Drawn, rowsOf, linesFrom, positionsIn, shapesIn, drawn}
-use Rattle.cross_kept.specs.Keeping.{Drawing, Next}
-use Rattle.cross_kept.specs.declared.Axes.{Axes}
 use Rattle.cross_drawn.specs.Gathered.{Sound}
 use Rattle.cross_drawn.specs.Judging.{linesJudged}
 use Rattle.cross_drawn.specs.Lent.{probeFrom, probesOf}
@@ -28,7 +26,7 @@ use Rattle.cross_drawn.specs.Refusing.{gives}
 use Rattle.cross_drawn.proofs.DrawnLaws.{positions-many, shapes-many, rows-more, lines-more, positions-more, shapes-more, rows-part, lines-part, rows-count}
 use Rattle.cross_drawn.proofs.LineLaws.{sound-held, sound-count, drawn-next, map-append}
 use Rattle.cross_pass.specs.Passing.{RoomFor, Fits, filledFrom, LinePut, Holding, AllWritten}
-use Rattle.cross_pass.proofs.CountLaws.{Counting, counting-starts, line-next, more-lines, sound-here, counting-fits, counting-on, counting-ends}
+use Rattle.cross_pass.proofs.CountLaws.{Counting, counting-starts, more-lines, sound-here, counting-fits, counting-on, counting-ends}
 
 -- ---- a line's number beside each of its crossings
 pub record Numbering (line m : ℕ) (old new : List ℕ) (i : ℕ) : Type 0 where
@@ -134,9 +132,6 @@ writing-starts kinds numbers lines count R N P S bytes keys all few shapes-few j
 module _ (kinds : List ℕ) (numbers lines : List Float) (count : ℕ) (R₀ N₀ : List ℕ) (P₀ : List ℤ) (S₀ R N : List ℕ) (P : List ℤ) (S bytes₀ keys₀ : List ℕ) (k at : ℕ)
     (writing : Writing kinds numbers lines count (lineLists R₀ N₀ P₀ S₀) (lineLists R N P S) bytes₀ keys₀ k at) where
   module _ (more : k < count) (probe : Probe) (read : probe ≡ probeFrom (drop (6 * k) lines)) where
-    pub writing-next : {axes : Axes} {lows highs : List Float} {halves left l g : List ℕ} → Drawing kinds numbers axes lows highs halves left l g → Next probe kinds numbers axes lows highs halves left l g bytes₀ keys₀
-    writing-next drawing = line-next kinds numbers lines count bytes₀ keys₀ k at (writing .counting) more probe read drawing
-
     module _ (bytes keys : List ℕ) (m : ℕ) (gathered : Complete 16 (shapeCuts probe kinds numbers) bytes keys (length kinds) m) where
       before-here : k < length (probesOf lines)
       before-here = more-lines kinds numbers lines count bytes₀ keys₀ k at (writing .counting) more probe read

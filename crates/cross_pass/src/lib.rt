@@ -14,94 +14,8 @@ ghost use Rattle.cross_drawn.specs.Refusing.{gives};
 ghost use Rattle.cross_drawn.specs.Drawn.{linesFrom, drawn};
 ghost use Rattle.cross_drawn.specs.Judging.{linesJudged};
 ghost use Rattle.cross_drawn.specs.Gathered.{Sound};
-ghost use Rattle.cross_columns.specs.Columns.{Columns, Sized};
+ghost use Rattle.cross_columns.specs.Columns.{Columns};
 ghost use Rattle.cross_pass.specs.Passing.{RoomFor, Fits, LinePut, AllWritten};
-
-fn box_at(kind: u8) -> usize
-    ensures { λ r. ⌜ r ≤ 1 ⌝ }
-{
-    if kind == 255 {
-        return 1;
-    }
-    0
-}
-
-// Whether there are so many boxes that columns are sooner gone through than one box after another.
-fn enough(kinds: &[u8]) -> bool {
-    let mut boxes = 0usize;
-    let mut i = 0usize;
-    while i < kinds.len() {
-        boxes += box_at(kinds[i]);
-        i += 1;
-    }
-    3 <= boxes
-}
-
-// The drawing's columns where they are sooner gone through; whether they are filled and no box is at fault.
-fn columns_of(
-    kinds: &[u8],
-    numbers: &[f64],
-    lows: &mut [f64; 768],
-    highs: &mut [f64; 768],
-    halves: &mut [u32; 256],
-) -> bool
-    requires { ⌜ length (now kinds) ≤ 256 ⌝ }
-    requires { ⌜ Sized (now lows) (now highs) (now halves) ⌝ }
-    ensures { λ r. ⌜ Columns (now (kinds .entry)) (now (numbers .entry)) (length (now (kinds .entry))) (now (lows .exit)) (now (highs .exit)) (now (halves .exit)) r ⌝ }
-{
-    if enough(kinds) {
-        return cross_columns::fill_columns(kinds, numbers, lows, highs, halves);
-    }
-    false
-}
-
-// Counts over the drawing's columns.
-fn count_over(
-    kinds: &[u8],
-    numbers: &[f64],
-    lines: &[f64],
-    count: usize,
-    sound: bool,
-    lows: &[f64; 768],
-    highs: &[f64; 768],
-    halves: &[u32; 256],
-) -> usize
-    requires { ⌜ (length (now kinds) ≤ 256) × (count ≡ length (probesOf (now lines))) × (count ≤ 4294967296) ⌝ }
-    requires { ⌜ linesJudged 0 (now kinds) (now numbers) (probesOf (now lines)) ≡ gives tt ⌝ }
-    requires { ⌜ Columns (now kinds) (now numbers) (length (now kinds)) (now lows) (now highs) (now halves) sound ⌝ }
-    ensures { λ r. ⌜ r ≡ length (linesFrom 0 (drawn (now (kinds .entry)) (now (numbers .entry)) (probesOf (now (lines .entry))))) ⌝ }
-{
-    let mut left = [0u8; 16];
-    let mut lessers = [0u32; 1024];
-    let mut greaters = [0u32; 1024];
-    let mut bytes = [0u8; 256];
-    let mut keys = [0u64; 512];
-    let mut axes = cross_kept::nothing_kept(sound);
-    let mut total = 0usize;
-    let mut k = 0usize;
-    while k < count {
-        let probe = cross_drawn::probe_at(lines, k);
-        let next = k + 1;
-        let lined = cross_kept::next_line(
-            probe,
-            kinds,
-            numbers,
-            axes,
-            lows,
-            highs,
-            halves,
-            &mut left,
-            &mut lessers,
-            &mut greaters,
-            &mut bytes,
-            &mut keys,
-        );
-        axes = lined.axes;
-        total += lined.count;
-        k = next;
-    }
-    total
-}
 
 // How many crossings all lines have, none of which is at fault.
 pub fn count_lines(kinds: &[u8], numbers: &[f64], lines: &[f64], count: usize) -> usize
@@ -112,8 +26,48 @@ pub fn count_lines(kinds: &[u8], numbers: &[f64], lines: &[f64], count: usize) -
     let mut lows = [0.0f64; 768];
     let mut highs = [0.0f64; 768];
     let mut halves = [0u32; 256];
-    let sound = columns_of(kinds, numbers, &mut lows, &mut highs, &mut halves);
-    count_over(kinds, numbers, lines, count, sound, &lows, &highs, &halves)
+    cross_columns::fill_columns(kinds, numbers, &mut lows, &mut highs, &mut halves);
+    let mut lessers = [0u32; 1024];
+    let mut greaters = [0u32; 1024];
+    let mut bytes = [0u8; 256];
+    let mut keys = [0u64; 512];
+    let mut kept = cross_kept::nothing_kept(kinds.len());
+    let mut ready = false;
+    let mut total = 0usize;
+    let mut k = 0usize;
+    while k < count {
+        let probe = cross_drawn::probe_at(lines, k);
+        if ready | cross_kept::serves(probe, kept) {
+            let m = cross_kept::over_axes(
+                probe,
+                kept,
+                &halves,
+                &lows,
+                &highs,
+                &mut lessers,
+                &mut greaters,
+                &mut bytes,
+                &mut keys,
+            );
+            total += m;
+            k += 1;
+            ready = false;
+            continue;
+        }
+        kept = cross_kept::take_up(
+            probe,
+            lines,
+            k,
+            kept,
+            &halves,
+            &lows,
+            &highs,
+            &mut lessers,
+            &mut greaters,
+        );
+        ready = true;
+    }
+    total
 }
 
 fn write_numbers(line: u32, m: usize, line_numbers: &mut [u32])
@@ -162,8 +116,6 @@ fn write_over(
     kinds: &[u8],
     numbers: &[f64],
     lines: &[f64],
-    count: usize,
-    sound: bool,
     lows: &[f64; 768],
     highs: &[f64; 768],
     halves: &[u32; 256],
@@ -172,53 +124,65 @@ fn write_over(
     positions: &mut [i32],
     shapes: &mut [u16],
 ) -> usize
-    requires { ⌜ (length (now kinds) ≤ 256) × (count ≡ length (probesOf (now lines))) × (count ≤ 4294967296) ⌝ }
+    requires { ⌜ (length (now kinds) ≤ 256) × (length (probesOf (now lines)) ≤ 4294967296) ⌝ }
     requires { ⌜ linesJudged 0 (now kinds) (now numbers) (probesOf (now lines)) ≡ gives tt ⌝ }
     requires { ⌜ Fits (drawn (now kinds) (now numbers) (probesOf (now lines))) (lineLists (now rows) (now «line_numbers») (now positions) (now shapes)) ⌝ }
-    requires { ⌜ Columns (now kinds) (now numbers) (length (now kinds)) (now lows) (now highs) (now halves) sound ⌝ }
+    requires { ⌜ Columns (now kinds) (now numbers) (length (now kinds)) (now lows) (now highs) (now halves) ⌝ }
     ensures { λ r. ⌜ AllWritten (drawn (now (kinds .entry)) (now (numbers .entry)) (probesOf (now (lines .entry)))) (lineLists (now (rows .entry)) (now («line_numbers» .entry)) (now (positions .entry)) (now (shapes .entry))) r (lineLists (now (rows .exit)) (now («line_numbers» .exit)) (now (positions .exit)) (now (shapes .exit))) ⌝ }
 {
-    let mut left = [0u8; 16];
+    let count = cross_drawn::line_count(lines);
     let mut lessers = [0u32; 1024];
     let mut greaters = [0u32; 1024];
     let mut bytes = [0u8; 256];
     let mut keys = [0u64; 512];
-    let mut axes = cross_kept::nothing_kept(sound);
+    let mut kept = cross_kept::nothing_kept(kinds.len());
+    let mut ready = false;
     let mut at = 0usize;
     let mut k = 0usize;
     while k < count {
         let probe = cross_drawn::probe_at(lines, k);
-        let next = k + 1;
-        let lined = cross_kept::next_line(
+        if ready | cross_kept::serves(probe, kept) {
+            let m = cross_kept::over_axes(
+                probe,
+                kept,
+                halves,
+                lows,
+                highs,
+                &mut lessers,
+                &mut greaters,
+                &mut bytes,
+                &mut keys,
+            );
+            let end = at + m;
+            write_line(
+                k,
+                at,
+                kinds.len(),
+                m,
+                &bytes,
+                &mut keys,
+                rows,
+                line_numbers,
+                positions,
+                shapes,
+            );
+            at = end;
+            k += 1;
+            ready = false;
+            continue;
+        }
+        kept = cross_kept::take_up(
             probe,
-            kinds,
-            numbers,
-            axes,
+            lines,
+            k,
+            kept,
+            halves,
             lows,
             highs,
-            halves,
-            &mut left,
             &mut lessers,
             &mut greaters,
-            &mut bytes,
-            &mut keys,
         );
-        axes = lined.axes;
-        let end = at + lined.count;
-        write_line(
-            k,
-            at,
-            kinds.len(),
-            lined.count,
-            &bytes,
-            &mut keys,
-            rows,
-            line_numbers,
-            positions,
-            shapes,
-        );
-        at = end;
-        k = next;
+        ready = true;
     }
     at
 }
@@ -228,13 +192,12 @@ pub fn write_lines(
     kinds: &[u8],
     numbers: &[f64],
     lines: &[f64],
-    count: usize,
     rows: &mut [u8],
     line_numbers: &mut [u32],
     positions: &mut [i32],
     shapes: &mut [u16],
 ) -> usize
-    requires { ⌜ (length (now kinds) ≤ 256) × (count ≡ length (probesOf (now lines))) × (count ≤ 4294967296) ⌝ }
+    requires { ⌜ (length (now kinds) ≤ 256) × (length (probesOf (now lines)) ≤ 4294967296) ⌝ }
     requires { ⌜ linesJudged 0 (now kinds) (now numbers) (probesOf (now lines)) ≡ gives tt ⌝ }
     requires { ⌜ Fits (drawn (now kinds) (now numbers) (probesOf (now lines))) (lineLists (now rows) (now «line_numbers») (now positions) (now shapes)) ⌝ }
     ensures { λ r. ⌜ AllWritten (drawn (now (kinds .entry)) (now (numbers .entry)) (probesOf (now (lines .entry)))) (lineLists (now (rows .entry)) (now («line_numbers» .entry)) (now (positions .entry)) (now (shapes .entry))) r (lineLists (now (rows .exit)) (now («line_numbers» .exit)) (now (positions .exit)) (now (shapes .exit))) ⌝ }
@@ -242,13 +205,11 @@ pub fn write_lines(
     let mut lows = [0.0f64; 768];
     let mut highs = [0.0f64; 768];
     let mut halves = [0u32; 256];
-    let sound = columns_of(kinds, numbers, &mut lows, &mut highs, &mut halves);
+    cross_columns::fill_columns(kinds, numbers, &mut lows, &mut highs, &mut halves);
     write_over(
         kinds,
         numbers,
         lines,
-        count,
-        sound,
         &lows,
         &highs,
         &halves,

@@ -15,17 +15,17 @@ use lib.Ieee.Nearest.{closest, closest-mono, closest-same}
 use lib.Ieee.Bits.{ofBits-toBits}
 use lib.Ieee.Exact.{HasValue, odd-sign}
 use borrow.Author.Tests.{lt-ltb, le-ltb, lt-leb, le-leb, eqb-true, ltb-true, ltb-false}
-use Rattle.cross_marks.specs.Marks.{unmark}
+use Rattle.cross_ranks.specs.Ranks.{unrank}
 use Rattle.cross_positions.specs.Positions.{thousand, signed, nearestWhole, inRange}
 use Rattle.cross_positions.specs.Found.{foundOf}
 use Rattle.cross_positions.specs.Fields.{sizeOf}
 use Rattle.cross_positions.specs.declared.Found.the-variants.{At, Nowhere}
 
 -- a whole number, or a float's nearest, that may be given
-abbrev pub within : ℤ → Option ℤ
+abbrev within : ℤ → Option ℤ
 within z = inRange (some z)
 
-abbrev pub whole : Float → Option ℤ
+abbrev whole : Float → Option ℤ
 whole x = inRange (nearestWhole x)
 
 pub at-distance : {p : Option ℤ} {x y : Float} → p ≡ whole x → x ≡ y → p ≡ whole y
@@ -45,7 +45,7 @@ cmp a b = go (compare a b) (leb→le a b) (nleb→lt a b) (eqb→eq a b) (λ (e 
     go Ordering·eq h k e n = e tt
     go Ordering·gt h k e n = k tt
 
-pub nearest-down : (n a b : ℕ) → a < b → tied n (compare a b) ≡ n
+nearest-down : (n a b : ℕ) → a < b → tied n (compare a b) ≡ n
 nearest-down n a b h = go (compare a b) (cmp a b)
   where
     go : (o : Ordering) → Cmp o a b → tied n o ≡ n
@@ -53,7 +53,7 @@ nearest-down n a b h = go (compare a b) (cmp a b)
     go Ordering·eq c = absurd (omega arith)
     go Ordering·gt c = absurd (omega arith)
 
-pub nearest-up : (n a b : ℕ) → b < a → tied n (compare a b) ≡ n + 1
+nearest-up : (n a b : ℕ) → b < a → tied n (compare a b) ≡ n + 1
 nearest-up n a b h = go (compare a b) (cmp a b)
   where
     go : (o : Ordering) → Cmp o a b → tied n o ≡ n + 1
@@ -61,7 +61,7 @@ nearest-up n a b h = go (compare a b) (cmp a b)
     go Ordering·eq c = absurd (omega arith)
     go Ordering·gt c = omega arith
 
-pub nearest-tie : (n a b : ℕ) → a ≤ b → b ≤ a → tied n (compare a b) ≡ n + n % 2
+nearest-tie : (n a b : ℕ) → a ≤ b → b ≤ a → tied n (compare a b) ≡ n + n % 2
 nearest-tie n a b h k = go (compare a b) (cmp a b)
   where
     go : (o : Ordering) → Cmp o a b → tied n o ≡ n + n % 2
@@ -111,7 +111,7 @@ module _ {q : ℕ} (u : ℕ) (h : q < 2 ^ 53) where
   tie-fits = omega (arith, div-le-self q u)
 
 -- ---- of a float with a value
-pub whole-of-value : (x : Float) (s : Bool) (a c : ℕ) → 0 < c → HasValue x s a c → whole x ≡ within (signed s (closest a c))
+whole-of-value : (x : Float) (s : Bool) (a c : ℕ) → 0 < c → HasValue x s a c → whole x ≡ within (signed s (closest a c))
 unfolding nearestWhole
 whole-of-value nan s a c p v = absurd v
 whole-of-value (inf t) s a c p v = absurd v
@@ -206,7 +206,7 @@ unfolding ofBits
 split b = refl
 
 -- a float that the format holds, from its bits
-pub bits-whole : (x : Float) → T (fits binary64 x) → let b = toBits binary64 x in whole x ≡ within (signed (leb 9223372036854775808 b) (sizeOf (b % 9223372036854775808 / 4503599627370496) (b % 4503599627370496)))
+bits-whole : (x : Float) → T (fits binary64 x) → let b = toBits binary64 x in whole x ≡ within (signed (leb 9223372036854775808 b) (sizeOf (b % 9223372036854775808 / 4503599627370496) (b % 4503599627370496)))
 bits-whole x h =
     let b = toBits binary64 x in
     ap whole (sym (ofBits-toBits binary64 x h))
@@ -214,7 +214,7 @@ bits-whole x h =
     ∙ fields-whole (leb 9223372036854775808 b) (b % 9223372036854775808 / 4503599627370496) (b % 4503599627370496) (omega arith) (omega arith)
 
 -- the exits of `rounded`, with b for the bits and n for the size
-abbrev pub sizeBits : ℕ → ℕ
+abbrev sizeBits : ℕ → ℕ
 sizeBits b = sizeOf (b % 9223372036854775808 / 4503599627370496) (b % 4503599627370496)
 
 module _ (x : Float) (h : fits binary64 x ≡ true) (n : ℕ) (e : n ≡ sizeBits (toBits binary64 x)) where
@@ -228,7 +228,7 @@ module _ (x : Float) (h : fits binary64 x ≡ true) (n : ℕ) (e : n ≡ sizeBit
 
   pub plus-at : toBits binary64 x < 9223372036854775808 → n ≤ 2147483646 → foundOf (At (2147483648 + n)) ≡ inRange (nearestWhole x)
   plus-at u k =
-      let m : unmark (2147483648 + n) ≡ pos n = rw (le-ltb (2147483648 + n) 2147483648 (omega arith)) (let d : 2147483648 + n - 2147483648 ≡ n = omega arith in ap pos d) in
+      let m : unrank (2147483648 + n) ≡ pos n = rw (le-ltb (2147483648 + n) 2147483648 (omega arith)) (let d : 2147483648 + n - 2147483648 ≡ n = omega arith in ap pos d) in
       let w : within (pos n) ≡ some (pos n) = rw (le-leb n 2147483646 k) in
       ap some m ∙ sym w ∙ as-seen false (lt-leb _ _ u)
 
@@ -242,5 +242,5 @@ module _ (x : Float) (h : fits binary64 x ≡ true) (n : ℕ) (e : n ≡ sizeBit
       minus zero k = refl
       minus (suc n) k =
           let d : 2147483648 - suc (2147483648 - suc n) ≡ n = omega arith in
-          let m : unmark (2147483648 - suc n) ≡ negsuc n = rw (lt-ltb (2147483648 - suc n) 2147483648 (omega arith)) (ap negsuc d) in
+          let m : unrank (2147483648 - suc n) ≡ negsuc n = rw (lt-ltb (2147483648 - suc n) 2147483648 (omega arith)) (ap negsuc d) in
           ap some m ∙ sym (rw (le-leb n 2147483646 (omega arith)))

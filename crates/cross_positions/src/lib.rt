@@ -7,7 +7,7 @@ ghost use Rattle.cross_positions.specs.Positions.{distance, nearestWhole
 ghost use Rattle.cross_positions.specs.Found.{foundOf};
 ghost use Rattle.cross_positions.specs.Fields.{sizeOf};
 
-// A position by its mark, 2147483648 more, or none that may be given.
+// A position by its rank, 2147483648 more, or none that may be given.
 pub enum Found {
     At(u32),
     Nowhere,

@@ -4,10 +4,10 @@ use Prim.Native.Nat.{ℕ, suc, _+_, _-_, _*_, _/_, _^_, _≤_, _<_}
 use lib.IntN.{ℤ, pos}
 use native.Mathlib.Nat.{mul-one, le-trans, le-of-eq, le-antisymm, lt-of-lt-of-le, lt-of-le-of-lt, mul-assoc, mul-comm, mul-right-comm, mul-pos, mul-le-mul-right, mul-lt-mul-of-pos-right, mul-div-cancel, le-div-iff-mul-le, div-lt-iff-lt-mul}
 use native.Mathlib.Omega.{arith}
-use mathlib.Core.Bool.{Bool, true, false, not, cond}
-use lib.Dec.{T, ltb, lit≤}
+use mathlib.Core.Bool.{Bool, true, false, cond}
+use lib.Dec.{ltb, lit≤}
 use lib.Pow.{pow-add, pow-pos, pow-mono, shl-lt}
-use lib.Ieee.{Float, nan, inf, fin, binary64, up, down, size, units, round, sum, add, ofBits, toBits, isNan}
+use lib.Ieee.{Float, nan, inf, fin, binary64, up, down, size, units, round, sum, add, toBits}
 use lib.Ieee.Digits.{size-lt, size-le}
 use lib.Ieee.Exact.{HasValue, units-val}
 use lib.Ieee.Fits.{core, round-is, down-pos}
@@ -65,12 +65,6 @@ bits-of (fin t m e) q v h k =
     ∙ ap (λ (z : ℕ). 0 + (z - 53) * 2 ^ 52 + q * 2 ^ 1074 / 2 ^ (z - 53)) (shifted q 1074 h k)
     ∙ ap (λ (x : ℕ). 0 + 1074 * 2 ^ 52 + x) (mul-div-cancel q (pow-pos 1074))
 
-no-nan-of : (x : Float) (s : Bool) (a c : ℕ) → HasValue x s a c → T (not (isNan x))
-unfolding isNan
-no-nan-of nan s a c v = absurd v
-no-nan-of (inf t) s a c v = tt
-no-nan-of (fin t m e) s a c v = tt
-
 -- ---- together
 module _ (n c q : ℕ) (p : 0 < c) (h : 2 ^ 52 * c ≤ n) (e : closest n c ≡ q) (k : q < 2 ^ 53) where
   below : n < 2 ^ 53 * c
@@ -81,11 +75,8 @@ module _ (n c q : ℕ) (p : 0 < c) (h : 2 ^ 52 * c ≤ n) (e : closest n c ≡ q
       subst (λ (x : Float). HasValue x false (q * 2 ^ 1074) (2 ^ 1074)) (sym (rounds n c p h below ∙ ap (λ (z : ℕ). units binary64 false z 1074) e))
       (units-val binary64 false q 1074 (lt-of-lt-of-le (shl-lt 53 1074 k) (pow-mono {i = 1127} {j = 2098} (lit≤ tt))))
 
-  pub rounded-bits : toBits binary64 (round binary64 false n c) ≡ 1074 * 2 ^ 52 + q
+  rounded-bits : toBits binary64 (round binary64 false n c) ≡ 1074 * 2 ^ 52 + q
   rounded-bits = bits-of (round binary64 false n c) q value (le-trans (le-div-iff-mul-le p .1 h) (le-trans (whole-part n c) (le-of-eq e))) k
-
-  pub rounded-number : T (not (isNan (round binary64 false n c)))
-  rounded-number = no-nan-of (round binary64 false n c) false (q * 2 ^ 1074) (2 ^ 1074) value
 
 -- ---- a sum with an even whole number 2 * v that has 53 digits, and still has them with n more or less
 abbrev pub off : Bool → ℕ → ℕ → ℕ
@@ -123,11 +114,8 @@ module _ (a c n v : ℕ) (p : 0 < c) (e : closest a c ≡ n) (h : 2 ^ 52 + n < 2
   small false = k
   small true = omega arith
 
-  pub sum-bits : (s : Bool) → toBits binary64 (sum binary64 s a false (2 * v * c) c) ≡ 1074 * 2 ^ 52 + off s (2 * v) n
+  sum-bits : (s : Bool) → toBits binary64 (sum binary64 s a false (2 * v * c) c) ≡ 1074 * 2 ^ 52 + off s (2 * v) n
   sum-bits s = ap (λ (x : Float). toBits binary64 x) (sum-is s) ∙ rounded-bits (summed s a (2 * v * c)) c (off s (2 * v) n) p (large s) (nearest-is s) (small s)
-
-  pub sum-number : (s : Bool) → T (not (isNan (sum binary64 s a false (2 * v * c) c)))
-  sum-number s = subst (λ (x : Float). T (not (isNan x))) (sym (sum-is s)) (rounded-number (summed s a (2 * v * c)) c (off s (2 * v) n) p (large s) (nearest-is s) (small s))
 
 add-is : (s : Bool) (m : ℕ) (e : ℤ) (w d : ℕ) → add binary64 (fin s m e) (fin false w (pos d)) ≡ sum binary64 s (m * up e) false (w * 2 ^ d * down e) (down e)
 unfolding add
@@ -142,21 +130,3 @@ module _ (s : Bool) (m : ℕ) (e : ℤ) (w d n v : ℕ) (f : w * 2 ^ d ≡ 2 * v
 
   pub add-bits : toBits binary64 (add binary64 (fin s m e) (fin false w (pos d))) ≡ 1074 * 2 ^ 52 + off s (2 * v) n
   add-bits = ap (λ (x : Float). toBits binary64 x) as-sum ∙ sum-bits (m * up e) (down e) n v (down-pos e) g h k s
-
-  pub add-number : T (not (isNan (add binary64 (fin s m e) (fin false w (pos d)))))
-  add-number = subst (λ (x : Float). T (not (isNan x))) (sym as-sum) (sum-number (m * up e) (down e) n v (down-pos e) g h k s)
-
--- As it is commonly said: with 3 * 2 ^ 51, whose bits are 0x4338_0000_0000_0000, and sizes up to 2 ^ 51 - 1.
-pub nearest-bits : (s : Bool) (m : ℕ) (e : ℤ) (n : ℕ) → closest (m * up e) (down e) ≡ n → n < 2 ^ 51
-    → toBits binary64 (add binary64 (fin s m e) (ofBits binary64 0x4338_0000_0000_0000)) ≡ off s 0x4338_0000_0000_0000 n
-nearest-bits s m e n g h =
-    ap (λ (x : Float). toBits binary64 (add binary64 (fin s m e) x)) constant
-    ∙ add-bits s m e 3 51 n 3377699720527872 refl g (omega arith) (omega arith)
-    ∙ joined s
-  where
-    constant : ofBits binary64 0x4338_0000_0000_0000 ≡ fin false 3 (pos 51)
-    constant = unfold ofBits in refl
-
-    joined : (s : Bool) → 1074 * 2 ^ 52 + off s 6755399441055744 n ≡ off s 0x4338_0000_0000_0000 n
-    joined true = omega arith
-    joined false = omega arith

@@ -1,11 +1,11 @@
--- A float whose nearest whole number may be given, and its mark.
-use mathlib.Core.Path.{_≡_, refl, sym, ap, _∙_}
+-- A float whose nearest whole number may be given, and its rank.
+use mathlib.Core.Path.{_≡_, refl, sym, _∙_}
 use mathlib.Core.Bool.{Bool, true, false, cond, true≢false}
 use mathlib.Core.Option.{Option, none, some}
 use Prim.Native.Nat.{ℕ}
 use lib.IntN.{ℤ}
-use lib.Ieee.{Float}
-use Rattle.cross_marks.specs.Marks.{unmark}
+use lib.Ieee.{Float, nan, inf, fin, isNan}
+use Rattle.cross_ranks.specs.Ranks.{unrank}
 use Rattle.cross_positions.specs.Positions.{allowed, inRange, nearestWhole}
 use Rattle.cross_quick.specs.Given.{given, isThere}
 
@@ -21,15 +21,12 @@ found : (x : Float) → given x ≡ true → inRange (nearestWhole x) ≡ neares
 unfolding given
 found x h = in-range (nearestWhole x) h
 
-pub found-mark : (x : Float) (mark : ℕ) {good : Bool} → good ≡ given x → good ≡ true → some (unmark mark) ≡ nearestWhole x → some (unmark mark) ≡ inRange (nearestWhole x)
-found-mark x mark e h m = m ∙ sym (found x (sym e ∙ h))
+pub found-rank : (x : Float) (rank : ℕ) {good : Bool} → good ≡ given x → good ≡ true → some (unrank rank) ≡ nearestWhole x → some (unrank rank) ≡ inRange (nearestWhole x)
+found-rank x rank e h m = m ∙ sym (found x (sym e ∙ h))
 
--- ---- `kept` and `mark_or_zero`
-pub kept-given : (x : Float) {good : Bool} → good ≡ given x → good ≡ true → given x ≡ true
-kept-given x e h = sym e ∙ h
-
-pub other : {good : Bool} {y : Float} {z : Float} → good ≡ false → good ≡ true → y ≡ z
-other f h = absurd (true≢false (sym h ∙ f))
-
-pub mark-kept : {p : Option ℤ} (x y : Float) {good : Bool} → p ≡ nearestWhole y → (good ≡ true → y ≡ x) → good ≡ true → p ≡ nearestWhole x
-mark-kept x y e f h = e ∙ ap nearestWhole (f h)
+-- what is given is a number
+pub given-number : (x : Float) → given x ≡ true → isNan x ≡ false
+unfolding given nearestWhole isNan
+given-number nan h = absurd (true≢false (sym h))
+given-number (inf s) h = refl
+given-number (fin s m e) h = refl

@@ -1,6 +1,6 @@
--- The two tests on a float, and the mark from the bits of one sum.
+-- The two tests on a float, and the rank from the bits of one sum.
 use mathlib.Core.Logic.{_≢_}
-use mathlib.Core.Path.{_≡_, refl, sym, ap, _∙_, subst}
+use mathlib.Core.Path.{_≡_, refl, sym, ap, _∙_}
 use Prim.Native.Nat.{ℕ, zero, suc, _+_, _-_, _*_, _%_, _^_, _≤_, _<_}
 use native.Mathlib.Nat.{le-trans}
 use native.Mathlib.Omega.{arith}
@@ -12,32 +12,33 @@ use lib.Ieee.{Float, nan, inf, fin, binary64, up, down, add, lt, le, eq, neg, of
 use lib.Ieee.Fits.{down-pos}
 use lib.Ieee.Nearest.{closest, closest-mono}
 use borrow.Author.Tests.{lt-ltb, le-ltb, lt-leb, le-leb, eqb-true, eqb-false, leb-true, leb-false, ltb-true, ltb-false}
-use Rattle.cross_marks.specs.Marks.{unmark}
+use Rattle.cross_ranks.specs.Ranks.{unrank}
 use Rattle.cross_positions.specs.Positions.{signed, allowed, nearestWhole}
+use Rattle.cross_positions.proofs.Numbers.{add-number}
 use Rattle.cross_quick.specs.Given.{given, isThere}
 use Rattle.cross_quick.proofs.Closest.{up-from, down-to}
-use Rattle.cross_quick.proofs.Added.{off, add-bits, add-number}
+use Rattle.cross_quick.proofs.Added.{off, add-bits}
 
 -- ---- the constants of the code
-abbrev pub Low : Float
+abbrev Low : Float
 Low = fin true 4294967295 (negsuc 0)
 
-abbrev pub High : Float
+abbrev High : Float
 High = fin false 4294967293 (negsuc 0)
 
 -- 3 * 2 ^ 51 + 2 ^ 31
-abbrev pub Large : Float
+abbrev Large : Float
 Large = fin false 3145729 (pos 31)
 
-pub low-is : neg (ofBits binary64 0x41df_ffff_ffe0_0000) ≡ Low
+low-is : neg (ofBits binary64 0x41df_ffff_ffe0_0000) ≡ Low
 unfolding neg ofBits
 low-is = refl
 
-pub high-is : ofBits binary64 0x41df_ffff_ffa0_0000 ≡ High
+high-is : ofBits binary64 0x41df_ffff_ffa0_0000 ≡ High
 unfolding ofBits
 high-is = refl
 
-pub large-is : ofBits binary64 0x4338_0000_8000_0000 ≡ Large
+large-is : ofBits binary64 0x4338_0000_8000_0000 ≡ Large
 unfolding ofBits
 large-is = refl
 
@@ -52,9 +53,6 @@ given-is s m e = by (allowed (signed s (near m e)))
     by : (t : Bool) → isThere (cond t (some (signed s (near m e))) none) ≡ t
     by true = refl
     by false = refl
-
-allowed-plus : (n : ℕ) → allowed (pos n) ≡ leb n 2147483646
-allowed-plus n = refl
 
 -- two tests that hold together
 leb-leb : (a b c d : ℕ) → (a ≤ b → c ≤ d) → (b < a → d < c) → leb a b ≡ leb c d
@@ -117,7 +115,7 @@ test-plus m e =
     let p = down-pos e in
     rw (lt-ltb 0 (4294967295 * down e + m * up e * 2) (omega arith)) (or-eq (m * up e * 2) (4294967293 * down e))
 
-pub test : (x : Float) → (lt Low x && le x High) ≡ given x
+test : (x : Float) → (lt Low x && le x High) ≡ given x
 unfolding lt le eq given nearestWhole
 test nan = refl
 test (inf true) = refl
@@ -125,13 +123,13 @@ test (inf false) = refl
 test (fin true m e) = test-minus m e ∙ minus-test m e ∙ sym (given-is true m e ∙ allowed-minus (near m e))
 test (fin false m e) = test-plus m e ∙ plus-test m e ∙ sym (given-is false m e)
 
--- ---- the mark
-unmark-plus : (n : ℕ) → unmark (2147483648 + n) ≡ pos n
-unmark-plus n = rw (le-ltb (2147483648 + n) 2147483648 (omega arith)) (let d : 2147483648 + n - 2147483648 ≡ n = omega arith in ap pos d)
+-- ---- the rank
+unrank-plus : (n : ℕ) → unrank (2147483648 + n) ≡ pos n
+unrank-plus n = rw (le-ltb (2147483648 + n) 2147483648 (omega arith)) (let d : 2147483648 + n - 2147483648 ≡ n = omega arith in ap pos d)
 
-unmark-minus : (n : ℕ) → n ≤ 2147483647 → unmark (2147483648 - n) ≡ signed true n
-unmark-minus zero k = refl
-unmark-minus (suc n) k =
+unrank-minus : (n : ℕ) → n ≤ 2147483647 → unrank (2147483648 - n) ≡ signed true n
+unrank-minus zero k = refl
+unrank-minus (suc n) k =
     let d : 2147483648 - suc (2147483648 - suc n) ≡ n = omega arith in
     rw (lt-ltb (2147483648 - suc n) 2147483648 (omega arith)) (ap negsuc d)
 
@@ -145,49 +143,37 @@ unfolding bound
 size-of true m e g = leb-true (near m e) 2147483647 (sym (allowed-minus (near m e)) ∙ sym (given-is true m e) ∙ g)
 size-of false m e g = leb-true (near m e) 2147483646 (sym (given-is false m e) ∙ g)
 
-abbrev pub markBits : Float → ℕ
-markBits x = toBits binary64 (add binary64 x Large) % 4294967296
+abbrev rankBits : Float → ℕ
+rankBits x = toBits binary64 (add binary64 x Large) % 4294967296
 
-mark-of : (s : Bool) (n : ℕ) → n ≤ bound s → unmark ((1074 * 2 ^ 52 + off s 6755401588539392 n) % 4294967296) ≡ signed s n
+rank-of : (s : Bool) (n : ℕ) → n ≤ bound s → unrank ((1074 * 2 ^ 52 + off s 6755401588539392 n) % 4294967296) ≡ signed s n
 unfolding bound
-mark-of true n h = let d : (1074 * 2 ^ 52 + (6755401588539392 - n)) % 4294967296 ≡ 2147483648 - n = omega arith in ap unmark d ∙ unmark-minus n h
-mark-of false n h = let d : (1074 * 2 ^ 52 + (6755401588539392 + n)) % 4294967296 ≡ 2147483648 + n = omega arith in ap unmark d ∙ unmark-plus n
+rank-of true n h = let d : (1074 * 2 ^ 52 + (6755401588539392 - n)) % 4294967296 ≡ 2147483648 - n = omega arith in ap unrank d ∙ unrank-minus n h
+rank-of false n h = let d : (1074 * 2 ^ 52 + (6755401588539392 + n)) % 4294967296 ≡ 2147483648 + n = omega arith in ap unrank d ∙ unrank-plus n
 
-fin-mark : (s : Bool) (m : ℕ) (e : ℤ) (n : ℕ) → closest (m * up e) (down e) ≡ n → n ≤ 2147483647 → markBits (fin s m e) ≡ (1074 * 2 ^ 52 + off s 6755401588539392 n) % 4294967296
-fin-mark s m e n g h = ap (λ (x : ℕ). x % 4294967296) (add-bits s m e 3145729 31 n 3377700794269696 refl g (omega arith) (omega arith))
+fin-rank : (s : Bool) (m : ℕ) (e : ℤ) (n : ℕ) → closest (m * up e) (down e) ≡ n → n ≤ 2147483647 → rankBits (fin s m e) ≡ (1074 * 2 ^ 52 + off s 6755401588539392 n) % 4294967296
+fin-rank s m e n g h = ap (λ (x : ℕ). x % 4294967296) (add-bits s m e 3145729 31 n 3377700794269696 refl g (omega arith) (omega arith))
 
 bound-le : (s : Bool) → bound s ≤ 2147483647
 unfolding bound
 bound-le true = lit≤ tt
 bound-le false = lit≤ tt
 
-pub mark-law : (x : Float) → given x ≡ true → some (unmark (markBits x)) ≡ nearestWhole x
+rank-law : (x : Float) → given x ≡ true → some (unrank (rankBits x)) ≡ nearestWhole x
 unfolding given nearestWhole near
-mark-law nan g = absurd (false≢true g)
-mark-law (inf s) g = absurd (false≢true g)
-mark-law (fin s m e) g =
+rank-law nan g = absurd (false≢true g)
+rank-law (inf s) g = absurd (false≢true g)
+rank-law (fin s m e) g =
     let h = size-of s m e g in
-    ap some (ap unmark (fin-mark s m e (near m e) refl (le-trans h (bound-le s))) ∙ mark-of s (near m e) h)
-
-pub number-law : (x : Float) → given x ≡ true → T (not (isNan (add binary64 x Large)))
-unfolding given nearestWhole near
-number-law nan g = absurd (false≢true g)
-number-law (inf s) g = absurd (false≢true g)
-number-law (fin s m e) g =
-    let h : near m e ≤ 2147483647 = le-trans (size-of s m e g) (bound-le s) in
-    add-number s m e 3145729 31 (near m e) 3377700794269696 refl refl (omega arith) (omega arith)
+    ap some (ap unrank (fin-rank s m e (near m e) refl (le-trans h (bound-le s))) ∙ rank-of s (near m e) h)
 
 -- ---- the exits of the code
 module _ (x : Float) where
   pub within-exit : (lt (neg (ofBits binary64 4746794007246405632)) x && le x (ofBits binary64 4746794007242211328)) ≡ given x
   within-exit = ap (λ (l : Float). lt l x && le x (ofBits binary64 4746794007242211328)) low-is ∙ ap (λ (h : Float). lt Low x && le x h) high-is ∙ test x
 
-  pub number-exit : given x ≡ true → T (not (isNan (add binary64 x (ofBits binary64 4843621401384452096))))
-  number-exit g = subst (λ (l : Float). T (not (isNan (add binary64 x l)))) (sym large-is) (number-law x g)
+  pub number-exit : isNan x ≡ false → T (not (isNan (add binary64 x (ofBits binary64 4843621401384452096))))
+  number-exit h = rw (ap (λ (l : Float). isNan (add binary64 x l)) large-is ∙ add-number x h false 3145729 (pos 31)) tt
 
-  pub mark-exit : given x ≡ true → some (unmark (toBits binary64 (add binary64 x (ofBits binary64 4843621401384452096)) % 4294967296)) ≡ nearestWhole x
-  mark-exit g = ap (λ (l : Float). some (unmark (toBits binary64 (add binary64 x l) % 4294967296))) large-is ∙ mark-law x g
-
-pub zero-given : given (ofBits binary64 0) ≡ true
-unfolding given nearestWhole ofBits
-zero-given = refl
+  pub rank-exit : given x ≡ true → some (unrank (toBits binary64 (add binary64 x (ofBits binary64 4843621401384452096)) % 4294967296)) ≡ nearestWhole x
+  rank-exit g = ap (λ (l : Float). some (unrank (toBits binary64 (add binary64 x l) % 4294967296))) large-is ∙ rank-law x g

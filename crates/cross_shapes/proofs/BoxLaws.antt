@@ -1,4 +1,4 @@
--- The exits of the functions that meet a box. Marks compare as their positions do.
+-- The exits of the functions that meet a box. Ranks compare as their positions do.
 use mathlib.Core.Path.{_≡_, refl, sym, ap, _∙_}
 use Prim.Native.Nat.{ℕ, _<_, _≤_, min, max}
 use native.Mathlib.Omega.{arith}
@@ -6,8 +6,8 @@ use mathlib.Core.Bool.{Bool, true, false, cond}
 use borrow.Author.Tests.{ltb-true, ltb-false, lt-ltb, le-ltb}
 use lib.Dec.{ltb}
 use lib.Ieee.{Float, lt}
-use Rattle.cross_marks.specs.Marks.{unmark}
-use Rattle.cross_marks.proofs.MarkLaws.{unmark-lt}
+use Rattle.cross_ranks.specs.Ranks.{unrank}
+use Rattle.cross_ranks.proofs.RankLaws.{unrank-lt}
 use Rattle.cross_positions.specs.Positions.{position}
 use Rattle.cross_positions.specs.Found.{foundOf}
 use Rattle.cross_positions.specs.declared.Found.{Found}
@@ -21,26 +21,26 @@ use Rattle.cross_shapes.specs.declared.Probe.{Probe}
 use Rattle.cross_shapes.specs.declared.Span.{Span}
 use Rattle.cross_shapes.specs.declared.Span.the-variants.{Missed, Free, Between}
 
--- ---- the lesser and the greater of two positions, by their marks
-pub lesser-mark : (a b : ℕ) → unmark (min a b) ≡ lesser (unmark a) (unmark b)
+-- ---- the lesser and the greater of two positions, by their ranks
+pub lesser-rank : (a b : ℕ) → unrank (min a b) ≡ lesser (unrank a) (unrank b)
 unfolding lesser
-lesser-mark a b = rw (unmark-lt a b) (by (ltb a b) refl)
+lesser-rank a b = rw (unrank-lt a b) (by (ltb a b) refl)
   where
-    by : (t : Bool) → ltb a b ≡ t → unmark (min a b) ≡ cond t (unmark a) (unmark b)
-    by true e = let h = ltb-true a b e in let i : min a b ≡ a = omega arith in ap unmark i
-    by false e = let h = ltb-false a b e in let i : min a b ≡ b = omega arith in ap unmark i
+    by : (t : Bool) → ltb a b ≡ t → unrank (min a b) ≡ cond t (unrank a) (unrank b)
+    by true e = let h = ltb-true a b e in let i : min a b ≡ a = omega arith in ap unrank i
+    by false e = let h = ltb-false a b e in let i : min a b ≡ b = omega arith in ap unrank i
 
-pub greater-mark : (a b : ℕ) → unmark (max a b) ≡ greater (unmark a) (unmark b)
+pub greater-rank : (a b : ℕ) → unrank (max a b) ≡ greater (unrank a) (unrank b)
 unfolding greater
-greater-mark a b = rw (unmark-lt a b) (by (ltb a b) refl)
+greater-rank a b = rw (unrank-lt a b) (by (ltb a b) refl)
   where
-    by : (t : Bool) → ltb a b ≡ t → unmark (max a b) ≡ cond t (unmark b) (unmark a)
-    by true e = let h = ltb-true a b e in let i : max a b ≡ b = omega arith in ap unmark i
-    by false e = let h = ltb-false a b e in let i : max a b ≡ a = omega arith in ap unmark i
+    by : (t : Bool) → ltb a b ≡ t → unrank (max a b) ≡ cond t (unrank b) (unrank a)
+    by true e = let h = ltb-true a b e in let i : max a b ≡ b = omega arith in ap unrank i
+    by false e = let h = ltb-false a b e in let i : max a b ≡ a = omega arith in ap unrank i
 
 -- ---- one axis
 pub between-exit : (p q : Found) (a b x y : ℕ) → p ≡ At a → q ≡ At b → x ≡ min a b → y ≡ max a b → spanOf (Between x y) ≡ between (foundOf p) (foundOf q)
-between-exit p q a b x y e f k l = rw (e, f, k, l, lesser-mark, greater-mark)
+between-exit p q a b x y e f k l = rw (e, f, k, l, lesser-rank, greater-rank)
 
 module _ (low high origin component : Float) (w : Bool) (k : w ≡ isZero component) where
   pub axis-free : w ≡ true → lt low origin ≡ true → lt origin high ≡ true → spanOf Free ≡ axisRange low high origin component
@@ -64,7 +64,7 @@ pub free-exit : (s t : Span) (a b : ℕ) → s ≡ Between a b → t ≡ Free �
 free-exit s t a b e f = rw (e, f)
 
 pub meet-exit : (s t : Span) (a b c d x y : ℕ) → s ≡ Between a b → t ≡ Between c d → x ≡ max a c → y ≡ min b d → spanOf (Between x y) ≡ meet (spanOf s) (spanOf t)
-meet-exit s t a b c d x y e f k l = rw (e, f, k, l, greater-mark, lesser-mark)
+meet-exit s t a b c d x y e f k l = rw (e, f, k, l, greater-rank, lesser-rank)
 
 pub axes-exit : (x y z : Range) (r s t u v : Span) → spanOf r ≡ x → spanOf s ≡ y → spanOf t ≡ z → spanOf u ≡ meet (spanOf r) (spanOf s) → spanOf v ≡ meet (spanOf u) (spanOf t) → spanOf v ≡ meet (meet x y) z
 axes-exit x y z r s t u v e f g h k = k ∙ rw (h, e, f, g)
@@ -72,10 +72,10 @@ axes-exit x y z r s t u v e f g h k = k ∙ rw (h, e, f, g)
 -- ---- two crossings or none
 module _ (s : Span) (a b : ℕ) (e : s ≡ Between a b) where
   pub twice-exit : a < b → cutOf (Twice a b) ≡ crossedTwice (spanOf s)
-  twice-exit h = sym (rw (e, unmark-lt a b, lt-ltb a b h))
+  twice-exit h = sym (rw (e, unrank-lt a b, lt-ltb a b h))
 
   pub never-exit : b ≤ a → cutOf (Never false) ≡ crossedTwice (spanOf s)
-  never-exit h = sym (rw (e, unmark-lt a b, le-ltb a b h))
+  never-exit h = sym (rw (e, unrank-lt a b, le-ltb a b h))
 
 -- ---- the numbers of a box
 module _ (low high : Float) (a : Bool) (e : a ≡ finite low) where

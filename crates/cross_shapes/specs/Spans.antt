@@ -1,5 +1,5 @@
 -- What the code's spans say of a box.
-use Rattle.cross_marks.specs.Marks.{unmark}
+use Rattle.cross_ranks.specs.Ranks.{unrank}
 use Rattle.cross_shapes.specs.Shapes.{Range, wrong, missed, free, from}
 use Rattle.cross_shapes.specs.declared.Span.{Span}
 use Rattle.cross_shapes.specs.declared.Span.the-variants.{Wrong, Missed, Free, Between}
@@ -8,4 +8,4 @@ abbrev pub spanOf : Span → Range
 spanOf Wrong = wrong
 spanOf Missed = missed
 spanOf Free = free
-spanOf (Between a b) = from (unmark a) (unmark b)
+spanOf (Between a b) = from (unrank a) (unrank b)

@@ -24,7 +24,7 @@ pub enum Shape {
     Block(f64, f64, f64, f64, f64, f64),
 }
 
-// What a line has of a box on some of the axes, positions by their marks.
+// What a line has of a box on some of the axes, positions by their ranks.
 enum Span {
     Wrong,
     Missed,

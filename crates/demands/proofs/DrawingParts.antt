@@ -13,7 +13,7 @@ use Rattle.line_cuts.specs.Cuts.{partsOf, total, Cuttable, EachGiven, joinWalls
 use Rattle.cross_many.specs.Crossing.{crossingMany}
 use Rattle.cross_drawn.specs.Drawn.{drawn, Drawn, drawnLists}
 use Rattle.cross_drawn.specs.Lent.{probesOf}
-use Rattle.cross_parts.specs.Parts.{probeParts, EachDrawn, inTurn}
+use Rattle.cross_parts.specs.Parts.{probeParts, EachDrawn, oneAfterAnother}
 use Rattle.cross_parts.proofs.DrawnParts.{each-drawn}
 use Rattle.cross_parts.proofs.JobParts.{drawn-whole}
 use Rattle.cross_parts.proofs.CutAgain.{parts-drawn, drawn-cuttable, drawn-rows}
@@ -37,9 +37,9 @@ module _ (s : Sheets) (x : Sheet) (is : accepted s ≡ given x) (kinds : List �
 
   -- What is crossed part by part and classified part by part gives the walls of the whole, if that is lent the room it asks for.
   pub drawing-parts : (vs : List Drawn) → EachDrawn (crossingMany kinds numbers) (probeParts sizes lines) vs → (wss : List (List Wall)) → EachGiven (classifying s) (map drawnLists vs) wss
-      → (lent : AnswerLists) → roomyLists (roomFor (length (x .names)) (drawnLists (inTurn vs))) lent ≡ given tt → classifying s (drawnLists (inTurn vs)) lent ≡ given (joinWalls sizes wss)
+      → (lent : AnswerLists) → roomyLists (roomFor (length (x .names)) (drawnLists (oneAfterAnother vs))) lent ≡ given tt → classifying s (drawnLists (oneAfterAnother vs)) lent ≡ given (joinWalls sizes wss)
   drawing-parts vs g wss h lent room =
-      let same : drawn kinds numbers (probesOf lines) ≡ inTurn vs = drawn-whole kinds numbers sizes lines whole vs g in
+      let same : drawn kinds numbers (probesOf lines) ≡ oneAfterAnother vs = drawn-whole kinds numbers sizes lines whole vs g in
       let apart : partsOf (length (x .names)) sizes lists ≡ map drawnLists vs = subst (λ (n : ℕ). partsOf n sizes lists ≡ map drawnLists vs) as-many
       (parts-drawn kinds numbers sizes lines whole few ∙ ap (map drawnLists) (sym (each-drawn kinds numbers (probeParts sizes lines) vs g))) in
       ap (λ (v : Drawn). classifying s (drawnLists v) lent) (sym same)

@@ -23,7 +23,7 @@ use Rattle.job_move.proofs.Journey.{reading-moves}
 
 module _ (c : Sheets) (r : Sheet) (read : reading c ≡ given r) where
   -- A moved sheet is accepted.
-  pub moved-accepted : accepted (movedIn c r) ≡ given (inEdition (other (r .edition)) r)
+  moved-accepted : accepted (movedIn c r) ≡ given (inEdition (other (r .edition)) r)
   moved-accepted = accepted-given (movedIn c r) (inEdition (other (r .edition)) r) (reading-moves c r read)
 
   pub build-moved : (kinds firsts seconds : ℕ) → building (movedIn c r) kinds firsts seconds ≡ building c kinds firsts seconds

@@ -21,7 +21,7 @@ use Rattle.edits.specs.Edits.{size, only, edited}
 use Rattle.edits.specs.Changes.{operations}
 use Rattle.edits.proofs.Codes.{length-postfix, above-none, is-operation, edited-postfix, over-remade}
 use Rattle.edit_checking.specs.Fits.{operatesAt}
-use Rattle.job_move.proofs.Giving.{codes-long}
+use Rattle.sheet_laying.proofs.CodeBytes.{codes-long}
 use Rattle.job_move.proofs.Journey.{Like, said-edition, field-long, own-like}
 use Rattle.demands.specs.Recoded.{recoded, recodedIn, withFormula}
 

@@ -12,7 +12,7 @@ use Rattle.demands.specs.Worked.{worked, lentNumbers}
 pub data Call : Type 0 where
   call : List ℕ → List ℕ → List ℕ → List ℕ → Outcome Answers → Call
 
-abbrev pub Holds : Call → Type 0
+abbrev Holds : Call → Type 0
 Holds (call toggles moments positions codes gives) =
     runningEdited (alone worked) toggles moments positions codes (lists lentNumbers lentNumbers lentNumbers lentNumbers) ≡ gives
 

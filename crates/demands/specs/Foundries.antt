@@ -12,7 +12,7 @@ use Rattle.demands.specs.Worked.{worked, room}
 pub data Call : Type 0 where
   call : List ℕ → List ℕ → List ℕ → Outcome Answers → Outcome Answers → Call
 
-abbrev pub Holds : Call → Type 0
+abbrev Holds : Call → Type 0
 Holds (call order first second to-first to-second) =
     let shared = sharing (alone worked) order first second in
     (serving shared first room room room ≡ to-first) × (serving shared second room room room ≡ to-second)
@@ -21,10 +21,10 @@ abbrev pub All : List Call → Type 0
 All [] = Unit {0}
 All (c ∷ cs) = Holds c × All cs
 
-abbrev pub AB : Outcome Answers
+abbrev AB : Outcome Answers
 AB = given (answers (1 ∷ 0 ∷ []) (2 ∷ 2 ∷ []) (1 ∷ 1 ∷ 0 ∷ 1 ∷ 1 ∷ 0 ∷ []))
 
-abbrev pub B : Outcome Answers
+abbrev B : Outcome Answers
 B = given (answers (0 ∷ []) (2 ∷ []) (0 ∷ 1 ∷ 0 ∷ 1 ∷ 0 ∷ 0 ∷ []))
 
 abbrev pub calls : List Call

@@ -11,17 +11,17 @@ use Rattle.job_names.specs.Names.{namingAll}
 use Rattle.demands.specs.Worked.{two, field, names, codes, sheet, A, B, C, worked}
 
 -- A sheet of edition 2, and a fittings sheet of the names K and L.
-abbrev pub sheetFirst : ℕ → Formula → List ℕ
+abbrev sheetFirst : ℕ → Formula → List ℕ
 sheetFirst n f = field 1 (two 2) ++ (names 65 n ++ field 4 (codes (prefix f)))
 
-abbrev pub fittings : List ℕ
+abbrev fittings : List ℕ
 fittings = field 1 (two 1) ++ names 75 2
 
 -- The worked sheet in edition 2; and a sheet that has 0xFFF3 twice, first at offset 24, and at the end.
-abbrev pub workedFirst : List ℕ
+abbrev workedFirst : List ℕ
 workedFirst = sheetFirst 3 (node difference A (node union B C))
 
-abbrev pub twice : Formula
+abbrev twice : Formula
 twice = node exclusive (node exclusive A B) C
 
 pub data Case : Type 0 where
@@ -32,7 +32,7 @@ pub data Case : Type 0 where
   -- of the sheets and the lengths of three answer lists: where all names stand
   asksAll : Sheets → ℕ → ℕ → ℕ → Outcome (List Stand) → Case
 
-abbrev pub Holds : Case → Type 0
+abbrev Holds : Case → Type 0
 Holds (moves c long gives) = moving c long ≡ gives
 Holds (asks c k gives) = naming c k ≡ gives
 Holds (asksAll c sheets firsts pasts gives) = namingAll c sheets firsts pasts ≡ gives

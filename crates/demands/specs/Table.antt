@@ -30,7 +30,7 @@ pub data Case : Type 0 where
   -- of the same and another's walls on that line, by start and end: the opinion
   judges : List ℕ → List ℕ → List (ℤ × ℕ) → List (ℤ × ℤ) → Opinion → Case
 
-abbrev pub Holds : Case → Type 0
+abbrev Holds : Case → Type 0
 Holds (bytes s b) = s ≡ b
 Holds (builds s n) = part summaryOf (building (alone s) room room room) ≡ given n
 Holds (lists s rs) = part (λ t. map (λ r. (number (r .kind), r .first, r .second)) (t .records)) (building (alone s) room room room) ≡ given rs
@@ -46,13 +46,13 @@ All [] = Unit {0}
 All (c ∷ cs) = Holds c × All cs
 
 -- A less B on one line.
-abbrev pub cut : List ℕ
+abbrev cut : List ℕ
 cut = sheet 2 (node difference A B)
 
-abbrev pub noMetal : List ℕ
+abbrev noMetal : List ℕ
 noMetal = 0 ∷ 0 ∷ []
 
-abbrev pub cutAt : List (ℤ × ℕ)
+abbrev cutAt : List (ℤ × ℕ)
 cutAt = (pos 0, 0) ∷ (pos 40, 1) ∷ (pos 60, 1) ∷ (pos 100, 0) ∷ []
 
 -- ---- The table

@@ -11,7 +11,7 @@ use lib.Seq.{drop-cons, getD-take}
 use borrow.Author.Tests.{le-leb, lt-leb}
 use Rattle.formula.specs.Formula.{firstOperation}
 use Rattle.formula.specs.Codes.{isOperation}
-use Rattle.edit_checking.specs.Fits.{operatesAt, inTurn, fits, firstUnfit}
+use Rattle.edit_checking.specs.Fits.{operatesAt, inTime, fits, firstUnfit}
 use Rattle.edit_checking.specs.Asked.{Equal}
 
 -- a position past the codes, and one among them
@@ -24,17 +24,17 @@ module _ (codes : List ℕ) (n p : ℕ) {i : ℕ} (at : i ≡ p) where
   pub among-codes : {b : Bool} → i < n → b ≡ isOperation (getD codes i 0) → b ≡ operatesAt (take n codes) p
   among-codes h e = e ∙ ap (λ k. isOperation (getD codes k 0)) at ∙ ap isOperation (sym (getD-take n codes p 0 (omega arith)))
 
--- an operation's code, and a moment in its turn
+-- an operation's code, and a moment in time
 pub low-code : (c : ℕ) → c < 65520 → false ≡ isOperation c
 low-code c h = rw (lt-leb firstOperation c h)
 
 pub high-code : (c : ℕ) → 65520 ≤ c → leb c 65523 ≡ isOperation c
 high-code c h = rw (le-leb firstOperation c h)
 
-pub early : (most before m : ℕ) → m < before → false ≡ inTurn most before m
+pub early : (most before m : ℕ) → m < before → false ≡ inTime most before m
 early most before m h = rw (lt-leb before m h)
 
-pub late : (most before m : ℕ) → before ≤ m → leb m most ≡ inTurn most before m
+pub late : (most before m : ℕ) → before ≤ m → leb m most ≡ inTime most before m
 late most before m h = rw (le-leb before m h)
 
 -- an edit's three questions
@@ -46,7 +46,7 @@ module _ (codes : List ℕ) (most before m p c : ℕ) {a : Bool} (at : a ≡ ope
     pub no-code : b ≡ false → false ≡ fits codes most before m p c
     no-code z = rw (← at, e, ← to, z)
 
-    pub by-moment : {t : Bool} → b ≡ true → t ≡ inTurn most before m → t ≡ fits codes most before m p c
+    pub by-moment : {t : Bool} → b ≡ true → t ≡ inTime most before m → t ≡ fits codes most before m p c
     by-moment z q = rw (← at, e, ← to, z) q
 
 -- ---- the loop: the first i edits fit, and `before` is the moment of the last of them

@@ -11,12 +11,12 @@ abbrev pub operatesAt : List ℕ → ℕ → Bool
 operatesAt codes p = isOperation (getD codes p 0)
 
 -- A moment does not fall below the one before, and does not exceed the number of toggles.
-abbrev pub inTurn : ℕ → ℕ → ℕ → Bool
-inTurn most before m = leb before m && leb m most
+abbrev pub inTime : ℕ → ℕ → ℕ → Bool
+inTime most before m = leb before m && leb m most
 
 -- An edit at moment m, position p, to code c.
 abbrev pub fits : List ℕ → ℕ → ℕ → ℕ → ℕ → ℕ → Bool
-fits codes most before m p c = operatesAt codes p && (isOperation c && inTurn most before m)
+fits codes most before m p c = operatesAt codes p && (isOperation c && inTime most before m)
 
 -- The index of the first edit that does not fit; the number of edits where there is none.
 abbrev pub firstUnfit : List ℕ → ℕ → ℕ → List ℕ → List ℕ → List ℕ → ℕ

@@ -2,7 +2,7 @@
 ghost use mathlib.Core.Path.{_≡_};
 ghost use lib.ListN.{take};
 ghost use Rattle.formula.specs.Codes.{isOperation};
-ghost use Rattle.edit_checking.specs.Fits.{operatesAt, inTurn, fits as fitsIn, firstUnfit};
+ghost use Rattle.edit_checking.specs.Fits.{operatesAt, inTime, fits as fitsIn, firstUnfit};
 ghost use Rattle.edit_checking.specs.Asked.{Equal, Coded};
 
 // A position as an index.
@@ -34,9 +34,9 @@ fn operates(formula: &[u16; 2048], n: usize, p: u16) -> bool
     is_operation(formula[i])
 }
 
-// Whether a moment comes in its turn, where `before` is the one before it.
-fn in_turn(most: u64, before: u64, m: u64) -> bool
-    ensures { λ r. ⌜ r ≡ inTurn most before m ⌝ }
+// Whether a moment comes in time, where `before` is the one before it.
+fn in_time(most: u64, before: u64, m: u64) -> bool
+    ensures { λ r. ⌜ r ≡ inTime most before m ⌝ }
 {
     if m < before {
         return false;
@@ -51,7 +51,7 @@ fn fits(formula: &[u16; 2048], n: usize, most: u64, before: u64, m: u64, p: u16,
 {
     if operates(formula, n, p) {
         if is_operation(c) {
-            return in_turn(most, before, m);
+            return in_time(most, before, m);
         }
         return false;
     }

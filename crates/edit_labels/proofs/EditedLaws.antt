@@ -32,16 +32,16 @@ use Rattle.edit_labels.specs.Editing.{sweep, edit, Above, own, up}
 
 -- the two ways of a sweep at a record
 module _ (e : ℕ) (old : List ℕ) (r : Rec) (rs : List Rec) (j : ℕ) (ls : List ℕ) where
-  pub sweep-skip : (eqb j e || changed old ls (children r)) ≡ false → sweep e old (r ∷ rs) j ls ≡ sweep e old rs (suc j) ls
+  sweep-skip : (eqb j e || changed old ls (children r)) ≡ false → sweep e old (r ∷ rs) j ls ≡ sweep e old rs (suc j) ls
   sweep-skip q = rw (q, sweep)
 
-  pub sweep-here : (eqb j e || changed old ls (children r)) ≡ true
+  sweep-here : (eqb j e || changed old ls (children r)) ≡ true
       → sweep e old (r ∷ rs) j ls
       ≡ steps (sweep e old rs (suc j) (set ls j (reworked ls r)) .labels) (suc (sweep e old rs (suc j) (set ls j (reworked ls r)) .count))
   sweep-here q = rw (q, sweep)
 
 -- where no child's label has changed, the children have the old labels
-pub unchanged : (old ls cs : List ℕ) → changed old ls cs ≡ false → (c : ℕ) → listed c cs ≡ true → getD ls c 0 ≡ getD old c 0
+unchanged : (old ls cs : List ℕ) → changed old ls cs ≡ false → (c : ℕ) → listed c cs ≡ true → getD ls c 0 ≡ getD old c 0
 unchanged old ls [] h c a = absurd (false≢true a)
 unchanged old ls (d ∷ ds) h c a = go (eqb c d) refl (eqb (getD ls d 0) (getD old d 0)) refl (unchanged old ls ds)
   where
@@ -57,7 +57,7 @@ changed-inner old ls r h = cases (isLeaf (r .kind)) (λ q. absurd (false≢true 
 
 module _ (state : State) (e : ℕ) (old : List ℕ) where
   -- the old labels are right at every node but e, which is no leaf
-  abbrev pub Rest : ℕ → List Rec → Type 0
+  abbrev Rest : ℕ → List Rec → Type 0
   Rest n [] = Unit {0}
   Rest n (r ∷ rs) = (eqb n e ≡ false → getD old n 0 ≡ label state old r) × (eqb n e ≡ true → isLeaf (r .kind) ≡ false) × Rest (suc n) rs
 
@@ -247,14 +247,3 @@ pub builds-differ-above : (f : Formula) (p : ℕ) (o : Op) (state : State) → o
     → (getD (labels state (dwarf (edited p o f))) n 0 ≡ getD (labels state (dwarf f)) n 0 → ⊥) → Above (dwarf (edited p o f)) (nodeAt f p) n
 builds-differ-above f p o state h n differs =
     edit-above (dwarf (edited p o f)) (nodeAt f p) (labels state (dwarf f)) n (λ same. differs (ap (λ ls. getD ls n 0) (sym (edit-labels f p o state h)) ∙ same))
-
--- ---- An edit keeps the number of labels
-
-length-sweep : (e : ℕ) (old : List ℕ) (rs : List Rec) (j : ℕ) (ls : List ℕ) → length (sweep e old rs j ls .labels) ≡ length ls
-length-sweep e old [] j ls = refl
-length-sweep e old (r ∷ rs) j ls = go (eqb j e || changed old ls (children r)) refl (length-sweep e old rs (suc j))
-  where
-    go : (b : Bool) → (eqb j e || changed old ls (children r)) ≡ b → ((ms : List ℕ) → length (sweep e old rs (suc j) ms .labels) ≡ length ms)
-        → length (sweep e old (r ∷ rs) j ls .labels) ≡ length ls
-    go true q ih = rw (sweep-here e old r rs j ls q) (ih (set ls j (reworked ls r)) ∙ length-set ls j (reworked ls r))
-    go false q ih = rw (sweep-skip e old r rs j ls q) (ih ls)

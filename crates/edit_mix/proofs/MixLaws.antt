@@ -1,4 +1,4 @@
--- Edits and toggles turn about: an edit whose moment has come, a toggle where none is there, and what is left when all have acted.
+-- Edits and toggles act: an edit whose moment has come, a toggle where none is there, and what is left when all have acted.
 use Prim.Native.Nat.{ℕ, suc, _+_, _-_, _<_, _≤_}
 use native.Mathlib.Numerals.{add-one}
 use native.Mathlib.Omega.{arith}
@@ -35,7 +35,7 @@ use Rattle.edit_moments.proofs.Lists.{waiting-none, by-later}
 use Rattle.edit_moments.proofs.ActLaws.{can-edit, can-operate, acted-now, readable, all-later}
 use Rattle.edit_mix.specs.Edits.{rootsAfter, countsAfter}
 use Rattle.edit_mix.specs.declared.Toggled.{Toggled}
-use Rattle.edit_mix.specs.TurnAbout.{plan, CanToggle, ToggleDone, CanTurn, can-turn, Told, TurnDone, turn-done, MixLeft}
+use Rattle.edit_mix.specs.Acting.{plan, CanToggle, ToggleDone, CanAct, can-act, Told, Acted, has-acted, MixLeft}
 
 -- ---- one toggle, where every edit that waits is of a later moment
 module _ {d : Desk} {f : Formula} {toggles lent : List ℕ} {i k : ℕ} {ks ls counts : List ℕ} (a : At d (plan f toggles lent) i k ks ls counts)
@@ -49,9 +49,9 @@ module _ {d : Desk} {f : Formula} {toggles lent : List ℕ} {i k : ℕ} {ks ls c
   one-more = take-suc toggles i 0 h
 
   module _ (ls′ : List ℕ) {s n : ℕ} (is : s ≡ getD toggles i 0) (long : length ls′ ≡ 3072)
-      (turned : steps (take (d .size .nodes) ls′) n ≡ toggle (recs ks (d .firsts) (d .seconds) 0 (d .size .nodes)) s (take (d .size .nodes) ls)) where
+      (worked : steps (take (d .size .nodes) ls′) n ≡ toggle (recs ks (d .firsts) (d .seconds) 0 (d .size .nodes)) s (take (d .size .nodes) ls)) where
     steps-are : steps (take (d .size .nodes) ls′) n ≡ toggle (dwarf (a .now)) (getD toggles i 0) (labels (toggledBy (take i toggles)) (dwarf (a .now)))
-    steps-are = turned ∙ rw (held-records ks (d .firsts) (d .seconds) (d .size .leaves) (d .size .nodes) (a .now) (a .holds), is, a .labels-are)
+    steps-are = worked ∙ rw (held-records ks (d .firsts) (d .seconds) (d .size .leaves) (d .size .nodes) (a .now) (a .holds), is, a .labels-are)
 
     labels-now : take (d .size .nodes) ls′ ≡ labels (toggledBy (take i toggles ++ (getD toggles i 0 ∷ []))) (dwarf (a .now))
     labels-now = ap (λ (x : Steps). x .labels) steps-are ∙ toggle-more (a .now) (take i toggles) (getD toggles i 0)
@@ -96,31 +96,31 @@ module _ {d : Desk} {f : Formula} {toggles lent : List ℕ} {i k : ℕ} {ks ls c
               ∙ ap₂ (λ y ts. sets (set answers i y) (suc i) (countsAfter f es ts rest)) (sym is-count) (sym one-more);
         }
 
--- ---- a turn
+-- ---- one act
 module _ {d : Desk} {toggles : List ℕ} {j k : ℕ} {ks ls roots counts edits : List ℕ} where
-  formula-of : CanTurn d toggles j k ks ls roots counts edits → Formula
-  formula-of (can-turn f lent a chains room few within) = f
+  formula-of : CanAct d toggles j k ks ls roots counts edits → Formula
+  formula-of (can-act f lent a chains room few within) = f
 
-  lent-of : CanTurn d toggles j k ks ls roots counts edits → List ℕ
-  lent-of (can-turn f lent a chains room few within) = lent
+  lent-of : CanAct d toggles j k ks ls roots counts edits → List ℕ
+  lent-of (can-act f lent a chains room few within) = lent
 
-  at-of : (c : CanTurn d toggles j k ks ls roots counts edits) → At d (plan (formula-of c) toggles (lent-of c)) (j - k) k ks ls edits
+  at-of : (c : CanAct d toggles j k ks ls roots counts edits) → At d (plan (formula-of c) toggles (lent-of c)) (j - k) k ks ls edits
   unfolding formula-of lent-of
-  at-of (can-turn f lent a chains room few within) = a
+  at-of (can-act f lent a chains room few within) = a
 
-  chains-of : CanTurn d toggles j k ks ls roots counts edits → Chains ks (d .firsts) (d .seconds) (d .size .leaves) (d .size .nodes) (d .links)
-  chains-of (can-turn f lent a chains room few within) = chains
+  chains-of : CanAct d toggles j k ks ls roots counts edits → Chains ks (d .firsts) (d .seconds) (d .size .leaves) (d .size .nodes) (d .links)
+  chains-of (can-act f lent a chains room few within) = chains
 
-  room-of : CanTurn d toggles j k ks ls roots counts edits → ToggleRoom toggles roots counts
-  room-of (can-turn f lent a chains room few within) = room
+  room-of : CanAct d toggles j k ks ls roots counts edits → ToggleRoom toggles roots counts
+  room-of (can-act f lent a chains room few within) = room
 
-  few-of : CanTurn d toggles j k ks ls roots counts edits → k ≤ j
-  few-of (can-turn f lent a chains room few within) = few
+  few-of : CanAct d toggles j k ks ls roots counts edits → k ≤ j
+  few-of (can-act f lent a chains room few within) = few
 
-  within-of : CanTurn d toggles j k ks ls roots counts edits → j - k ≤ length toggles
-  within-of (can-turn f lent a chains room few within) = within
+  within-of : CanAct d toggles j k ks ls roots counts edits → j - k ≤ length toggles
+  within-of (can-act f lent a chains room few within) = within
 
-  module _ (c : CanTurn d toggles j k ks ls roots counts edits) where
+  module _ (c : CanAct d toggles j k ks ls roots counts edits) where
     -- where no edit's moment has come, a toggle is there
     toggle-there : j < length toggles + length (d .moments) → Later (d .moments) k (j - k) → j - k < length toggles
     toggle-there more none = go (ltb k (length (d .moments))) refl
@@ -131,55 +131,55 @@ module _ {d : Desk} {toggles : List ℕ} {j k : ℕ} {ks ls roots counts edits :
 
     edited-on : {e o n : ℕ} {ks′ ls′ : List ℕ} → Due (d .moments) (d .positions) (d .codes) (d .places) k (j - k) e o
         → EditDone ks (d .firsts) (d .seconds) (d .size .leaves) (d .size .nodes) (d .links) ls e o ks′ ls′ n
-        → TurnDone d toggles j k (k + 1) ks ls roots counts edits ks′ ls′ roots counts (set edits k n)
+        → Acted d toggles j k (k + 1) ks ls roots counts edits ks′ ls′ roots counts (set edits k n)
     edited-on due x =
         let same : j + 1 - (k + 1) ≡ j - k = omega arith in
-        turn-done (omega (arith, few-of c)) (rw same (within-of c))
+        has-acted (omega (arith, few-of c)) (rw same (within-of c))
         (λ f lent a. rw same (acted-now a (due .here) due x))
         (λ f lent roots₀ counts₀ a told-so. rw same told-so)
 
     toggled-on : j < length toggles + length (d .moments) → Later (d .moments) k (j - k) → (ls′ : List ℕ) {r : Toggled} → ToggleDone ks (d .firsts) (d .seconds) (d .size) toggles (j - k) ls ls′ r
-        → TurnDone d toggles j k k ks ls roots counts edits ks ls′ (set roots (j - k) (r .root)) (set counts (j - k) (r .count)) edits
+        → Acted d toggles j k k ks ls roots counts edits ks ls′ (set roots (j - k) (r .root)) (set counts (j - k) (r .count)) edits
     toggled-on more none ls′ t =
         let h = toggle-there more none in
         let next : j + 1 - k ≡ j - k + 1 = omega (arith, few-of c) in
-        turn-done (omega (arith, few-of c)) (rw next (omega arith))
+        has-acted (omega (arith, few-of c)) (rw next (omega arith))
         (λ f lent a. rw next (toggled a (all-later a none) h ls′ refl (t .long) (t .is)))
         (λ f lent roots₀ counts₀ a told-so. rw next (told a (all-later a none) h ls′ refl (t .long) (t .is) (t .root-is) told-so))
 
 -- ---- the same as the function meets it
 module _ {rules fs xs : List ℕ} {size : Size} {links places ms ps cs toggles : List ℕ} {j k : ℕ} {ks ls roots counts edits : List ℕ}
-    (c : CanTurn (desk rules fs xs size links places ms ps cs) toggles j k ks ls roots counts edits) where
+    (c : CanAct (desk rules fs xs size links places ms ps cs) toggles j k ks ls roots counts edits) where
   pub edits-few : k ≤ j
   edits-few = few-of c
 
-  pub turn-readable : Readable ms ps cs k
-  turn-readable = readable (at-of c)
+  pub act-readable : Readable ms ps cs k
+  act-readable = readable (at-of c)
 
   module _ {r : Next} (says : NextSays ms ps cs places k (j - k) r) where
     module _ {e o : ℕ} (is : r ≡ next.Edit e o) where
       due : Due ms ps cs places k (j - k) e o
       due = rw is at says
 
-      pub turn-edits : Editable rules ks fs xs (size .leaves) (size .nodes) links ls e
-      turn-edits = can-edit (at-of c) (due .here) due
+      pub act-edits : Editable rules ks fs xs (size .leaves) (size .nodes) links ls e
+      act-edits = can-edit (at-of c) (due .here) due
 
-      pub turn-operates : o < 4
-      turn-operates = can-operate (at-of c) (due .here) due
+      pub act-operates : o < 4
+      act-operates = can-operate (at-of c) (due .here) due
 
       pub edit-room : k < length edits
       edit-room = omega (arith, due .here, at-of c .room)
 
-      pub turn-edited : {n m : ℕ} {ks′ ls′ edits′ : List ℕ} → EditDone ks fs xs (size .leaves) (size .nodes) links ls e o ks′ ls′ n → edits′ ≡ set edits k n → m ≡ k + 1
-          → TurnDone (desk rules fs xs size links places ms ps cs) toggles j k m ks ls roots counts edits ks′ ls′ roots counts edits′
-      turn-edited x put on = rw (put, on) (edited-on c due x)
+      pub act-edited : {n m : ℕ} {ks′ ls′ edits′ : List ℕ} → EditDone ks fs xs (size .leaves) (size .nodes) links ls e o ks′ ls′ n → edits′ ≡ set edits k n → m ≡ k + 1
+          → Acted (desk rules fs xs size links places ms ps cs) toggles j k m ks ls roots counts edits ks′ ls′ roots counts edits′
+      act-edited x put on = rw (put, on) (edited-on c due x)
 
     module _ (is : r ≡ next.Wait) (more : j < length toggles + length ms) where
       later : Later ms k (j - k)
       later = rw is at says
 
-      pub turn-toggles : CanToggle rules ks fs xs size links ls toggles (j - k)
-      turn-toggles =
+      pub act-toggles : CanToggle rules ks fs xs size links ls toggles (j - k)
+      act-toggles =
           let a = at-of c in
           let shaped = held-shaped ks fs xs (size .leaves) (size .nodes) (a .now) (a .holds) in
           record {
@@ -201,9 +201,9 @@ module _ {rules fs xs : List ℕ} {size : Size} {links places ms ps cs toggles :
       pub count-room : j - k < length counts
       count-room = omega (arith, toggle-there c more later, room-of c .for-counts)
 
-      pub turn-toggled : (ls′ : List ℕ) {t : Toggled} {counts′ : List ℕ} → ToggleDone ks fs xs size toggles (j - k) ls ls′ t → counts′ ≡ set counts (j - k) (t .count)
-          → TurnDone (desk rules fs xs size links places ms ps cs) toggles j k k ks ls roots counts edits ks ls′ (set roots (j - k) (t .root)) counts′ edits
-      turn-toggled ls′ done put = rw put (toggled-on c more later ls′ done)
+      pub act-toggled : (ls′ : List ℕ) {t : Toggled} {counts′ : List ℕ} → ToggleDone ks fs xs size toggles (j - k) ls ls′ t → counts′ ≡ set counts (j - k) (t .count)
+          → Acted (desk rules fs xs size links places ms ps cs) toggles j k k ks ls roots counts edits ks ls′ (set roots (j - k) (t .root)) counts′ edits
+      act-toggled ls′ done put = rw put (toggled-on c more later ls′ done)
 
 -- ---- one toggle's function
 module _ {rules ks fs xs : List ℕ} {size : Size} {links ls toggles : List ℕ} {i : ℕ} (c : CanToggle rules ks fs xs size links ls toggles i) where
@@ -215,12 +215,12 @@ module _ {rules ks fs xs : List ℕ} {size : Size} {links ls toggles : List ℕ}
       → ToggleDone ks fs xs size toggles i ls ls′ (record { root = x; count = n })
   toggle-done e long is root = record { long = long; is = is ∙ ap (λ t. toggle (recs ks fs xs 0 (size .nodes)) t (take (size .nodes) ls)) e; root-is = root }
 
--- ---- the turns one after the other: what they begin with,
+-- ---- the acts one after the other: what they begin with,
 pub data Begins (d : Desk) (toggles ks ls roots counts edits : List ℕ) : Type 0 where
   begins : (f : Formula) → At d (plan f toggles edits) 0 0 ks ls edits → Chains ks (d .firsts) (d .seconds) (d .size .leaves) (d .size .nodes) (d .links) → ToggleRoom toggles roots counts
       → Begins d toggles ks ls roots counts edits
 
--- and of j turns k were edits
+-- and of j acts k were edits
 module _ (d : Desk) (toggles ks₀ ls₀ roots₀ counts₀ edits₀ : List ℕ) where
   pub record Mixing (j k : ℕ) (ks ls roots counts edits : List ℕ) : Type 0 where
     pub from : Begins d toggles ks₀ ls₀ roots₀ counts₀ edits₀
@@ -248,13 +248,13 @@ module _ {d : Desk} {toggles ks₀ ls₀ roots₀ counts₀ edits₀ : List ℕ}
       }
 
   module _ {j k : ℕ} {ks ls roots counts edits : List ℕ} (g : Mixing d toggles ks₀ ls₀ roots₀ counts₀ edits₀ j k ks ls roots counts edits) where
-    pub mixing-turn : CanTurn d toggles j k ks ls roots counts edits
-    mixing-turn = go (g .from)
+    pub mixing-act : CanAct d toggles j k ks ls roots counts edits
+    mixing-act = go (g .from)
       where
-        go : Begins d toggles ks₀ ls₀ roots₀ counts₀ edits₀ → CanTurn d toggles j k ks ls roots counts edits
+        go : Begins d toggles ks₀ ls₀ roots₀ counts₀ edits₀ → CanAct d toggles j k ks ls roots counts edits
         go (begins f a chains room) =
             let b = g .so f a .0 in
-            can-turn f edits₀ b
+            can-act f edits₀ b
             (chains-kept ks₀ ks (d .firsts) (d .seconds) (d .size .leaves) (d .size .nodes) (d .links)
             (held-shaped ks₀ (d .firsts) (d .seconds) (d .size .leaves) (d .size .nodes) (a .now) (a .holds))
             (held-shaped ks (d .firsts) (d .seconds) (d .size .leaves) (d .size .nodes) (b .now) (b .holds)) chains)
@@ -266,9 +266,9 @@ module _ {d : Desk} {toggles ks₀ ls₀ roots₀ counts₀ edits₀ : List ℕ}
             (g .few) (g .within)
 
     pub mixing-on : {r : ℕ} {ks′ ls′ roots′ counts′ edits′ : List ℕ} → j < length toggles + length (d .moments)
-        → length roots′ ≡ length roots → length counts′ ≡ length counts → length edits′ ≡ length edits → TurnDone d toggles j k r ks ls roots counts edits ks′ ls′ roots′ counts′ edits′
+        → length roots′ ≡ length roots → length counts′ ≡ length counts → length edits′ ≡ length edits → Acted d toggles j k r ks ls roots counts edits ks′ ls′ roots′ counts′ edits′
         → Mixing d toggles ks₀ ls₀ roots₀ counts₀ edits₀ (j + 1) r ks′ ls′ roots′ counts′ edits′
-    mixing-on more a b c (turn-done few within at told) =
+    mixing-on more a b c (has-acted few within at told) =
         record {
           from = g .from;
           few = few;

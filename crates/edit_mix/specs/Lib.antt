@@ -1,2 +1,2 @@
 pub mod Edits
-pub mod TurnAbout
+pub mod Acting

@@ -1,11 +1,11 @@
-// A turn of a run on a dwarf tree in arrays: the edit whose moment has come, or the next toggle.
+// One act of a run on a dwarf tree in arrays: the edit whose moment has come, or the next toggle.
 use edit_moments::Next;
 use labels::Size;
 ghost use mathlib.Core.Path.{_≡_};
 ghost use Prim.Native.Nat.{_+_, _<_};
 ghost use lib.ListN.{length, set};
 ghost use Rattle.edit_moments.specs.Waiting.{desk};
-ghost use Rattle.edit_mix.specs.TurnAbout.{CanToggle, ToggleDone, CanTurn, TurnDone};
+ghost use Rattle.edit_mix.specs.Acting.{CanToggle, ToggleDone, CanAct, Acted};
 
 // What a toggle gives.
 struct Toggled {
@@ -43,8 +43,8 @@ fn give(list: &mut [u32], i: usize, count: u32) -> usize
     i + 1
 }
 
-// Another turn, after j turns of which k were edits: the number of edits then.
-pub fn turn(
+// Another act, after j of which k were edits: the number of edits then.
+pub fn act(
     rules: &[u8; 256],
     kinds: &mut [u16; 3072],
     firsts: &[u16; 3072],
@@ -63,10 +63,10 @@ pub fn turn(
     j: usize,
     k: usize,
 ) -> usize
-    requires { ⌜ CanTurn (desk (now rules) (now firsts) (now seconds) size (now links) (now places) (now moments) (now positions) (now codes)) (now toggles) j k
+    requires { ⌜ CanAct (desk (now rules) (now firsts) (now seconds) size (now links) (now places) (now moments) (now positions) (now codes)) (now toggles) j k
         (now kinds) (now labels) (now roots) (now counts) (now «edit_counts») ⌝ }
     requires { ⌜ j < length (now toggles) + length (now moments) ⌝ }
-    ensures { λ r. ⌜ TurnDone (desk (now (rules .entry)) (now (firsts .entry)) (now (seconds .entry)) size (now (links .entry)) (now (places .entry)) (now (moments .entry)) (now (positions .entry)) (now (codes .entry)))
+    ensures { λ r. ⌜ Acted (desk (now (rules .entry)) (now (firsts .entry)) (now (seconds .entry)) size (now (links .entry)) (now (places .entry)) (now (moments .entry)) (now (positions .entry)) (now (codes .entry)))
         (now (toggles .entry)) j k r (now (kinds .entry)) (now (labels .entry)) (now (roots .entry)) (now (counts .entry)) (now («edit_counts» .entry))
         (now (kinds .exit)) (now (labels .exit)) (now (roots .exit)) (now (counts .exit)) (now («edit_counts» .exit)) ⌝ }
 {

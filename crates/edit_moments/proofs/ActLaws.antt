@@ -79,9 +79,6 @@ module _ {d : Desk} {p : Plan} {i k : ℕ} {ks ls counts : List ℕ} (a : At d p
 
   module _ (due : getD (d .moments) k 0 ≤ i) {e o count : ℕ} {ks′ ls′ : List ℕ} (is-node : e ≡ nodeAt (a .now) (this .position)) (is-op : o ≡ getD (d .codes) k 0 - firstOperation)
       (x : EditLeft ks′ (d .firsts) (d .seconds) (d .size .leaves) (d .size .nodes) (d .links) ls ls′ count e o (a .now) (this .position)) where
-    state : List ℕ
-    state = take i (p .toggles)
-
     now-is : this .moment ≡ i
     now-is = let w = rw split at (a .waits) in omega (arith, w .0)
 

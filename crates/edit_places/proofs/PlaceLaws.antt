@@ -188,7 +188,7 @@ first-over r n = go (r .kind) n
     go C e = rw same
 
 module _ (ks fs ss : List ℕ) (leaves nodes : ℕ) (f : Formula) (h : Holds ks fs ss leaves nodes f) where
-  pub held-falls : Falls fs leaves nodes
+  held-falls : Falls fs leaves nodes
   held-falls =
       let s = held-shaped ks fs ss leaves nodes f h in
       record { within = s .within; room = s .room; below = λ i a b. s .below i (getD fs i 0) b (first-over (recAt ks fs ss i) (s .inner i a b)) }
@@ -229,7 +229,7 @@ module _ (ks fs ss : List ℕ) (leaves nodes : ℕ) (f : Formula) (h : Holds ks 
     works-is : (q i : ℕ) → i < nodes → worksAt ks xs q i ≡ operates (getD (dwarf f) i noRec) && eqb q (getD xs i 0)
     works-is q i l = rw (kind-is i l)
 
-    pub right-places : (places : List ℕ) → EnteredTo ks xs nodes places → Places f places
+    right-places : (places : List ℕ) → EnteredTo ks xs nodes places → Places f places
     right-places places en = record { so = λ q l. en .so q l ∙ go q (leb firstOperation (getD (postfix f) q 0)) refl }
       where
         split : (a b : Bool) → (a && b) ≡ true → (a ≡ true) × (b ≡ true)

@@ -28,7 +28,7 @@ leafMet σ =
     }
 
 -- The right operand ends just before the operation, the left one just before the right one's first code.
-abbrev pub leftEnd : List ℕ → ℕ → ℕ
+abbrev leftEnd : List ℕ → ℕ → ℕ
 leftEnd starts at = getD starts (at - 1) 0 - 1
 
 abbrev pub joinedStarts : List ℕ → ℕ → List ℕ

@@ -23,8 +23,8 @@ use Rattle.edit_moments.specs.Edits.{Edit, editsOf, after, editCounts}
 use Rattle.edit_moments.specs.Listed.{Operations}
 use Rattle.edit_moments.specs.Waiting.{desk, At}
 use Rattle.edit_mix.specs.Edits.{rootsAfter, countsAfter, answersOf}
-use Rattle.edit_mix.specs.TurnAbout.{plan, CanTurn, TurnDone}
-use Rattle.edit_mix.proofs.MixLaws.{Mixing, mixing-start, mixing-turn, mixing-on, mixing-end}
+use Rattle.edit_mix.specs.Acting.{plan, CanAct, Acted}
+use Rattle.edit_mix.proofs.MixLaws.{Mixing, mixing-start, mixing-act, mixing-on, mixing-end}
 use Rattle.edit_run.specs.Ran.{EditFits, EditRoom, edit-room, EditedRun, EditedRuns}
 
 -- ---- lengths
@@ -36,7 +36,7 @@ pub length-counts : (f : Formula) (es : List Edit) (done ss : List ℕ) → leng
 length-counts f es done [] = refl
 length-counts f es done (s ∷ ss) = ap suc (length-counts f es (done ++ (s ∷ [])) ss)
 
-pub length-edits : (toggles : List ℕ) (f : Formula) (ms ps cs : List ℕ) → length (editCounts toggles f (editsOf ms ps cs)) ≤ length ms
+length-edits : (toggles : List ℕ) (f : Formula) (ms ps cs : List ℕ) → length (editCounts toggles f (editsOf ms ps cs)) ≤ length ms
 length-edits toggles f [] ps cs = omega arith
 length-edits toggles f (m ∷ ms) [] cs = omega arith
 length-edits toggles f (m ∷ ms) (p ∷ ps) [] = omega arith
@@ -95,47 +95,47 @@ module _ {formula : List ℕ} {n : ℕ} {ks fs ss : List ℕ} {size : Size} {tog
             counted = refl;
           }
 
--- a turn is left
-pub turn-left : (a b : ℕ) {all j : ℕ} → j < all → all ≡ a + b → j < a + b
-turn-left a b more is = omega arith
+-- an act is left
+pub act-left : (a b : ℕ) {all j : ℕ} → j < all → all ≡ a + b → j < a + b
+act-left a b more is = omega arith
 
--- ---- the turns: what they begin with,
+-- ---- the acts: what they begin with,
 pub data Begun (formula : List ℕ) (n : ℕ) (ks fs ss : List ℕ) (size : Size) (toggles ms ps cs roots counts list edits places rules ls links : List ℕ) : Type 0 where
   begun : EditRoom formula n ks fs ss (size .leaves) (size .nodes) toggles ms ps cs roots counts list edits → PlacesFilled formula n ks fs ss (size .leaves) (size .nodes) places
       → Tables rules ks fs ss (size .leaves) (size .nodes) ls links → Begun formula n ks fs ss size toggles ms ps cs roots counts list edits places rules ls links
 
--- and of j turns k were edits
-pub record Turning (formula : List ℕ) (n : ℕ) (ks₀ fs ss : List ℕ) (size : Size) (toggles ms ps cs roots₀ counts₀ list edits₀ places rules ls₀ links : List ℕ) (all j k : ℕ) (ks ls roots counts edits : List ℕ) : Type 0 where
+-- and of j acts k were edits
+pub record Running (formula : List ℕ) (n : ℕ) (ks₀ fs ss : List ℕ) (size : Size) (toggles ms ps cs roots₀ counts₀ list edits₀ places rules ls₀ links : List ℕ) (all j k : ℕ) (ks ls roots counts edits : List ℕ) : Type 0 where
   pub from : Begun formula n ks₀ fs ss size toggles ms ps cs roots₀ counts₀ list edits₀ places rules ls₀ links
   pub all-is : all ≡ length toggles + length ms
-  pub can : CanTurn (desk rules fs ss size links places ms ps cs) toggles j k ks ls roots counts edits
+  pub can : CanAct (desk rules fs ss size links places ms ps cs) toggles j k ks ls roots counts edits
   pub mixing : Mixing (desk rules fs ss size links places ms ps cs) toggles ks₀ ls₀ roots₀ counts₀ edits₀ j k ks ls roots counts edits
 
 module _ {formula : List ℕ} {n : ℕ} {ks₀ fs ss : List ℕ} {size : Size} {toggles ms ps cs roots₀ counts₀ list edits₀ places rules ls₀ links : List ℕ} {all : ℕ} where
-  pub turning-start : EditRoom formula n ks₀ fs ss (size .leaves) (size .nodes) toggles ms ps cs roots₀ counts₀ list edits₀
+  pub running-start : EditRoom formula n ks₀ fs ss (size .leaves) (size .nodes) toggles ms ps cs roots₀ counts₀ list edits₀
       → PlacesFilled formula n ks₀ fs ss (size .leaves) (size .nodes) places → Tables rules ks₀ fs ss (size .leaves) (size .nodes) ls₀ links → all ≡ length toggles + length ms
-      → Turning formula n ks₀ fs ss size toggles ms ps cs roots₀ counts₀ list edits₀ places rules ls₀ links all 0 0 ks₀ ls₀ roots₀ counts₀ edits₀
-  turning-start given placed t is =
+      → Running formula n ks₀ fs ss size toggles ms ps cs roots₀ counts₀ list edits₀ places rules ls₀ links all 0 0 ks₀ ls₀ roots₀ counts₀ edits₀
+  running-start given placed t is =
       let h = fits-of given in
       let m = mixing-start (h .built .formula) (start given placed t (h .built .formula) (h .built .built)) (t .ready .chains) (h .answers) in
-      record { from = begun given placed t; all-is = is; can = mixing-turn m; mixing = m }
+      record { from = begun given placed t; all-is = is; can = mixing-act m; mixing = m }
 
-  module _ {j k : ℕ} {ks ls roots counts edits : List ℕ} (g : Turning formula n ks₀ fs ss size toggles ms ps cs roots₀ counts₀ list edits₀ places rules ls₀ links all j k ks ls roots counts edits) where
-    pub turning-on : {r : ℕ} {ks′ ls′ roots′ counts′ edits′ : List ℕ} → j < all → length roots′ ≡ length roots → length counts′ ≡ length counts → length edits′ ≡ length edits
-        → TurnDone (desk rules fs ss size links places ms ps cs) toggles j k r ks ls roots counts edits ks′ ls′ roots′ counts′ edits′
-        → Turning formula n ks₀ fs ss size toggles ms ps cs roots₀ counts₀ list edits₀ places rules ls₀ links all (j + 1) r ks′ ls′ roots′ counts′ edits′
-    turning-on more a b c done =
+  module _ {j k : ℕ} {ks ls roots counts edits : List ℕ} (g : Running formula n ks₀ fs ss size toggles ms ps cs roots₀ counts₀ list edits₀ places rules ls₀ links all j k ks ls roots counts edits) where
+    pub running-on : {r : ℕ} {ks′ ls′ roots′ counts′ edits′ : List ℕ} → j < all → length roots′ ≡ length roots → length counts′ ≡ length counts → length edits′ ≡ length edits
+        → Acted (desk rules fs ss size links places ms ps cs) toggles j k r ks ls roots counts edits ks′ ls′ roots′ counts′ edits′
+        → Running formula n ks₀ fs ss size toggles ms ps cs roots₀ counts₀ list edits₀ places rules ls₀ links all (j + 1) r ks′ ls′ roots′ counts′ edits′
+    running-on more a b c done =
         let m = mixing-on (g .mixing) (omega (arith, g .all-is)) a b c done in
-        record { from = g .from; all-is = g .all-is; can = mixing-turn m; mixing = m }
+        record { from = g .from; all-is = g .all-is; can = mixing-act m; mixing = m }
 
-    pub turning-room : size .nodes ≤ 3072
-    turning-room = go (g .from)
+    pub running-room : size .nodes ≤ 3072
+    running-room = go (g .from)
       where
         go : Begun formula n ks₀ fs ss size toggles ms ps cs roots₀ counts₀ list edits₀ places rules ls₀ links → size .nodes ≤ 3072
         go (begun given placed t) = t .room
 
-    pub turning-list : size .nodes ≤ length list
-    turning-list = go (g .from)
+    pub running-list : size .nodes ≤ length list
+    running-list = go (g .from)
       where
         go : Begun formula n ks₀ fs ss size toggles ms ps cs roots₀ counts₀ list edits₀ places rules ls₀ links → size .nodes ≤ length list
         go (begun given placed t) = fits-of given .for-labels

@@ -1,12 +1,12 @@
-// A toggle run with edits on a dwarf tree, on lent lists: places and tables filled, edits and toggles turn about, the labels at the end.
+// A toggle run with edits on a dwarf tree, on lent lists: places and tables filled, edits and toggles each in its time, the labels at the end.
 use labels::Size;
 ghost use mathlib.Core.Path.{_≡_};
 ghost use Prim.Native.Nat.{_+_};
 ghost use lib.ListN.{length};
 ghost use Rattle.edit_run.specs.Ran.{EditRoom, EditedRuns};
 
-// How many turns there are, an edit or a toggle each.
-fn turns(toggles: &[u16], moments: &[u64]) -> usize
+// How many acts there are, an edit or a toggle each.
+fn acts(toggles: &[u16], moments: &[u64]) -> usize
     ensures { λ r. ⌜ r ≡ length (now (toggles .entry)) + length (now (moments .entry)) ⌝ }
 {
     toggles.len() + moments.len()
@@ -58,11 +58,11 @@ pub fn run_edited(
         &mut current,
         &mut links,
     );
-    let all = turns(toggles, moments);
+    let all = acts(toggles, moments);
     let mut j = 0;
     let mut k = 0;
     while j < all {
-        k = edit_mix::turn(
+        k = edit_mix::act(
             &rules,
             kinds,
             firsts,

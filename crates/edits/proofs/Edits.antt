@@ -167,10 +167,6 @@ module _ (f : Formula) (p : ℕ) where
   pub node-operates : operations p 0 f ≡ 1 → operates (getD (dwarf f) (nodeAt f p) noRec) ≡ true
   node-operates e = at-spots e .works
 
-  -- It stands at p.
-  node-stands : operations p 0 f ≡ 1 → getD (spots f) (nodeAt f p) 0 ≡ p
-  node-stands e = ap (λ k. getD (spots f) k 0) (sym (zero-add (nodeAt f p))) ∙ at-spots e .stands
-
 module _ (f : Formula) (p : ℕ) (o : Op) where
   -- An edit changes no round, no number, no first and no second: only the kind of the one record of its node.
   pub edited-dwarf : operations p 0 f ≡ 1 → dwarf (edited p o f) ≡ set (dwarf f) (nodeAt f p) (withOp o (getD (dwarf f) (nodeAt f p) noRec))

@@ -137,7 +137,7 @@ module _ (ups es : List ℕ) where
 
   -- ---- The tree with each operation replaced by what g says of its position, and the records so changed
   module _ (g : ℕ → Op → Op) where
-    abbrev pub re : Work → Work
+    abbrev re : Work → Work
     re (tip d) = tip d
     re (one d c) = one d (re c)
     re (two o l r) = two (g (getD ups (at l) 0) o) (re l) (re r)

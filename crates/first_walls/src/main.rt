@@ -7,7 +7,7 @@ fn number(n: usize) {
 }
 
 fn position(z: i32) {
-    let m = cross_marks::mark_of(z);
+    let m = cross_ranks::rank_of(z);
     if m < 2147483648 {
         io::write_all(1, b"-");
         number((2147483648 - m) as usize);

@@ -1,7 +1,7 @@
 -- The states one toggle at a time are the states by oddness.
 use Prim.Native.Nat.{ℕ, suc, _+_}
 use native.Mathlib.Omega.{arith}
-use mathlib.Core.Path.{_≡_, refl, sym, ap, _∙_, fun-ext}
+use mathlib.Core.Path.{_≡_, refl, _∙_, fun-ext}
 use mathlib.Core.Bool.{Bool, true, false, not, cond}
 use mathlib.Core.List.{List, [], _∷_, _++_}
 use lib.Dec.{eqb}
@@ -54,9 +54,3 @@ flipped-other s t state n = rw (ne-eqb t s n)
 pub after-snoc : (state : State) (ss : List ℕ) (s t : ℕ) → after state (ss ++ (s ∷ [])) t ≡ flipped s (after state ss) t
 unfolding after
 after-snoc state ss s t = after-append ss (s ∷ []) state t
-
--- a shape's state is decided by its own state before
-after-at : (p q : State) (ss : List ℕ) (t : ℕ) → p t ≡ q t → after p ss t ≡ after q ss t
-unfolding after
-after-at p q [] t e = e
-after-at p q (s ∷ ss) t e = after-at (flipped s p) (flipped s q) ss t (ap (λ (b : Bool). cond (eqb t s) (not b) b) e)

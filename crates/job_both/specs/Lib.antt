@@ -1,4 +1,4 @@
 pub mod Sharing
 pub mod Shared
 pub mod Alone
-pub mod OnTree
+pub mod Refusals

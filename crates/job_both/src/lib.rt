@@ -1,74 +1,17 @@
 // Two foundries on one sheet: the tree is built once, and each foundry's toggles are run on it with labels and lists of its own.
 use accepting::Prepared;
 use job_run::RunAnswer;
+use job_run::run_toggles;
 use order_mixing::mixes;
-use tree_dwarf::Figures;
 ghost use mathlib.Core.Path.{_≡_};
-ghost use Prim.Native.Nat.{_≤_};
-ghost use Rattle.formula.specs.Formula.{Formula};
 ghost use Rattle.sheet.specs.Sheet.{sheetsOf};
-ghost use Rattle.labels.specs.Arrays.{Tree, Holds};
 ghost use Rattle.job_both.specs.Shared.{lists, Shared};
-ghost use Rattle.job_both.specs.OnTree.{bothRefused, bothUnfit, Mixed};
+ghost use Rattle.job_both.specs.Refusals.{bothRefused, bothUnfit};
 
 // What each foundry is answered.
 pub struct BothAnswer {
     pub first: RunAnswer,
     pub second: RunAnswer,
-}
-
-// Both foundries' toggles run on a dwarf tree, one foundry after the other, where the order mixes their lists.
-fn share(
-    k: &[u16; 3072],
-    f: &[u16; 3072],
-    s: &[u16; 3072],
-    built: Figures,
-    names: usize,
-    order: &[u8],
-    first_toggles: &[u16],
-    second_toggles: &[u16],
-    first_roots: &mut [u8],
-    first_counts: &mut [u32],
-    first_labels: &mut [u8],
-    second_roots: &mut [u8],
-    second_counts: &mut [u32],
-    second_labels: &mut [u8],
-) -> BothAnswer
-    requires { ⌜ Tree (now k) (now f) (now s) (built .leaves) (built .nodes) × (names ≤ 256) ⌝ }
-    ensures { λ r. ⌜ ((g : Formula) → Holds (now (k .entry)) (now (f .entry)) (now (s .entry)) (built .leaves) (built .nodes) g
-        → Mixed g names (now (order .entry)) (now («first_toggles» .entry)) (now («second_toggles» .entry))
-        (lists (now («first_roots» .entry)) (now («first_counts» .entry)) (now («first_labels» .entry))) (lists (now («second_roots» .entry)) (now («second_counts» .entry)) (now («second_labels» .entry))) r
-        (lists (now («first_roots» .exit)) (now («first_counts» .exit)) (now («first_labels» .exit))) (lists (now («second_roots» .exit)) (now («second_counts» .exit)) (now («second_labels» .exit)))) ⌝ }
-{
-    if mixes(order, first_toggles.len(), second_toggles.len()) {
-        let to_first = job_run::run_toggles(
-            k,
-            f,
-            s,
-            built,
-            names,
-            first_toggles,
-            first_roots,
-            first_counts,
-            first_labels,
-        );
-        let to_second = job_run::run_toggles(
-            k,
-            f,
-            s,
-            built,
-            names,
-            second_toggles,
-            second_roots,
-            second_counts,
-            second_labels,
-        );
-        return BothAnswer {
-            first: to_first,
-            second: to_second,
-        };
-    }
-    both_refused(13, 0)
 }
 
 // A refusal that goes to both.
@@ -91,7 +34,7 @@ fn both_unfit(number: u8, place: usize) -> BothAnswer
     }
 }
 
-// Runs the toggles of two foundries on the tree of one sheet, with every shape outside at first for each.
+// Runs the toggles of two foundries on the tree of one sheet, one foundry after the other, with every shape outside at first for each.
 pub fn run_both(
     fitted: bool,
     fittings: &[u8],
@@ -121,21 +64,36 @@ pub fn run_both(
             names,
             codes: _,
             built,
-        } => share(
-            &k,
-            &f,
-            &s,
-            built,
-            names,
-            order,
-            first,
-            second,
-            first_roots,
-            first_counts,
-            first_labels,
-            second_roots,
-            second_counts,
-            second_labels,
-        ),
+        } => {
+            if mixes(order, first.len(), second.len()) {
+                let to_first = run_toggles(
+                    &k,
+                    &f,
+                    &s,
+                    built,
+                    names,
+                    first,
+                    first_roots,
+                    first_counts,
+                    first_labels,
+                );
+                let to_second = run_toggles(
+                    &k,
+                    &f,
+                    &s,
+                    built,
+                    names,
+                    second,
+                    second_roots,
+                    second_counts,
+                    second_labels,
+                );
+                return BothAnswer {
+                    first: to_first,
+                    second: to_second,
+                };
+            }
+            both_refused(13, 0)
+        }
     }
 }

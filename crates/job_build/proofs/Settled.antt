@@ -1,18 +1,15 @@
 -- What the promise of building settles: two results that meet it are equal; it refuses exactly when the rules say, and then writes nothing.
 use Prim.Native.Nat.{ℕ}
 use mathlib.Core.Path.{_≡_, refl}
-use lib.ListN.{length}
-use Rattle.outcome.specs.Outcome.{given, refused, unfit, room}
+use Rattle.outcome.specs.Outcome.{refused, unfit}
 use Rattle.outcome.specs.Numbered.{Numbered}
 use Rattle.outcome.specs.Settled.{Unique, Refusal, Refuses, three}
-use Rattle.outcome.proofs.Questions.{then-given, bind-given, given-same}
 use Rattle.outcome.proofs.NumberedLaws.{given-numbered, room-asks, bind-numbered}
 use Rattle.outcome.proofs.Settling.{known-by, saying, OnSheets, on-sheets}
-use Rattle.contraction.specs.Rounds.{dwarf}
-use Rattle.sheet.specs.Sheet.{Sheets, Sheet}
+use Rattle.sheet.specs.Sheet.{Sheets}
 use Rattle.accepting.specs.Accepting.{accepted}
 use Rattle.accepting.proofs.Accepted.{accepted-numbered}
-use Rattle.job_build.specs.Building.{DwarfTree, dwarfTree, giving, building, Summary, summary, summaryOf}
+use Rattle.job_build.specs.Building.{giving, building, Summary, summary, summaryOf}
 use Rattle.job_build.specs.Built.{builtOf, Built}
 use Rattle.job_build.specs.declared.BuildAnswer.{BuildAnswer}
 use Rattle.job_build.specs.declared.BuildAnswer.the-variants as answer
@@ -53,13 +50,3 @@ build-unfits = build-settled .fittings .refuses
 pub build-numbered : (s : Sheets) (kinds firsts seconds : ℕ) → Numbered (building s kinds firsts seconds)
 unfolding building giving
 build-numbered s kinds firsts seconds = bind-numbered (accepted s) _ (accepted-numbered s) (λ x. search (room-asks, given-numbered))
-
--- A job that answers has accepted the sheet, and it is the sheet's formula that is built.
-pub built-accepted : (s : Sheets) (a b c : ℕ) (t : DwarfTree) → building s a b c ≡ given t → (x : Sheet) × (accepted s ≡ given x) × (dwarfTree (x .formula) ≡ t)
-unfolding building giving
-built-accepted s a b c t is =
-    let x = bind-given (accepted s) (λ (y : Sheet). giving (y .formula) a b c) t is in
-    let g = x .0 .formula in
-    let n = length (dwarf g) in
-    let rest = then-given (room n b) _ t (then-given (room n a) _ t (x .2) .2) .2 in
-    (x .0, x .1, given-same (dwarfTree g) t (then-given (room n c) (given (dwarfTree g)) t rest .2))

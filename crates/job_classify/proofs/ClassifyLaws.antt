@@ -1,9 +1,10 @@
 -- The promise of classifying, exit by exit.
-use Prim.Native.Nat.{ℕ, _<_}
+use Prim.Native.Nat.{ℕ, _≤_, _<_}
 use native.Mathlib.Omega.{arith}
 use mathlib.Core.Path.{_≡_, sym, ap, _∙_, subst}
 use mathlib.Core.List.{List}
-use lib.ListN.{length}
+use lib.ListN.{length, take}
+use lib.Seq.{length-take-le}
 use Rattle.outcome.specs.Outcome.{Outcome, given, refused, unfit}
 use Rattle.formula.specs.Formula.{Formula, leaf, node, Over}
 use Rattle.sheet.specs.Sheet.{Sheets, Sheet}
@@ -42,7 +43,7 @@ module _ (s : Sheets) (codes : List ℕ) (c : LineLists) (lent : AnswerLists) (r
     stands : (x : Sheet) × Coded s x names n codes
     stands = rw is at says
 
-    module _ (a : LinesAnswer) (after : AnswerLists) (gives : JobDone codes n names c lent a after) where
+    module _ (a : LinesAnswer) (after : AnswerLists) (gives : JobDone (take n codes) names c lent a after) where
       given-walls : LinesAnswered (classified (stands .0 .formula) names c lent) lent a after
       given-walls =
           let st = stands .1 in
@@ -68,17 +69,27 @@ some-names n (leaf s) under = omega (arith, under)
 some-names n (node o l r) under = some-names n l (under .0)
 
 -- an accepted sheet's codes and names are few enough for the lines, and its codes are a formula's
-pub few-codes : (s : Sheets) (codes : List ℕ) (r : Acceptance) {names n : ℕ} → SaysCoded s codes r → length codes ≡ 2048 → r ≡ acceptance.Given names n → FewCodes codes n names
-few-codes s codes r says long is =
-    let x = (rw is at says) .0 in
-    let st = (rw is at says) .1 in
-    let under = subst (λ m. Over m (x .formula)) (sym (st .names-are)) (st .facts .own .over) in
-    record {
-      sized = long;
-      few-codes = omega (arith, st .few-codes);
-      some-names = some-names _ (x .formula) under;
-      few-names = omega (arith, st .names-are, st .facts .own .good-names .few);
-      formula = x .formula;
-      are = st .codes-are;
-      over = under;
-    }
+module _ (s : Sheets) (codes : List ℕ) (r : Acceptance) {names n : ℕ} (says : SaysCoded s codes r) (is : r ≡ acceptance.Given names n) where
+  accepted-codes : (x : Sheet) × Coded s x names n codes
+  accepted-codes = rw is at says
+
+  module _ (long : length codes ≡ 2048) where
+    pub codes-within : n ≤ length codes
+    codes-within = omega (arith, accepted-codes .1 .few-codes)
+
+    pub codes-counted : length (take n codes) ≡ n
+    codes-counted = length-take-le n codes codes-within
+
+    pub few-codes : FewCodes (take n codes) names
+    few-codes =
+        let x = accepted-codes .0 in
+        let st = accepted-codes .1 in
+        let under = subst (λ m. Over m (x .formula)) (sym (st .names-are)) (st .facts .own .over) in
+        record {
+          few-codes = omega (arith, codes-counted, codes-within);
+          some-names = some-names _ (x .formula) under;
+          few-names = omega (arith, st .names-are, st .facts .own .good-names .few);
+          formula = x .formula;
+          are = st .codes-are;
+          over = under;
+        }

@@ -1,17 +1,15 @@
 -- What the promise of classifying settles: two results that meet it are equal; it refuses exactly when the rules say, and then writes nothing.
 use mathlib.Core.Path.{_≡_, refl}
-use mathlib.Core.List.{List}
 use lib.ListN.{length}
-use Rattle.outcome.specs.Outcome.{given, refused, unfit}
+use Rattle.outcome.specs.Outcome.{refused, unfit}
 use Rattle.outcome.specs.Numbered.{Numbered}
 use Rattle.outcome.specs.Settled.{Unique, Refusal, Refuses}
-use Rattle.outcome.proofs.Questions.{bind-given}
 use Rattle.outcome.proofs.NumberedLaws.{bind-numbered}
 use Rattle.outcome.proofs.Settling.{known-by, saying, OnSheets, on-sheets}
 use Rattle.sheet.specs.Sheet.{Sheets, Sheet}
 use Rattle.accepting.specs.Accepting.{accepted}
 use Rattle.accepting.proofs.Accepted.{accepted-numbered}
-use Rattle.lines.specs.Lines.{LineLists, AnswerLists, Wall, classified}
+use Rattle.lines.specs.Lines.{LineLists, AnswerLists}
 use Rattle.lines.proofs.Numbered.{classified-numbered}
 use Rattle.job_classify.specs.Classifying.{classifying}
 use Rattle.job_classify.specs.Classified.{classifiedOf, Classified}
@@ -51,9 +49,3 @@ classify-unfits = classify-settled .fittings .refuses
 pub classify-numbered : (s : Sheets) (c : LineLists) (lent : AnswerLists) → Numbered (classifying s c lent)
 unfolding classifying
 classify-numbered s c lent = bind-numbered (accepted s) _ (accepted-numbered s) (λ (x : Sheet). classified-numbered (x .formula) (length (x .names)) c lent)
-
--- A job that answers has accepted the sheet, and it is the sheet's formula that the lines are classified against.
-pub classified-accepted : (s : Sheets) (c : LineLists) (lent : AnswerLists) (ws : List Wall) → classifying s c lent ≡ given ws
-    → (x : Sheet) × (accepted s ≡ given x) × (classified (x .formula) (length (x .names)) c lent ≡ given ws)
-unfolding classifying
-classified-accepted s c lent ws is = bind-given (accepted s) (λ (y : Sheet). classified (y .formula) (length (y .names)) c lent) ws is

@@ -36,8 +36,7 @@ pub fn classify(
         Acceptance::Refused { number, place } => ClassifyAnswer::Refused { number, place },
         Acceptance::Unfit { number, place } => ClassifyAnswer::Unfit { number, place },
         Acceptance::Given { names, codes: n } => match line_walls::classify(
-            &codes,
-            n,
+            &codes[..n],
             names,
             rows,
             lines,

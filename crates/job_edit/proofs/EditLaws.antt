@@ -26,7 +26,7 @@ use Rattle.job_run.specs.declared.RunAnswer.{RunAnswer}
 use Rattle.job_run.specs.declared.RunAnswer.the-variants as run
 use Rattle.edits.proofs.Edits.{edited-nodes}
 use Rattle.formula.specs.Codes.{isOperation}
-use Rattle.edit_checking.specs.Fits.{operatesAt, inTurn, fits, firstUnfit}
+use Rattle.edit_checking.specs.Fits.{operatesAt, inTime, fits, firstUnfit}
 use Rattle.edit_checking.specs.Asked.{Coded}
 use Rattle.edit_checking.proofs.FitLaws.{unfit-most}
 use Rattle.edit_places.specs.Places.{Built}
@@ -38,13 +38,14 @@ use Rattle.job_edit.specs.declared.Checked.{Checked}
 use Rattle.job_edit.specs.declared.Checked.the-variants as checked
 use Rattle.job_edit.specs.Editing.{Lists, lists, lending, editing, runningEdited}
 use Rattle.job_edit.specs.Edited.{Edited}
-use Rattle.job_edit.specs.Taken.{Prepares, prepares, Refuses, Passes, Checks, Taken, Takes, takes, LentOn, JudgedOn}
+use Rattle.job_edit.specs.Taken.{Prepares, prepares, Refuses, Passes, Checks, Spacious, Short, roots-short, counts-short, labels-short, edits-short, Roomed, RefusedWith, at-once, for-room, Asks, Taken, Takes, takes, LentOn, JudgedOn}
+use Rattle.job_edit.specs.declared.Room.{Room}
 
 edit-refused : (o : Outcome Answers) (lent : Lists) (number place : ℕ) → o ≡ refused number place → Edited o lent (run.Refused number place) lent
 edit-refused o lent number place is =
     record { answer = rw is; lists = record { roots-list = rw is; counts-list = rw is; labels-list = rw is; edit-counts-list = rw is } }
 
-pub edit-unfit : (o : Outcome Answers) (lent : Lists) (number place : ℕ) → o ≡ unfit number place → Edited o lent (run.Unfit number place) lent
+edit-unfit : (o : Outcome Answers) (lent : Lists) (number place : ℕ) → o ≡ unfit number place → Edited o lent (run.Unfit number place) lent
 edit-unfit o lent number place is =
     record { answer = rw is; lists = record { roots-list = rw is; counts-list = rw is; labels-list = rw is; edit-counts-list = rw is } }
 
@@ -62,76 +63,66 @@ taken-of : {formula : List ℕ} {n : ℕ} {ks fs ss : List ℕ} {leaves nodes : 
     → Taken formula n ks fs ss leaves nodes toggles ms ps cs
 taken-of (takes t) = t
 
+-- how many entries each list has
+abbrev roomOf : List ℕ → List ℕ → List ℕ → List ℕ → Room
+roomOf roots counts labels edits = record { roots = length roots; counts = length counts; labels = length labels; edits = length edits }
+
+-- the first list that is too short is refused
 module _ {formula : List ℕ} {n : ℕ} {ks fs ss : List ℕ} {leaves nodes : ℕ} {toggles ms ps cs : List ℕ} (roots counts labels edits : List ℕ) where
-  module _ (t : Takes formula n ks fs ss leaves nodes toggles ms ps cs) where
-    pub roots-short : length roots < length toggles → LentOn formula n ks fs ss leaves nodes toggles ms ps cs (lists roots counts labels edits) (run.Refused 9 (length toggles)) (lists roots counts labels edits)
+  short-lent : (number place : ℕ) → Short (length toggles) nodes (length ms) (roomOf roots counts labels edits) number place
+      → LentOn formula n ks fs ss leaves nodes toggles ms ps cs (lists roots counts labels edits) (run.Refused number place) (lists roots counts labels edits)
+  unfolding lending
+  short-lent number place (roots-short h) = record { so = λ g b. edit-refused (lending g toggles ms ps cs (lists roots counts labels edits)) _ 9 (length toggles) (rw (lt-leb _ _ h)) }
+  short-lent number place (counts-short for-roots h) = record { so = λ g b. edit-refused (lending g toggles ms ps cs (lists roots counts labels edits)) _ 9 (length toggles) (rw (le-leb _ _ for-roots, lt-leb _ _ h)) }
+  short-lent number place (labels-short for-roots for-counts h) =
+      record { so = λ g b. edit-refused (lending g toggles ms ps cs (lists roots counts labels edits)) _ 9 nodes (rw (← (b .holds .nodes-are), le-leb _ _ for-roots, le-leb _ _ for-counts, lt-leb _ _ h)) }
+  short-lent number place (edits-short for-roots for-counts for-labels h) =
+      record {
+        so = λ g b.
+            edit-refused (lending g toggles ms ps cs (lists roots counts labels edits)) _ 9 (length ms)
+            (rw (← (b .holds .nodes-are), le-leb _ _ for-roots, le-leb _ _ for-counts, le-leb _ _ for-labels, lt-leb _ _ h));
+      }
+
+  module _ (space : Spacious (length toggles) nodes (length ms) (roomOf roots counts labels edits)) where
+    run-room : Takes formula n ks fs ss leaves nodes toggles ms ps cs → EditRoom formula n ks fs ss leaves nodes toggles ms ps cs roots counts labels edits
+    run-room t =
+        let w = taken-of t in
+        edit-room
+        record {
+          formula-long = w .formula-long;
+          formula-few = w .formula-few;
+          built = w .built;
+          listed = w .listed;
+          rises = w .rises;
+          operated = w .operated;
+          answers = record { named = w .named; for-roots = space .for-roots; for-counts = space .for-counts };
+          for-labels = space .for-labels;
+          for-edits = space .for-edits;
+        }
+
+    run-given : {roots′ counts′ labels′ edits′ : List ℕ} → EditedRuns formula n ks fs ss leaves nodes toggles ms ps cs roots counts labels edits roots′ counts′ labels′ edits′
+        → LentOn formula n ks fs ss leaves nodes toggles ms ps cs (lists roots counts labels edits) (run.Ran nodes) (lists roots′ counts′ labels′ edits′)
     unfolding lending
-    roots-short h = record { so = λ g b. edit-refused (lending g toggles ms ps cs (lists roots counts labels edits)) _ 9 (length toggles) (rw (lt-leb _ _ h)) }
-
-    module _ (for-roots : length toggles ≤ length roots) where
-      pub counts-short : length counts < length toggles → LentOn formula n ks fs ss leaves nodes toggles ms ps cs (lists roots counts labels edits) (run.Refused 9 (length toggles)) (lists roots counts labels edits)
-      unfolding lending
-      counts-short h = record { so = λ g b. edit-refused (lending g toggles ms ps cs (lists roots counts labels edits)) _ 9 (length toggles) (rw (le-leb _ _ for-roots, lt-leb _ _ h)) }
-
-      module _ (for-counts : length toggles ≤ length counts) where
-        pub labels-short : length labels < nodes → LentOn formula n ks fs ss leaves nodes toggles ms ps cs (lists roots counts labels edits) (run.Refused 9 nodes) (lists roots counts labels edits)
-        unfolding lending
-        labels-short h =
+    run-given {roots′} {counts′} {labels′} {edits′} done = record { so = promised }
+      where
+        promised : (g : Formula) → Built formula n ks fs ss leaves nodes g
+            → Edited (lending g toggles ms ps cs (lists roots counts labels edits)) (lists roots counts labels edits) (run.Ran nodes) (lists roots′ counts′ labels′ edits′)
+        promised g b =
+            let a = answersOf g toggles (editsOf ms ps cs) in
+            let is : lending g toggles ms ps cs (lists roots counts labels edits) ≡ given a =
+            rw (← (b .holds .nodes-are), le-leb _ _ (space .for-roots), le-leb _ _ (space .for-counts), le-leb _ _ (space .for-labels), le-leb _ _ (space .for-edits)) in
+            let w = done .so g b in
+            let g′ = editedBy (length toggles) (editsOf ms ps cs) g in
             record {
-              so = λ g b.
-                  edit-refused (lending g toggles ms ps cs (lists roots counts labels edits)) _ 9 nodes (rw (← (b .holds .nodes-are), le-leb _ _ for-roots, le-leb _ _ for-counts, lt-leb _ _ h));
+              answer = rw is (ap given (b .holds .nodes-are ∙ sym (by-nodes (length toggles) (editsOf ms ps cs) g) ∙ sym (length-labels (toggledBy toggles) (dwarf g′))));
+              lists =
+                  record {
+                    roots-list = rw is (w .roots-are);
+                    counts-list = rw is (w .counts-are);
+                    labels-list = rw is (w .labels-are);
+                    edit-counts-list = rw is (w .edit-counts-are);
+                  };
             }
-
-        module _ (for-labels : nodes ≤ length labels) where
-          pub edits-short : length edits < length ms → LentOn formula n ks fs ss leaves nodes toggles ms ps cs (lists roots counts labels edits) (run.Refused 9 (length ms)) (lists roots counts labels edits)
-          unfolding lending
-          edits-short h =
-              record {
-                so = λ g b.
-                    edit-refused (lending g toggles ms ps cs (lists roots counts labels edits)) _ 9 (length ms)
-                    (rw (← (b .holds .nodes-are), le-leb _ _ for-roots, le-leb _ _ for-counts, le-leb _ _ for-labels, lt-leb _ _ h));
-              }
-
-          module _ (for-edits : length ms ≤ length edits) where
-            pub run-room : EditRoom formula n ks fs ss leaves nodes toggles ms ps cs roots counts labels edits
-            run-room =
-                let w = taken-of t in
-                edit-room
-                record {
-                  formula-long = w .formula-long;
-                  formula-few = w .formula-few;
-                  built = w .built;
-                  listed = w .listed;
-                  rises = w .rises;
-                  operated = w .operated;
-                  answers = record { named = w .named; for-roots = for-roots; for-counts = for-counts };
-                  for-labels = for-labels;
-                  for-edits = for-edits;
-                }
-
-            pub run-given : {roots′ counts′ labels′ edits′ : List ℕ} → EditedRuns formula n ks fs ss leaves nodes toggles ms ps cs roots counts labels edits roots′ counts′ labels′ edits′
-                → LentOn formula n ks fs ss leaves nodes toggles ms ps cs (lists roots counts labels edits) (run.Ran nodes) (lists roots′ counts′ labels′ edits′)
-            unfolding lending
-            run-given {roots′} {counts′} {labels′} {edits′} done = record { so = promised }
-              where
-                promised : (g : Formula) → Built formula n ks fs ss leaves nodes g
-                    → Edited (lending g toggles ms ps cs (lists roots counts labels edits)) (lists roots counts labels edits) (run.Ran nodes) (lists roots′ counts′ labels′ edits′)
-                promised g b =
-                    let a = answersOf g toggles (editsOf ms ps cs) in
-                    let is : lending g toggles ms ps cs (lists roots counts labels edits) ≡ given a =
-                    rw (← (b .holds .nodes-are), le-leb _ _ for-roots, le-leb _ _ for-counts, le-leb _ _ for-labels, le-leb _ _ for-edits) in
-                    let w = done .so g b in
-                    let g′ = editedBy (length toggles) (editsOf ms ps cs) g in
-                    record {
-                      answer = rw is (ap given (b .holds .nodes-are ∙ sym (by-nodes (length toggles) (editsOf ms ps cs) g) ∙ sym (length-labels (toggledBy toggles) (dwarf g′))));
-                      lists =
-                          record {
-                            roots-list = rw is (w .roots-are);
-                            counts-list = rw is (w .counts-are);
-                            labels-list = rw is (w .labels-are);
-                            edit-counts-list = rw is (w .edit-counts-are);
-                          };
-                    }
 
 -- ---- the edits and the toggles are judged
 
@@ -149,8 +140,8 @@ record Fit (codes : List ℕ) (most before m p c : ℕ) : Type 0 where
 
 fit-of : (codes : List ℕ) (most before m p c : ℕ) → fits codes most before m p c ≡ true → Fit codes most before m p c
 fit-of codes most before m p c e =
-    let a = both-true (operatesAt codes p) (isOperation c && inTurn most before m) e in
-    let b = both-true (isOperation c) (inTurn most before m) (a .1) in
+    let a = both-true (operatesAt codes p) (isOperation c && inTime most before m) e in
+    let b = both-true (isOperation c) (inTime most before m) (a .1) in
     let x = both-true (leb firstOperation (getD codes p 0)) (leb (getD codes p 0) (code exclusive)) (a .0) in
     let y = both-true (leb firstOperation c) (leb c (code exclusive)) (b .0) in
     let z = both-true (leb before m) (leb m most) (b .1) in
@@ -235,59 +226,80 @@ module _ (formula : List ℕ) (n names : ℕ) (toggles ms ps cs : List ℕ) wher
             record { positions-long = same; codes-long = alike; named = known; fit = omega (arith, unfit-is, unfit-most (take n formula) (length toggles) 0 ms ps cs) }
 
 -- ---- and then refused, or the run goes on
-pub judge-coded : {formula : List ℕ} {n : ℕ} {ks fs ss : List ℕ} {leaves nodes names : ℕ} → Prepares formula n ks fs ss leaves nodes names → Coded formula n
-judge-coded (prepares long few names built) = record { long = long; few = few }
+prepared-coded : {formula : List ℕ} {n : ℕ} {ks fs ss : List ℕ} {leaves nodes names : ℕ} → Prepares formula n ks fs ss leaves nodes names → Coded formula n
+prepared-coded (prepares long few names built) = record { long = long; few = few }
 
-module _ {formula : List ℕ} {n : ℕ} {ks fs ss : List ℕ} {leaves nodes names : ℕ} {toggles ms ps cs : List ℕ} {r : Checked} (says : Checks formula n names toggles ms ps cs r) where
-  pub check-refused : {lent : Lists} (number place : ℕ) → r ≡ checked.Refused number place
-      → JudgedOn formula n ks fs ss leaves nodes names toggles ms ps cs lent (run.Refused number place) lent
-  check-refused {lent} number place is =
-      let x : Refuses formula n names toggles ms ps cs number place = rw is at says in
-      record { so = λ g b. edit-refused (editing g names toggles ms ps cs lent) lent number place (x .so g (b .codes-are) lent) }
+pub ask-refused : (formula : List ℕ) (n names nodes : ℕ) (toggles ms ps cs : List ℕ) (room : Room) (r : Checked) → Checks formula n names toggles ms ps cs r → (number place : ℕ) → r ≡ checked.Refused number place
+    → Asks formula n names nodes toggles ms ps cs room (checked.Refused number place)
+ask-refused formula n names nodes toggles ms ps cs room r says number place is = at-once (rw is at says)
 
-  module _ (is : r ≡ checked.Taken) where
-    pub judge-takes : Prepares formula n ks fs ss leaves nodes names → Takes formula n ks fs ss leaves nodes toggles ms ps cs
-    judge-takes (prepares long few small built) =
-        let p : Passes formula n names toggles ms ps cs = rw is at says in
-        let f = all-fit (take n formula) (length toggles) 0 ms ps cs (p .positions-long) (p .codes-long) (p .fit) in
-        takes
-        record {
-          formula-long = long;
-          formula-few = few;
-          built = built;
-          named = λ i.
-              cases (ltb i (length toggles))
-              (λ q. let below = none-wrong names toggles (p .named) i (ltb-true i (length toggles) q) in omega arith)
-              (λ q. let none : getD toggles i 0 ≡ 0 = List·getD-eq-default toggles 0 (ltb-false i (length toggles) q) in omega arith);
-          listed =
-              record {
-                positions-long = p .positions-long;
-                codes-long = p .codes-long;
-                low = λ k h. f .each k h .1;
-                high = λ k h. omega (arith, f .each k h .2);
-                in-time = λ k h. f .each k h .3;
-              };
-          rises = f .rises;
-          operated = λ k h. f .each k h .0;
-        }
+pub ask-room : (formula : List ℕ) (n names nodes : ℕ) (toggles ms ps cs : List ℕ) (room : Room) (r : Checked) → Checks formula n names toggles ms ps cs r → r ≡ checked.Taken → (q : Checked) → Roomed (length toggles) nodes (length ms) room q
+    → Asks formula n names nodes toggles ms ps cs room q
+ask-room formula n names nodes toggles ms ps cs room r says is checked.Taken space = (rw is at says, space)
+ask-room formula n names nodes toggles ms ps cs room r says is (checked.Refused number place) short = for-room (rw is at says) short
 
-    pub judged : {lent after : Lists} {a : RunAnswer} → LentOn formula n ks fs ss leaves nodes toggles ms ps cs lent a after
-        → JudgedOn formula n ks fs ss leaves nodes names toggles ms ps cs lent a after
-    unfolding editing
-    judged {lent} {after} {a} l =
-        record {
-          so = λ g b.
-              let p : Passes formula n names toggles ms ps cs = rw is at says in
-              let fit : firstUnfit (postfix g) (length toggles) 0 ms ps cs ≡ length ms = ap (λ q. firstUnfit q (length toggles) 0 ms ps cs) (sym (b .codes-are)) ∙ p .fit in
-              let same-outcome : editing g names toggles ms ps cs lent ≡ lending g toggles ms ps cs lent =
-              rw (
-                eq-eqb (length ps) (length ms) (p .positions-long),
-                eq-eqb (length cs) (length ms) (p .codes-long),
-                eq-eqb (firstWrong names toggles) (length toggles) (p .named),
-                eq-eqb (firstUnfit (postfix g) (length toggles) 0 ms ps cs) (length ms) fit,
-              ) in
-              rw same-outcome (l .so g b);
-        }
+module _ {formula : List ℕ} {n : ℕ} {ks fs ss : List ℕ} {leaves nodes names : ℕ} {toggles ms ps cs : List ℕ} where
+  passes-take : Passes formula n names toggles ms ps cs → Prepares formula n ks fs ss leaves nodes names → Takes formula n ks fs ss leaves nodes toggles ms ps cs
+  passes-take p (prepares long few small built) =
+      let f = all-fit (take n formula) (length toggles) 0 ms ps cs (p .positions-long) (p .codes-long) (p .fit) in
+      takes
+      record {
+        formula-long = long;
+        formula-few = few;
+        built = built;
+        named = λ i.
+            cases (ltb i (length toggles))
+            (λ q. let below = none-wrong names toggles (p .named) i (ltb-true i (length toggles) q) in omega arith)
+            (λ q. let none : getD toggles i 0 ≡ 0 = List·getD-eq-default toggles 0 (ltb-false i (length toggles) q) in omega arith);
+        listed =
+            record {
+              positions-long = p .positions-long;
+              codes-long = p .codes-long;
+              low = λ k h. f .each k h .1;
+              high = λ k h. omega (arith, f .each k h .2);
+              in-time = λ k h. f .each k h .3;
+            };
+        rises = f .rises;
+        operated = λ k h. f .each k h .0;
+      }
+
+  judged : Passes formula n names toggles ms ps cs → {lent after : Lists} {a : RunAnswer} → LentOn formula n ks fs ss leaves nodes toggles ms ps cs lent a after
+      → JudgedOn formula n ks fs ss leaves nodes names toggles ms ps cs lent a after
+  unfolding editing
+  judged p {lent} {after} {a} l =
+      record {
+        so = λ g b.
+            let fit : firstUnfit (postfix g) (length toggles) 0 ms ps cs ≡ length ms = ap (λ q. firstUnfit q (length toggles) 0 ms ps cs) (sym (b .codes-are)) ∙ p .fit in
+            let same-outcome : editing g names toggles ms ps cs lent ≡ lending g toggles ms ps cs lent =
+            rw (
+              eq-eqb (length ps) (length ms) (p .positions-long),
+              eq-eqb (length cs) (length ms) (p .codes-long),
+              eq-eqb (firstWrong names toggles) (length toggles) (p .named),
+              eq-eqb (firstUnfit (postfix g) (length toggles) 0 ms ps cs) (length ms) fit,
+            ) in
+            rw same-outcome (l .so g b);
+      }
+
+  module _ (roots counts labels edits : List ℕ) where
+    refused-with : (number place : ℕ) → RefusedWith formula n names nodes toggles ms ps cs (roomOf roots counts labels edits) number place → JudgedOn formula n ks fs ss leaves nodes names toggles ms ps cs (lists roots counts labels edits) (run.Refused number place) (lists roots counts labels edits)
+    refused-with number place (at-once x) = record { so = λ g b. edit-refused (editing g names toggles ms ps cs (lists roots counts labels edits)) (lists roots counts labels edits) number place (x .so g (b .codes-are) (lists roots counts labels edits)) }
+    refused-with number place (for-room p s) = judged p (short-lent roots counts labels edits number place s)
+
+    module _ {r : Checked} (says : Asks formula n names nodes toggles ms ps cs (roomOf roots counts labels edits) r) where
+      pub asked-refused : (number place : ℕ) → r ≡ checked.Refused number place → JudgedOn formula n ks fs ss leaves nodes names toggles ms ps cs (lists roots counts labels edits) (run.Refused number place) (lists roots counts labels edits)
+      asked-refused number place is = refused-with number place (rw is at says)
+
+      module _ (is : r ≡ checked.Taken) where
+        pub asked-room : Prepares formula n ks fs ss leaves nodes names → EditRoom formula n ks fs ss leaves nodes toggles ms ps cs roots counts labels edits
+        asked-room prepared =
+            let taken : Passes formula n names toggles ms ps cs × Spacious (length toggles) nodes (length ms) (roomOf roots counts labels edits) = rw is at says in
+            run-room roots counts labels edits (taken .1) (passes-take (taken .0) prepared)
+
+        pub asked-run : {roots′ counts′ labels′ edits′ : List ℕ} → EditedRuns formula n ks fs ss leaves nodes toggles ms ps cs roots counts labels edits roots′ counts′ labels′ edits′
+            → JudgedOn formula n ks fs ss leaves nodes names toggles ms ps cs (lists roots counts labels edits) (run.Ran nodes) (lists roots′ counts′ labels′ edits′)
+        asked-run done =
+            let taken : Passes formula n names toggles ms ps cs × Spacious (length toggles) nodes (length ms) (roomOf roots counts labels edits) = rw is at says in
+            judged (taken .0) (run-given roots counts labels edits (taken .1) done)
 
 -- ---- a sheet is refused, or its formula stands in the arrays
 module _ (s : Sheets) (codes k f e : List ℕ) (toggles ms ps cs : List ℕ) (lent : Lists) (r : Prepared) (says : Says s codes k f e r) where
@@ -328,6 +340,9 @@ module _ (s : Sheets) (codes k f e : List ℕ) (r : Prepared) (says : Says s cod
   sheet-prepares long =
       let st = stands .1 in
       prepares long (st .coded .few-codes) (omega (arith, st .coded .names-are, st .coded .facts .own .good-names .few)) record { formula = stands .0 .formula; built = built }
+
+  pub sheet-coded : length codes ≡ 2048 → Coded codes n
+  sheet-coded long = prepared-coded (sheet-prepares long)
 
   pub sheet-edited : (toggles ms ps cs : List ℕ) {lent after : Lists} {a : RunAnswer} → JudgedOn codes n k f e (b .leaves) (b .nodes) names toggles ms ps cs lent a after
       → Edited (runningEdited s toggles ms ps cs lent) lent a after

@@ -11,6 +11,7 @@ use Rattle.job_run.specs.declared.RunAnswer.{RunAnswer}
 use Rattle.edit_places.specs.Places.{Built, Buildable}
 use Rattle.edit_moments.specs.Edits.{editsOf}
 use Rattle.edit_moments.specs.Listed.{Rises, Listed}
+use Rattle.job_edit.specs.declared.Room.{Room}
 use Rattle.job_edit.specs.declared.Checked.{Checked}
 use Rattle.job_edit.specs.declared.Checked.the-variants as checked
 use Rattle.job_edit.specs.Editing.{Lists, lending, editing}
@@ -34,6 +35,33 @@ pub record Passes (formula : List ℕ) (n names : ℕ) (toggles ms ps cs : List 
 abbrev pub Checks : List ℕ → ℕ → ℕ → List ℕ → List ℕ → List ℕ → List ℕ → Checked → Type 0
 Checks formula n names toggles ms ps cs checked.Taken = Passes formula n names toggles ms ps cs
 Checks formula n names toggles ms ps cs (checked.Refused number place) = Refuses formula n names toggles ms ps cs number place
+
+-- There is room in each answer list,
+pub record Spacious (toggles nodes edits : ℕ) (room : Room) : Type 0 where
+  pub for-roots : toggles ≤ room .roots
+  pub for-counts : toggles ≤ room .counts
+  pub for-labels : nodes ≤ room .labels
+  pub for-edits : edits ≤ room .edits
+
+-- or the first that is too short is refused.
+pub data Short (toggles nodes edits : ℕ) (room : Room) : ℕ → ℕ → Type 0 where
+  roots-short : room .roots < toggles → Short toggles nodes edits room 9 toggles
+  counts-short : toggles ≤ room .roots → room .counts < toggles → Short toggles nodes edits room 9 toggles
+  labels-short : toggles ≤ room .roots → toggles ≤ room .counts → room .labels < nodes → Short toggles nodes edits room 9 nodes
+  edits-short : toggles ≤ room .roots → toggles ≤ room .counts → nodes ≤ room .labels → room .edits < edits → Short toggles nodes edits room 9 edits
+
+abbrev pub Roomed : ℕ → ℕ → ℕ → Room → Checked → Type 0
+Roomed toggles nodes edits room checked.Taken = Spacious toggles nodes edits room
+Roomed toggles nodes edits room (checked.Refused number place) = Short toggles nodes edits room number place
+
+-- By cases: toggles and edits are taken and there is room; or they are refused, or pass and a list is too short.
+pub data RefusedWith (formula : List ℕ) (n names nodes : ℕ) (toggles ms ps cs : List ℕ) (room : Room) (number place : ℕ) : Type 0 where
+  at-once : Refuses formula n names toggles ms ps cs number place → RefusedWith formula n names nodes toggles ms ps cs room number place
+  for-room : Passes formula n names toggles ms ps cs → Short (length toggles) nodes (length ms) room number place → RefusedWith formula n names nodes toggles ms ps cs room number place
+
+abbrev pub Asks : List ℕ → ℕ → ℕ → ℕ → List ℕ → List ℕ → List ℕ → List ℕ → Room → Checked → Type 0
+Asks formula n names nodes toggles ms ps cs room checked.Taken = Passes formula n names toggles ms ps cs × Spacious (length toggles) nodes (length ms) room
+Asks formula n names nodes toggles ms ps cs room (checked.Refused number place) = RefusedWith formula n names nodes toggles ms ps cs room number place
 
 -- Toggles and edits that are taken.
 pub record Taken (formula : List ℕ) (n : ℕ) (ks fs ss : List ℕ) (leaves nodes : ℕ) (toggles ms ps cs : List ℕ) : Type 0 where

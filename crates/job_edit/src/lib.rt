@@ -2,12 +2,11 @@
 use accepting::Prepared;
 use job_run::RunAnswer;
 use labels::Size;
-use tree_dwarf::Figures;
 ghost use Rattle.sheet.specs.Sheet.{sheetsOf};
 ghost use Rattle.job_edit.specs.Editing.{lists, runningEdited};
 ghost use Rattle.job_edit.specs.Edited.{Edited};
 ghost use Rattle.edit_checking.specs.Asked.{Coded};
-ghost use Rattle.job_edit.specs.Taken.{Prepares, Checks, Takes, LentOn, JudgedOn};
+ghost use Rattle.job_edit.specs.Taken.{Checks, Roomed, Asks};
 
 // Toggles and edits that are taken, or the refusal.
 enum Checked {
@@ -58,117 +57,63 @@ fn check(
     Checked::Taken
 }
 
-// The run on a dwarf tree, where there is room in each list.
-fn lend(
-    formula: &[u16; 2048],
-    n: usize,
-    kinds: &mut [u16; 3072],
-    firsts: &[u16; 3072],
-    seconds: &[u16; 3072],
-    built: Figures,
-    toggles: &[u16],
-    moments: &[u64],
-    positions: &[u16],
-    codes: &[u16],
-    roots: &mut [u8],
-    counts: &mut [u32],
-    labels: &mut [u8],
-    edit_counts: &mut [u32],
-) -> RunAnswer
-    requires { ⌜ Takes (now formula) n (now kinds) (now firsts) (now seconds) (built .leaves) (built .nodes) (now toggles) (now moments) (now positions) (now codes) ⌝ }
-    ensures { λ r. ⌜ LentOn (now (formula .entry)) n (now (kinds .entry)) (now (firsts .entry)) (now (seconds .entry)) (built .leaves) (built .nodes) (now (toggles .entry)) (now (moments .entry)) (now (positions .entry)) (now (codes .entry))
-        (lists (now (roots .entry)) (now (counts .entry)) (now (labels .entry)) (now («edit_counts» .entry))) r
-        (lists (now (roots .exit)) (now (counts .exit)) (now (labels .exit)) (now («edit_counts» .exit))) ⌝ }
+// How many entries each answer list has.
+struct Room {
+    roots: usize,
+    counts: usize,
+    labels: usize,
+    edits: usize,
+}
+
+// Whether there is room in each list.
+fn ask_room(toggles: usize, nodes: usize, edits: usize, room: Room) -> Checked
+    ensures { λ r. ⌜ Roomed toggles nodes edits room r ⌝ }
 {
-    let nodes = built.nodes;
-    let size = Size {
-        leaves: built.leaves,
-        nodes,
-    };
-    if roots.len() < toggles.len() {
-        return RunAnswer::Refused {
+    if room.roots < toggles {
+        return Checked::Refused {
             number: 9,
-            place: toggles.len(),
+            place: toggles,
         };
     }
-    if counts.len() < toggles.len() {
-        return RunAnswer::Refused {
+    if room.counts < toggles {
+        return Checked::Refused {
             number: 9,
-            place: toggles.len(),
+            place: toggles,
         };
     }
-    if labels.len() < nodes {
-        return RunAnswer::Refused {
+    if room.labels < nodes {
+        return Checked::Refused {
             number: 9,
             place: nodes,
         };
     }
-    if edit_counts.len() < moments.len() {
-        return RunAnswer::Refused {
+    if room.edits < edits {
+        return Checked::Refused {
             number: 9,
-            place: moments.len(),
+            place: edits,
         };
     }
-    edit_run::run_edited(
-        formula,
-        n,
-        kinds,
-        firsts,
-        seconds,
-        size,
-        toggles,
-        moments,
-        positions,
-        codes,
-        roots,
-        counts,
-        labels,
-        edit_counts,
-    );
-    RunAnswer::Ran { nodes }
+    Checked::Taken
 }
 
-// The run on a dwarf tree, where the toggles and the edits are taken.
-fn judge(
+// Whether toggles and edits are taken on a tree of so many nodes, and then whether there is room for their answers.
+fn ask(
     formula: &[u16; 2048],
     n: usize,
-    kinds: &mut [u16; 3072],
-    firsts: &[u16; 3072],
-    seconds: &[u16; 3072],
-    built: Figures,
     names: usize,
+    nodes: usize,
     toggles: &[u16],
     moments: &[u64],
     positions: &[u16],
     codes: &[u16],
-    roots: &mut [u8],
-    counts: &mut [u32],
-    labels: &mut [u8],
-    edit_counts: &mut [u32],
-) -> RunAnswer
-    requires { ⌜ Prepares (now formula) n (now kinds) (now firsts) (now seconds) (built .leaves) (built .nodes) names ⌝ }
-    ensures { λ r. ⌜ JudgedOn (now (formula .entry)) n (now (kinds .entry)) (now (firsts .entry)) (now (seconds .entry)) (built .leaves) (built .nodes) names (now (toggles .entry)) (now (moments .entry)) (now (positions .entry)) (now (codes .entry))
-        (lists (now (roots .entry)) (now (counts .entry)) (now (labels .entry)) (now («edit_counts» .entry))) r
-        (lists (now (roots .exit)) (now (counts .exit)) (now (labels .exit)) (now («edit_counts» .exit))) ⌝ }
+    room: Room,
+) -> Checked
+    requires { ⌜ Coded (now formula) n ⌝ }
+    ensures { λ r. ⌜ Asks (now (formula .entry)) n names nodes (now (toggles .entry)) (now (moments .entry)) (now (positions .entry)) (now (codes .entry)) room r ⌝ }
 {
     match check(formula, n, names, toggles, moments, positions, codes) {
-        Checked::Refused { number, place } => RunAnswer::Refused { number, place },
-        Checked::Taken => lend(
-            formula,
-            n,
-            kinds,
-            firsts,
-            seconds,
-            built,
-            toggles,
-            moments,
-            positions,
-            codes,
-            roots,
-            counts,
-            labels,
-            edit_counts,
-        ),
+        Checked::Refused { number, place } => Checked::Refused { number, place },
+        Checked::Taken => ask_room(toggles.len(), nodes, moments.len(), room),
     }
 }
 
@@ -195,6 +140,12 @@ pub fn run_edited(
     let mut k = [0u16; 3072];
     let mut f = [0u16; 3072];
     let mut s = [0u16; 3072];
+    let room = Room {
+        roots: roots.len(),
+        counts: counts.len(),
+        labels: labels.len(),
+        edits: edit_counts.len(),
+    };
     match accepting::prepare(
         fitted,
         fittings,
@@ -210,22 +161,43 @@ pub fn run_edited(
             names,
             codes: n,
             built,
-        } => judge(
-            &formula,
-            n,
-            &mut k,
-            &f,
-            &s,
-            built,
-            names,
-            toggles,
-            moments,
-            positions,
-            codes,
-            roots,
-            counts,
-            labels,
-            edit_counts,
-        ),
+        } => {
+            let size = Size {
+                leaves: built.leaves,
+                nodes: built.nodes,
+            };
+            match ask(
+                &formula,
+                n,
+                names,
+                size.nodes,
+                toggles,
+                moments,
+                positions,
+                codes,
+                room,
+            ) {
+                Checked::Refused { number, place } => RunAnswer::Refused { number, place },
+                Checked::Taken => {
+                    edit_run::run_edited(
+                        &formula,
+                        n,
+                        &mut k,
+                        &f,
+                        &s,
+                        size,
+                        toggles,
+                        moments,
+                        positions,
+                        codes,
+                        roots,
+                        counts,
+                        labels,
+                        edit_counts,
+                    );
+                    RunAnswer::Ran { nodes: size.nodes }
+                }
+            }
+        }
     }
 }

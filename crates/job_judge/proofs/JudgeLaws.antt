@@ -2,7 +2,7 @@
 use Prim.Native.Nat.{ℕ}
 use mathlib.Core.Path.{_≡_, sym, ap, _∙_, subst}
 use mathlib.Core.List.{List}
-use lib.ListN.{length}
+use lib.ListN.{length, take}
 use Rattle.outcome.specs.Outcome.{given, refused, unfit}
 use Rattle.formula.specs.Formula.{Over}
 use Rattle.sheet.specs.Sheet.{Sheets, Sheet}
@@ -35,7 +35,7 @@ module _ (s : Sheets) (codes : List ℕ) (c : LineLists) (t : TheirLists) (r : A
     stands : (x : Sheet) × Coded s x names n codes
     stands = rw is at says
 
-    module _ (a : TheirAnswer) (gives : JudgeDone codes n names c t a) where
+    module _ (a : TheirAnswer) (gives : JudgeDone (take n codes) names c t a) where
       told : answered a ≡ judging s c t
       told =
           let x = stands .0 in

@@ -2,16 +2,15 @@
 use Prim.Native.Nat.{ℕ}
 use mathlib.Core.Path.{_≡_, refl, sym, ap, _∙_}
 use lib.ListN.{length}
-use Rattle.outcome.specs.Outcome.{Outcome, given, refused, unfit}
+use Rattle.outcome.specs.Outcome.{Outcome, refused, unfit}
 use Rattle.outcome.specs.Numbered.{Numbered}
-use Rattle.outcome.proofs.Questions.{bind-given}
 use Rattle.outcome.proofs.NumberedLaws.{bind-numbered}
 use Rattle.outcome.proofs.Settling.{known-by, saying}
 use Rattle.sheet.specs.Sheet.{Sheets, Sheet}
 use Rattle.accepting.specs.Accepting.{accepted}
 use Rattle.accepting.proofs.Accepted.{accepted-numbered}
 use Rattle.lines.specs.Lines.{LineLists}
-use Rattle.line_opinion.specs.Judging.{TheirLists, Opinion, right, wrongAt, judgement}
+use Rattle.line_opinion.specs.Judging.{TheirLists, Opinion, right, wrongAt}
 use Rattle.line_opinion.proofs.Numbered.{judgement-numbered}
 use Rattle.job_judge.specs.Judging.{judging}
 use Rattle.job_judge.specs.Judged.{judgedOf}
@@ -53,9 +52,3 @@ module _ (o : Outcome Opinion) where
 pub judge-numbered : (s : Sheets) (c : LineLists) (t : TheirLists) → Numbered (judging s c t)
 unfolding judging
 judge-numbered s c t = bind-numbered (accepted s) _ (accepted-numbered s) (λ (x : Sheet). judgement-numbered (x .formula) (length (x .names)) c t)
-
--- A job that answers has accepted the sheet, and it is against the walls of the sheet's formula that their list is judged.
-pub judged-accepted : (s : Sheets) (c : LineLists) (t : TheirLists) (o : Opinion) → judging s c t ≡ given o
-    → (x : Sheet) × (accepted s ≡ given x) × (judgement (x .formula) (length (x .names)) c t ≡ given o)
-unfolding judging
-judged-accepted s c t o is = bind-given (accepted s) (λ (y : Sheet). judgement (y .formula) (length (y .names)) c t) o is

@@ -36,8 +36,7 @@ pub fn judge(
         Acceptance::Refused { number, place } => JudgeAnswer::Refused { number, place },
         Acceptance::Unfit { number, place } => JudgeAnswer::Unfit { number, place },
         Acceptance::Given { names, codes: n } => match line_judge::judge(
-            &codes,
-            n,
+            &codes[..n],
             names,
             rows,
             lines,

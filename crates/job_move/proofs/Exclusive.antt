@@ -1,18 +1,20 @@
 -- 0xFFF3 among codes: found by one pass over them, and the same in either order.
-use Prim.Native.Nat.{ℕ, suc, _+_, _^_, _≤_, _<_}
+use Prim.Native.Nat.{ℕ, suc, _+_, _*_, _/_, _^_, _≤_, _<_}
 use native.Mathlib.Omega.{arith}
 use native.Mathlib.Numerals.{add-one}
 use mathlib.Core.Path.{_≡_, refl, sym, ap, _∙_}
 use mathlib.Core.Bool.{Bool, true, false, cond, _||_}
 use mathlib.Core.List.{List, [], _∷_, _++_}
-use lib.ListN.{length, getD, take, drop, drop-of-length-le}
-use lib.Seq.{take-suc, getD-take, drop-cons, length-take-le}
-use lib.Dec.{ltb, eqb}
-use borrow.Author.Tests.{lt-ltb, le-ltb, ltb-false, eq-eqb, ne-eqb}
+use lib.ListN.{length, getD, take, drop, length-drop}
+use lib.Seq.{take-suc}
+use lib.Dec.{eqb}
+use borrow.Author.Tests.{eq-eqb, ne-eqb}
 use Rattle.formula.specs.Formula.{exclusive, code, Formula, leaf, node, postfix, prefix}
-use Rattle.sheet.specs.Sheet.{codesIn}
+use Rattle.sheet.specs.Sheet.{twoAt, codesOf, codesIn}
+use Rattle.sheet.proofs.Codes.{length-codesOf}
+use Rattle.sheet_codes.proofs.CodeSteps.{codes-more}
 use Rattle.job_move.specs.Moving.{hasExclusive, beforeExclusive}
-use Rattle.job_move.specs.Putting.{oneExclusive, manyExclusive, Among, firstOne}
+use Rattle.job_move.specs.Putting.{oneExclusive, manyExclusive, Among}
 
 -- ---- it is among codes exactly if not all of them stand before it
 
@@ -99,8 +101,8 @@ unfolding manyExclusive beforeExclusive
 before-none [] e = refl
 before-none (c ∷ cs) e = before-by cs (eqb c (code exclusive)) (before-none cs) e
 
-pub none-before : (codes : List ℕ) (n many : ℕ) → n ≤ 2048 → length codes ≡ 2048 → Among codes n many → many ≡ 0 → n ≡ beforeExclusive (take n codes)
-none-before codes n many few sized a e = sym (before-none (take n codes) (sym (a .are) ∙ e) ∙ length-take-le n codes (omega arith))
+pub none-among : (codes : List ℕ) (n many : ℕ) → Among codes n many → many ≡ 0 → hasExclusive (take n codes) ≡ false
+none-among codes n many a e = has-none (take n codes) (omega (arith, before-none (take n codes) (sym (a .are) ∙ e)))
 
 pub counted-one : (c : ℕ) → c ≡ 0xFFF3 → 1 ≡ oneExclusive c
 counted-one c e = rw (eq-eqb c 0xFFF3 e)
@@ -136,54 +138,34 @@ module _ (codes : List ℕ) (n i many c one : ℕ) (so : Counted codes i many) (
 pub counted-all : (codes : List ℕ) (n i many : ℕ) → Counted codes i many → i ≤ n → n ≤ i → Among codes n many
 counted-all codes n i many so l h = let e : i ≡ n = omega arith in rw (← e) (so .among)
 
--- ---- one code more
+-- ---- the first one, among a formula's bytes
 
-module _ (found n c i : ℕ) where
-  pub one-kept : found < n → found ≡ firstOne found n c i
-  one-kept h = rw (lt-ltb found n h)
+-- What is left decides.
+pub record Looked (bytes : List ℕ) (i : ℕ) : Type 0 where
+  pub whole : beforeExclusive (codesOf bytes) ≡ i + beforeExclusive (codesOf (drop (2 * i) bytes))
 
-  pub one-here : n ≤ found → c ≡ 0xFFF3 → i ≡ firstOne found n c i
-  one-here h e = rw (le-ltb found n h, eq-eqb c 0xFFF3 e)
+pub looked-none : (bytes : List ℕ) → Looked bytes 0
+looked-none bytes = record { whole = omega arith }
 
-  pub one-none : n ≤ found → (c ≡ 0xFFF3 → ⊥) → found ≡ firstOne found n c i
-  one-none h e = rw (le-ltb found n h, ne-eqb c 0xFFF3 e)
+module _ (bytes : List ℕ) (i : ℕ) (so : Looked bytes i) where
+  module _ (c : ℕ) (is : c ≡ twoAt bytes (2 * i)) (more : i < length bytes / 2) where
+    one-more : codesOf (drop (2 * i) bytes) ≡ c ∷ codesOf (drop (2 * i + 2) bytes)
+    one-more = codes-more bytes (2 * i) (omega arith) ∙ rw (← is)
 
--- The first i of n codes are looked at: what is found decides, or what is left.
-pub record Looked (codes : List ℕ) (n found i : ℕ) : Type 0 where
-  pub most : found ≤ n
-  pub whole : beforeExclusive (take n codes) ≡ cond (ltb found n) found (i + beforeExclusive (drop i (take n codes)))
+    pub looked-here : c ≡ 0xFFF3 → i ≡ beforeExclusive (codesOf bytes)
+    unfolding beforeExclusive
+    looked-here e =
+        let here : beforeExclusive (codesOf (drop (2 * i) bytes)) ≡ 0 = ap beforeExclusive one-more ∙ rw (eq-eqb c 0xFFF3 e, beforeExclusive) in
+        omega (arith, so .whole, here)
 
-pub looked-none : (codes : List ℕ) (n : ℕ) → Looked codes n n 0
-looked-none codes n = record { most = omega arith; whole = rw (le-ltb n n (omega arith)) (omega arith) }
+    pub looked-more : (c ≡ 0xFFF3 → ⊥) → Looked bytes (i + 1)
+    unfolding beforeExclusive
+    looked-more e =
+        let next : 2 * (i + 1) ≡ 2 * i + 2 = omega arith in
+        let here : beforeExclusive (codesOf (drop (2 * i) bytes)) ≡ suc (beforeExclusive (codesOf (drop (2 * i + 2) bytes))) = ap beforeExclusive one-more ∙ rw (ne-eqb c 0xFFF3 e, beforeExclusive) in
+        record { whole = rw next (omega (arith, so .whole, here)) }
 
-module _ (codes : List ℕ) (n found i : ℕ) (so : Looked codes n found i) where
-  more-by : (b d : Bool) → ltb found n ≡ b → i < n → beforeExclusive (drop i (take n codes)) ≡ elim d [ true ↦ 0 | false ↦ suc (beforeExclusive (drop (suc i) (take n codes))) ]
-      → Looked codes n (cond b found (cond d i found)) (i + 1)
-  more-by true d e more left =
-      let k : beforeExclusive (take n codes) ≡ found = rw e at (so .whole) in
-      record { most = so .most; whole = k ∙ rw e }
-  more-by false true e more left =
-      let k : beforeExclusive (take n codes) ≡ i + 0 = rw (e, left) at (so .whole) in
-      record { most = omega arith; whole = k ∙ rw (lt-ltb i n more) (omega arith) }
-  more-by false false e more left =
-      let k : beforeExclusive (take n codes) ≡ i + suc (beforeExclusive (drop (suc i) (take n codes))) = rw (e, left) at (so .whole) in
-      record { most = so .most; whole = k ∙ rw (e, add-one i) (omega arith) }
-
-  pub looked-more : (c more : ℕ) → c ≡ getD codes i 0 → i < n → n ≤ 2048 → length codes ≡ 2048 → more ≡ firstOne found n c i → Looked codes n more (i + 1)
-  unfolding beforeExclusive
-  looked-more c more is below few sized e =
-      let long : length (take n codes) ≡ n = length-take-le n codes (omega arith) in
-      let here : getD (take n codes) i 0 ≡ c = getD-take n codes i 0 below ∙ sym is in
-      let left : drop i (take n codes) ≡ c ∷ drop (suc i) (take n codes) = drop-cons (take n codes) i 0 (omega (arith, long)) ∙ ap (λ (x : ℕ). x ∷ drop (suc i) (take n codes)) here in
-      rw e (more-by (ltb found n) (eqb c (code exclusive)) refl below (ap beforeExclusive left))
-
-  all-by : (b : Bool) → ltb found n ≡ b → n ≤ i → i ≤ n → length (take n codes) ≤ i → found ≡ beforeExclusive (take n codes)
-  unfolding beforeExclusive
-  all-by true e h l long = sym (rw e at (so .whole))
-  all-by false e h l long =
-      let k : beforeExclusive (take n codes) ≡ i + 0 = rw (e, drop-of-length-le (take n codes) long) at (so .whole) in
-      let full : n ≤ found = ltb-false found n e in
-      omega (arith, k, full, so .most)
-
-  pub looked-all : n ≤ i → i ≤ n → n ≤ 2048 → length codes ≡ 2048 → found ≡ beforeExclusive (take n codes)
-  looked-all h l few sized = all-by (ltb found n) refl h l (omega (arith, length-take-le n codes (omega arith)))
+  pub looked-all : length bytes / 2 ≤ i → i ≡ beforeExclusive (codesOf bytes)
+  looked-all done =
+      let rest = drop (2 * i) bytes in
+      omega (arith, so .whole, before-most (codesOf rest), length-codesOf rest, length-drop (2 * i) bytes)

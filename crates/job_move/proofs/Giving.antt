@@ -4,7 +4,7 @@ use native.Mathlib.Omega.{arith}
 use mathlib.Core.Path.{_≡_, refl, sym, ap, _∙_}
 use mathlib.Core.List.{List, [], _∷_, _++_}
 use lib.ListN.{length, getD, take, drop, set, length-set, length-take, length-drop, length-append}
-use lib.Seq.{sets, sets-eq, set-append-left, take-at, drop-append-add, drop-drop, length-take-le}
+use lib.Seq.{sets, sets-eq, length-sets, set-append-left, take-at, drop-append-add, drop-drop, length-take-le}
 use Rattle.outcome.specs.Lent.{filled}
 use Rattle.formula.specs.Formula.{postfix}
 use Rattle.sheet.specs.Sheet.{Sheet, between, codesOf, codesIn, formulaTag}
@@ -13,14 +13,8 @@ use Rattle.sheet.proofs.Names.{walk-on}
 use Rattle.sheet_laying.specs.Bytes.{codeBytes}
 use Rattle.sheet_laying.proofs.Putting.{length-codeBytes}
 use Rattle.job_move.specs.Moving.{other, moved}
-use Rattle.job_move.specs.Putting.{Puttable, PutIn, Held, Movable, MovedTo}
-
--- two bytes a code
-pub codes-long : (p : List ℕ) → length p % 2 ≡ 0 → 2 * length (codesOf p) ≡ length p
-unfolding codesOf
-codes-long [] e = refl
-codes-long (h ∷ []) e = absurd (omega (arith, e))
-codes-long (h ∷ l ∷ p) e = omega (arith, codes-long p (omega (arith, e)))
+use Rattle.sheet_laying.proofs.CodeBytes.{codes-long}
+use Rattle.job_move.specs.Putting.{Held, Movable, MovedTo}
 
 -- rows of stores at the front of a lent list
 module _ (front old : List ℕ) (e t i : ℕ) (bytes : List ℕ) where
@@ -37,8 +31,8 @@ put-after front rest bytes first k room =
     ∙ ap (λ (xs : List ℕ). (front ++ bytes) ++ xs) (ap (λ (i : ℕ). drop (i + length bytes) (front ++ rest)) (sym k) ∙ drop-append-add front rest (length bytes))
 
 module _ (s codes : List ℕ) (n : ℕ) (r : Sheet) (h : Held s codes n r) where
-  many : length (postfix (r .formula)) ≡ n
-  many = ap length (sym (h .stand .are)) ∙ length-take-le n codes (omega (arith, h .stand .few, h .stand .sized))
+  pub many : length (postfix (r .formula)) ≡ n
+  many = sym (h .stand .all ∙ length-codesIn (other (r .edition)) (r .formula))
 
   formula-long : length (between s (r .first) (r .past)) ≡ r .past - r .first
   formula-long = length-take (r .past - r .first) (drop (r .first) s) ∙ rw (length-drop (r .first) s, h .own .ends) (omega arith)
@@ -95,6 +89,9 @@ module _ (s codes : List ℕ) (n : ℕ) (r : Sheet) (h : Held s codes n r) where
       ∙ ap (λ (xs : List ℕ). (heads ++ bytes) ++ xs) (drop-drop (length bytes) (length front) old ∙ ap (λ (i : ℕ). drop i old) past)
       ∙ ap (λ (t : ℕ). filled (set (set front 4 (3 - r .edition)) (r .first - 3) t ++ bytes) old) tag)
 
+pub edition-is : (edition : ℕ) → (edition ≡ 2 → ⊥) → 1 ≤ edition → edition ≤ 2 → other edition ≡ 2
+edition-is edition one low high = omega arith
+
 -- ---- give_moved
 
 module _ (s codes : List ℕ) (n : ℕ) (lent : List ℕ) (m : Movable s codes n lent) where
@@ -123,19 +120,17 @@ module _ (s codes : List ℕ) (n : ℕ) (lent : List ℕ) (m : Movable s codes n
     pub tag-room : (x : ℕ) → length s - 2 * n - 3 < length (set one 4 x)
     tag-room x = omega (arith, length-set one 4 x, one-long, tag-there, first-room)
 
-    pub puttable : (x y : ℕ) → Puttable codes n (set (set one 4 x) (length s - 2 * n - 3) y) (length s - 2 * n)
-    puttable x y =
-        record {
-          formula = m .sheet .formula;
-          stand = held .stand;
-          fits = omega (arith, length-set (set one 4 x) (length s - 2 * n - 3) y, length-set one 4 x, one-long, codes-enough, m .room);
-        }
+    pub codes-fit : (x y : ℕ) → length s - 2 * n + 2 * n ≤ length (set (set one 4 x) (length s - 2 * n - 3) y)
+    codes-fit x y = omega (arith, length-set (set one 4 x) (length s - 2 * n - 3) y, length-set one 4 x, one-long, codes-enough, m .room)
 
-    pub moved-same : (ed x y at : ℕ) (new : List ℕ) → PutIn ed codes n (set (set one 4 x) (length s - 2 * n - 3) y) new at → length new ≡ length lent
-    moved-same ed x y at new put = put .long ∙ length-set (set one 4 x) (length s - 2 * n - 3) y ∙ length-set one 4 x ∙ one-long
+    pub moved-same : (x y : ℕ) (new : List ℕ) → new ≡ sets (set (set one 4 x) (length s - 2 * n - 3) y) (length s - 2 * n) (codeBytes (take n codes)) → length new ≡ length lent
+    moved-same x y new put =
+        ap length put ∙ length-sets (set (set one 4 x) (length s - 2 * n - 3) y) (length s - 2 * n) (codeBytes (take n codes)) ∙ length-set (set one 4 x) (length s - 2 * n - 3) y ∙ length-set one 4 x ∙ one-long
 
-    pub all-moved : (new : List ℕ) → PutIn (getD s 4 0) codes n (set (set one 4 (3 - getD s 4 0)) (length s - 2 * n - 3) (5 - getD s 4 0)) new (length s - 2 * n) → MovedTo s codes n lent new
+    pub all-moved : (new : List ℕ) → new ≡ sets (set (set one 4 (3 - getD s 4 0)) (length s - 2 * n - 3) (5 - getD s 4 0)) (length s - 2 * n) (codeBytes (take n codes)) → MovedTo s codes n lent new
     all-moved new put =
         record {
-          are = λ r h. written s codes n r h (length s - 2 * n) (getD s 4 0) lent one new (first-is s codes n r h) (h .own .said) (m .room) copied (put .are (r .formula) (h .stand));
+          are = λ r h.
+              let laid : take n codes ≡ codesIn (other (getD s 4 0)) (r .formula) = h .stand .are ∙ ap (λ (e : ℕ). codesIn (other e) (r .formula)) (sym (h .own .said)) in
+              written s codes n r h (length s - 2 * n) (getD s 4 0) lent one new (first-is s codes n r h) (h .own .said) (m .room) copied (rw laid at put);
         }

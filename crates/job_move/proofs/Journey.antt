@@ -22,7 +22,7 @@ use Rattle.sheet_laying.specs.Bytes.{codeBytes}
 use Rattle.sheet_laying.proofs.Putting.{length-codeBytes}
 use Rattle.job_move.specs.Moving.{other, moved}
 use Rattle.job_move.specs.Journey.{movedIn, inEdition, Bytes}
-use Rattle.job_move.proofs.Giving.{codes-long}
+use Rattle.sheet_laying.proofs.CodeBytes.{codes-long}
 
 -- ---- two bytes a code, there and back
 
@@ -169,7 +169,7 @@ pub record Like (s t : List ℕ) (m to : ℕ) (f : Formula) : Type 0 where
   pub codes-are : codesOf (bytesAt t m) ≡ codesIn to f
 
 -- what is read of it: the same names, and a formula f over them in the same place
-abbrev pub readAs : ℕ → Formula → Sheet → Sheet
+abbrev readAs : ℕ → Formula → Sheet → Sheet
 readAs to f r = record { edition = to; names = r .names; formula = f; first = r .first; past = r .past }
 
 module _ (w : Setting) (s t : List ℕ) (to m : ℕ) (r : Sheet) (first : r .first ≡ m + 3) (f′ : Formula) (over′ : Over (length (r .names)) f′) (like : Like s t m to f′) (g : Own (w .fittings) s r) where

@@ -1,99 +1,107 @@
 -- The promise of the move, exit by exit.
 use Prim.Native.Nat.{ℕ, _≤_, _<_}
 use native.Mathlib.Omega.{arith}
-use mathlib.Core.Path.{_≡_, refl, sym, _∙_}
+use mathlib.Core.Path.{_≡_, refl, sym, ap, _∙_}
 use mathlib.Core.Bool.{Bool, true, false}
 use mathlib.Core.List.{List}
 use borrow.Author.Tests.{le-leb, lt-leb}
-use lib.ListN.{length}
-use Rattle.outcome.specs.Outcome.{Outcome, given, refused, unfit}
+use lib.ListN.{length, getD}
+use Rattle.outcome.specs.Outcome.{given}
 use Rattle.formula.specs.Formula.{firstOperation}
 use Rattle.formula.proofs.Laws.{over-more}
-use Rattle.sheet.specs.Sheet.{Sheets, sheetsOf, ownSheet, Sheet, reading}
-use Rattle.accepting.specs.Accepting.{accepted}
-use Rattle.accepting.specs.Prepared.{Coded, SaysCoded}
-use Rattle.accepting.specs.declared.Acceptance.{Acceptance}
-use Rattle.accepting.specs.declared.Acceptance.the-variants as acceptance
-use Rattle.accepting.proofs.Accepted.{accepted-given, accepted-refused, accepted-unfit}
-use Rattle.job_move.specs.Moving.{moving}
+use Rattle.sheet.specs.Sheet.{Sheets, sheetsOf, ownSheet, Sheet, between, codesOf, codesIn, reading}
+use Rattle.sheet.specs.Guaranteed.{Own, Guaranteed}
+use Rattle.sheet.proofs.CodesFirst.{length-codesIn}
+use Rattle.sheet_codes.specs.Codes.{CodesStand}
+use Rattle.sheet_reading.specs.Reading.{told, answerOf}
+use Rattle.sheet_reading.specs.declared.ReadAnswer.{ReadAnswer}
+use Rattle.sheet_reading.specs.declared.ReadAnswer.the-variants as answered
+use Rattle.sheet_reading.proofs.Settled.{read-refusal, read-unfit}
+use Rattle.sheet_reading.proofs.Told.{Known, read-known, known-facts, formula-said}
+use Rattle.job_move.specs.Moving.{other, moving}
 use Rattle.job_move.specs.Moved.{Moved}
-use Rattle.job_move.specs.Putting.{Held, Holding, UsedAt, Movable, MovedTo}
+use Rattle.job_move.specs.Putting.{Gives, OtherCodes, Held, Holding, UsedAt, Movable, MovedTo}
 use Rattle.job_move.specs.declared.MoveAnswer.the-variants as answer
 use Rattle.job_move.proofs.Giving.{moved-long}
-
--- what is accepted is what is read
-same-by : (c : Sheets) (o : Outcome Sheet) → reading c ≡ o → accepted c ≡ o
-same-by c (given r) e = accepted-given c r e
-same-by c (refused k p) e = accepted-refused c k p e
-same-by c (unfit k p) e = accepted-unfit c k p e
-
-is-read : (c : Sheets) (o : Outcome Sheet) → accepted c ≡ o → reading c ≡ o
-is-read c o e = sym (same-by c (reading c) refl) ∙ e
 
 own-of : (b : Bool) (f s : List ℕ) → ownSheet (sheetsOf b f s) ≡ s
 own-of true f s = refl
 own-of false f s = refl
 
-module _ (b : Bool) (f s codes lent : List ℕ) (a : Acceptance) (says : SaysCoded (sheetsOf b f s) codes a) where
+module _ (b : Bool) (f s lent : List ℕ) (a : ReadAnswer) (said : answerOf a ≡ told (sheetsOf b f s)) where
   abbrev all : Sheets
   all = sheetsOf b f s
 
-  pub move-refused : (k p : ℕ) → a ≡ acceptance.Refused k p → Moved (moving all (length lent)) lent (answer.Refused k p) lent
+  pub move-refused : (k p : ℕ) → a ≡ answered.Refused k p → Moved (moving all (length lent)) lent (answer.Refused k p) lent
   unfolding moving
-  move-refused k p is = let e = is-read all (refused k p) (rw is at says) in record { answer = rw e; list = rw e }
+  move-refused k p is = let e = read-refusal all a said k p is in record { answer = rw e; list = rw e }
 
-  pub move-unfit : (k p : ℕ) → a ≡ acceptance.Unfit k p → Moved (moving all (length lent)) lent (answer.Unfit k p) lent
+  pub move-unfit : (k p : ℕ) → a ≡ answered.Unfit k p → Moved (moving all (length lent)) lent (answer.Unfit k p) lent
   unfolding moving
-  move-unfit k p is = let e = is-read all (unfit k p) (rw is at says) in record { answer = rw e; list = rw e }
+  move-unfit k p is = let e = read-unfit all a said k p is in record { answer = rw e; list = rw e }
 
-  module _ (names n : ℕ) (is : a ≡ acceptance.Given names n) where
-    coded : (x : Sheet) × Coded all x names n codes
-    coded = rw is at says
+  module _ (names leaves first past : ℕ) (is : a ≡ answered.Read names leaves first past) where
+    known : Known all names leaves first past
+    known = read-known all a said names leaves first past is
 
-    read : reading all ≡ given (coded .0)
-    read = is-read all (given (coded .0)) (coded .1 .is)
+    abbrev sheet : Sheet
+    sheet = known .sheet
 
-    module _ (sized : length codes ≡ 2048) where
-      held : Held s codes n (coded .0)
+    read : reading all ≡ given sheet
+    read = known .read
+
+    facts : Guaranteed all sheet
+    facts = known-facts all names leaves first past known
+
+    own : Own (facts .fittings) s sheet
+    own = rw (own-of b f s) at (facts .own)
+
+    gives : Gives (getD s 4 0) names (between s first past) (sheet .formula)
+    gives =
+        let few : length (sheet .names) ≤ firstOperation = omega (arith, own .good-names .few) in
+        record {
+          least = omega (arith, own .said, own .least-edition);
+          most = omega (arith, own .said, own .most-edition);
+          over = over-more (sheet .formula) (length (sheet .names)) firstOperation few (own .over);
+          judged = rw (own-of b f s) at (formula-said all names leaves first past known);
+          codes-are =
+              ap (λ (i : ℕ). codesOf (between s i past)) (known .first-is)
+              ∙ ap (λ (i : ℕ). codesOf (between s (sheet .first) i)) (known .past-is)
+              ∙ own .codes-are
+              ∙ ap (λ (e : ℕ). codesIn e (sheet .formula)) (sym (own .said));
+        }
+
+    module _ (codes : List ℕ) (n : ℕ) (others : OtherCodes (getD s 4 0) names (between s first past) codes n) where
+      held : Held s codes n sheet
       held =
-          let g = coded .1 .facts in
-          let few : length (coded .0 .names) ≤ firstOperation = omega (arith, g .own .good-names .few) in
-          record {
-            fittings = g .fittings;
-            own = rw (own-of b f s) at (g .own);
-            stand =
-                record {
-                  are = coded .1 .codes-are;
-                  over = over-more (coded .0 .formula) (length (coded .0 .names)) firstOperation few (g .own .over);
-                  few = coded .1 .few-codes;
-                  sized = sized;
-                };
-          }
+          let stand : CodesStand (codesIn (other (sheet .edition)) (sheet .formula)) codes n = rw (own .said) at (others .are (sheet .formula) gives) in
+          let few : n ≤ 2047 = omega (arith, stand .all, length-codesIn (other (sheet .edition)) (sheet .formula), own .few-codes) in
+          record { fittings = facts .fittings; own = own; few = few; stand = stand }
 
       pub holding : Holding s codes n
-      holding = record { sheet = coded .0; held = held }
+      holding = record { sheet = sheet; held = held }
 
       pub movable : length s ≤ length lent → Movable s codes n lent
-      movable h = record { sheet = coded .0; held = held; room = h }
+      movable h = record { sheet = sheet; held = held; room = h }
 
       module _ (at : ℕ) (used : UsedAt s codes n at) where
         pub move-used : at < length s → Moved (moving all (length lent)) lent (answer.Refused 19 at) lent
         unfolding moving
-        move-used l = let e = used .place (coded .0) held l in record { answer = rw (read, used .some (coded .0) held l, ← e); list = rw (read, used .some (coded .0) held l) }
+        move-used l = let e = used .place sheet held l in record { answer = rw (read, used .some sheet held l, ← e); list = rw (read, used .some sheet held l) }
 
         module _ (l : length s ≤ at) where
           pub move-short : length lent < length s → Moved (moving all (length lent)) lent (answer.Refused 9 (length s)) lent
           unfolding moving
           move-short h =
               record {
-                answer = rw (read, used .none (coded .0) held l, own-of b f s, lt-leb (length s) (length lent) h);
-                list = rw (read, used .none (coded .0) held l, own-of b f s, lt-leb (length s) (length lent) h);
+                answer = rw (read, used .none sheet held l, own-of b f s, lt-leb (length s) (length lent) h);
+                list = rw (read, used .none sheet held l, own-of b f s, lt-leb (length s) (length lent) h);
               }
 
           pub move-given : (new : List ℕ) → length s ≤ length lent → MovedTo s codes n lent new → Moved (moving all (length lent)) lent (answer.Moved (length s)) new
           unfolding moving
           move-given new h done =
               record {
-                answer = rw (read, used .none (coded .0) held l, own-of b f s, le-leb (length s) (length lent) h, moved-long s codes n (coded .0) held);
-                list = done .are (coded .0) held ∙ rw (read, used .none (coded .0) held l, own-of b f s, le-leb (length s) (length lent) h);
+                answer = rw (read, used .none sheet held l, own-of b f s, le-leb (length s) (length lent) h, moved-long s codes n sheet held);
+                list = done .are sheet held ∙ rw (read, used .none sheet held l, own-of b f s, le-leb (length s) (length lent) h);
               }

@@ -1,29 +1,33 @@
--- A formula put into bytes in either order.
+-- A formula's codes in the order of the edition that it has not.
 use Prim.Native.Nat.{ℕ, _-_, _≤_}
 use native.Mathlib.Omega.{arith}
 use mathlib.Core.Path.{_≡_, ap, _∙_}
 use mathlib.Core.List.{List}
-use lib.ListN.{length, take}
-use lib.Seq.{sets, length-sets}
 use borrow.Author.Tests.{eq-eqb, ne-eqb}
-use Rattle.sheet_laying.specs.Bytes.{codeBytes}
+use Rattle.formula.specs.Formula.{postfix}
+use Rattle.sheet.specs.Sheet.{codesOf, formulaIn}
+use Rattle.sheet_codes.specs.Codes.{CodesStand}
+use Rattle.sheet_descent.specs.Descent.{inPostfix, GoodIn}
 use Rattle.sheet_laying.specs.Laid.{Laid}
-use Rattle.job_move.specs.Putting.{Puttable, PutIn}
+use Rattle.job_move.specs.Putting.{OtherCodes}
 
-module _ (codes : List ℕ) (n : ℕ) (bytes : List ℕ) (at : ℕ) (p : Puttable codes n bytes at) where
-  pub put-few : n ≤ 2048
-  put-few = omega (arith, p .stand .few)
-
-module _ (ed : ℕ) (codes : List ℕ) (n : ℕ) (old new : List ℕ) (at : ℕ) where
-  pub put-postfix : ed ≡ 2 → new ≡ sets old at (codeBytes (take n codes)) → PutIn ed codes n old new at
-  put-postfix e h =
-      let one : 3 - ed ≡ 1 = omega arith in
-      record { long = ap length h ∙ length-sets old at (codeBytes (take n codes)); are = λ f s. h ∙ rw (s .are, eq-eqb (3 - ed) 1 one) }
-
-  pub put-prefix : (ed ≡ 2 → ⊥) → (laid : List ℕ) → Laid codes n laid → new ≡ sets old at (codeBytes (take n laid)) → PutIn ed codes n old new at
-  put-prefix e laid done h =
-      let two : 3 - ed ≡ 1 → ⊥ = λ q. e (omega arith) in
+module _ (ed names : ℕ) (bytes codes : List ℕ) (n : ℕ) where
+  pub other-first : ed ≡ 1 → Laid (codesOf bytes) codes n → OtherCodes ed names bytes codes n
+  other-first one laid =
+      let two : 3 - ed ≡ 1 → ⊥ = λ q. omega arith in
       record {
-        long = ap length h ∙ length-sets old at (codeBytes (take n laid));
-        are = λ f s. h ∙ rw (done .are f (record { over = s .over; are = s .are }), ne-eqb (3 - ed) 1 two);
+        long = laid .long;
+        are = λ f g. rw (ne-eqb (3 - ed) 1 two) (laid .are f (record { over = g .over; are = g .codes-are ∙ rw (eq-eqb ed 1 one) }));
       }
+
+  pub other-postfix : (ed ≡ 1 → ⊥) → CodesStand (inPostfix (formulaIn ed names 0 0 (codesOf bytes))) codes n → OtherCodes ed names bytes codes n
+  other-postfix two stand =
+      record {
+        long = stand .sized;
+        are = λ f g.
+            let one : 3 - ed ≡ 1 = let l = g .least in let m = g .most in let h : ed ≡ 2 = by-two ed two l m in omega (arith, h) in
+            rw (eq-eqb (3 - ed) 1 one) (rw (g .judged) at stand);
+      }
+    where
+      by-two : (ed : ℕ) → (ed ≡ 1 → ⊥) → 1 ≤ ed → ed ≤ 2 → ed ≡ 2
+      by-two ed two l m = omega arith

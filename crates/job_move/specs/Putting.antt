@@ -4,34 +4,29 @@ use mathlib.Core.Path.{_≡_}
 use mathlib.Core.Bool.{true, false, cond}
 use mathlib.Core.List.{List, [], _∷_}
 use lib.ListN.{length, take}
-use lib.Seq.{sets}
-use lib.Dec.{ltb, eqb}
+use lib.Dec.{eqb}
+use Rattle.outcome.specs.Outcome.{given}
 use Rattle.outcome.specs.Lent.{filled}
-use Rattle.formula.specs.Formula.{exclusive, firstOperation, code, Formula, postfix, Over}
-use Rattle.sheet.specs.Sheet.{Sheet, codesIn}
+use Rattle.formula.specs.Formula.{exclusive, firstOperation, code, Formula, Over}
+use Rattle.sheet.specs.Sheet.{Sheet, codesOf, formulaIn, codesIn}
 use Rattle.sheet.specs.Guaranteed.{Own}
-use Rattle.sheet_laying.specs.Bytes.{codeBytes}
+use Rattle.sheet_codes.specs.Codes.{CodesStand}
 use Rattle.job_move.specs.Moving.{other, moved, beforeExclusive, codesOfSheet, outOfUse}
 
--- The first n codes of an array are those of the formula f, in postfix order.
-pub record Stand (codes : List ℕ) (n : ℕ) (f : Formula) : Type 0 where
-  pub are : take n codes ≡ postfix f
+-- The bytes are the formula's codes in the order of edition 1 or 2.
+pub record Gives (edition names : ℕ) (bytes : List ℕ) (f : Formula) : Type 0 where
+  pub least : 1 ≤ edition
+  pub most : edition ≤ 2
   pub over : Over firstOperation f
-  pub few : n ≤ 2047
-  pub sized : length codes ≡ 2048
+  pub judged : formulaIn edition names 0 0 (codesOf bytes) ≡ given f
+  pub codes-are : codesOf bytes ≡ codesIn edition f
 
--- ---- a formula put into bytes
+-- Its codes in the other edition's order.
+pub record OtherCodes (edition names : ℕ) (bytes codes : List ℕ) (n : ℕ) : Type 0 where
+  pub long : length codes ≡ 2048
+  pub are : (f : Formula) → Gives edition names bytes f → CodesStand (codesIn (other edition) f) codes n
 
-pub record Puttable (codes : List ℕ) (n : ℕ) (bytes : List ℕ) (at : ℕ) : Type 0 where
-  pub formula : Formula
-  pub stand : Stand codes n formula
-  pub fits : at + 2 * n ≤ length bytes
-
-pub record PutIn (edition : ℕ) (codes : List ℕ) (n : ℕ) (old new : List ℕ) (at : ℕ) : Type 0 where
-  pub long : length new ≡ length old
-  pub are : (f : Formula) → Stand codes n f → new ≡ sets old at (codeBytes (codesIn (other edition) f))
-
--- ---- the first 0xFFF3
+-- ---- 0xFFF3 among codes
 
 abbrev pub oneExclusive : ℕ → ℕ
 oneExclusive c = cond (eqb c (code exclusive)) 1 0
@@ -44,16 +39,14 @@ manyExclusive (c ∷ cs) = oneExclusive c + manyExclusive cs
 pub record Among (codes : List ℕ) (n many : ℕ) : Type 0 where
   pub are : many ≡ manyExclusive (take n codes)
 
--- The index found so far, or n, after the code c at index i.
-abbrev pub firstOne : ℕ → ℕ → ℕ → ℕ → ℕ
-firstOne found n c i = cond (ltb found n) found (cond (eqb c (code exclusive)) i found)
-
 -- ---- a sheet that is read, given in the other edition
 
+-- The sheet is read as r, and the first n codes are those of the other edition.
 pub record Held (s codes : List ℕ) (n : ℕ) (r : Sheet) : Type 0 where
   pub fittings : List (List ℕ)
   pub own : Own fittings s r
-  pub stand : Stand codes n (r .formula)
+  pub few : n ≤ 2047
+  pub stand : CodesStand (codesIn (other (r .edition)) (r .formula)) codes n
 
 pub record Holding (s codes : List ℕ) (n : ℕ) : Type 0 where
   pub sheet : Sheet

@@ -2,7 +2,7 @@
 use Prim.Native.Nat.{ℕ, _+_, _*_}
 
 -- 1000000 for each of its first number, 1000 for each of its second, 1 for each of its third.
-abbrev pub versionNumber : ℕ → ℕ → ℕ → ℕ
+abbrev versionNumber : ℕ → ℕ → ℕ → ℕ
 versionNumber first second third = first * 1000000 + second * 1000 + third
 
 abbrev pub version : ℕ

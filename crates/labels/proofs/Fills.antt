@@ -168,7 +168,7 @@ module _ {ks fs ss : List ℕ} where
 
   -- and its shape is t
   module _ {leaves nodes j i t : ℕ} {ls : List ℕ} (sh : Shaped ks fs ss leaves nodes) (u : ChainsFrom ks fs ss leaves nodes j ls) where
-    pub shape-named : 0 < j → i ≡ j - 1 → t ≡ getD fs i 0 → t < 256
+    shape-named : 0 < j → i ≡ j - 1 → t ≡ getD fs i 0 → t < 256
     shape-named h e q = omega (arith, q, sh .named i (omega (arith, u .within)))
 
     -- so the first leaf of its shape has an entry, and the byte that it begins at a number

@@ -1,4 +1,2 @@
-pub mod Digits
 pub mod Spans
-pub mod LowestLaws
 mod Weaves

@@ -35,7 +35,7 @@ none-same f g i (suc d) h =
     rw (h i (omega arith) (omega arith))
     (ap (λ (x : Bool). not (g i) && x) (none-same f g (suc i) d (λ x l m. h x (omega arith) (omega arith))))
 
--- ---- the bits that a carry turns
+-- ---- the bits that a carry flips
 abbrev off : ℕ → ℕ → Bool
 off x c = not (bit x c)
 

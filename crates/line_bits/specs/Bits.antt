@@ -1,4 +1,4 @@
--- What is said of the bits of a word: none of some, one alone, from one to the next, the last that is on, the lowest that is on, and bytes woven into them.
+-- What is said of the bits of a word: none of some, one alone, from one to the next, the last that is on, and bytes woven into them.
 use Prim.Native.Nat.{ℕ, zero, suc, _+_, _-_, _*_, _^_, _≤_, _<_}
 use mathlib.Core.Path.{_≡_}
 use mathlib.Core.Bool.{Bool, true, false, not, _&&_}
@@ -6,7 +6,6 @@ use mathlib.Core.List.{List}
 use lib.Dec.{eqb, leb}
 use lib.ListN.{length, getD}
 use Rattle.word_bits.specs.Words.{bit}
-pub use Rattle.word_bits.specs.Lowest.{Lowest}
 
 -- From i on, d of them: none.
 unfoldable pub none : (ℕ → Bool) → ℕ → ℕ → Bool
@@ -42,12 +41,6 @@ pub record Since (w r : ℕ) : Type 0 where
 -- By the last bit of w, the bits of m or none.
 pub record Masked (w m r : ℕ) : Type 0 where
   pub is : (b : ℕ) → b < 64 → bit r b ≡ (bit w 63 && bit m b)
-
--- r is d without the lowest bit that is on
-pub record Others (d r : ℕ) : Type 0 where
-  pub less : 0 < d → r < d
-  pub kept : (z b : ℕ) → Lowest d z → z < b → bit r b ≡ bit d b
-  pub gone : (z b : ℕ) → Lowest d z → b ≤ z → bit r b ≡ false
 
 -- Bytes that are 0 or 1.
 pub record Binary (bytes : List ℕ) : Type 0 where

@@ -1,8 +1,7 @@
-// Bits of words: from one to the next, the last, the lowest, and bytes woven into them.
+// Bits of words: from one to the next, the last, and bytes woven into them.
 ghost use Prim.Native.Nat.{_+_, _^_, _≤_, _<_};
 ghost use lib.ListN.{length};
-ghost use Rattle.line_bits.specs.Bits.{Inner, Spans, Moved, Masked, Since, Others, Binary, Woven};
-pub use word_bits::lowest;
+ghost use Rattle.line_bits.specs.Bits.{Inner, Spans, Moved, Masked, Since, Binary, Woven};
 
 const ONES: u64 = 0xFFFF_FFFF_FFFF_FFFF;
 
@@ -15,7 +14,7 @@ pub fn inner(w: u64) -> u64
     (w | TOP) ^ ONES
 }
 
-// From the bit that is on in `one` to the first one that is off in `rest`: those that the carry of a sum turns.
+// From the bit that is on in `one` to the first one that is off in `rest`: those that the carry of a sum flips.
 pub fn span(rest: u64, one: u64) -> u64
     requires { ⌜ (rest < 2 ^ 63) × (one ≤ 2 ^ 63) ⌝ }
     ensures { λ r. ⌜ Spans rest one r ⌝ }
@@ -55,13 +54,6 @@ pub fn after_last(w: u64) -> usize
         j -= 1;
     }
     0
-}
-
-// All bits that are on but the lowest.
-pub fn others(d: u64) -> u64
-    ensures { λ r. ⌜ Others d r ⌝ }
-{
-    d & std::num::wrapping_sub_u64(d, 1)
 }
 
 // Bytes from s on, each 0 or 1, woven into a word: byte j + 8 i is bit 8 j + i. Written out, so that eight of them are one load.

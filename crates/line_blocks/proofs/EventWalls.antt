@@ -6,7 +6,7 @@ use mathlib.Core.Bool.{Bool, true, false}
 use mathlib.Core.List.{List, [], _++_}
 use mathlib.Core.Option.{Option, none, some}
 use Rattle.lines.specs.Lines.{high, Wall, Edge, openEnd, opened, closed}
-use Rattle.lines.specs.Marked.{Marked, columnEdge, openNext, finished, openAfter, wallsAfter}
+use Rattle.lines.specs.Views.{View, columnEdge, openNext, finished, openAfter, wallsAfter}
 use Rattle.lines.proofs.BlockWalls.{open-zero, open-more, walls-zero, walls-more}
 use Rattle.line_lists.specs.Block.{columns}
 use Rattle.line_events.specs.Events.{eventsAt, metalNext, metalAfter, eventsAfter}
@@ -15,7 +15,7 @@ use Rattle.line_writing.specs.Finishing.{wallsBy, openBy, isOpen}
 use Rattle.line_writing.proofs.FinishLaws.{walls-app, open-app}
 
 module _ (edge : ℕ → Edge) (line : ℕ → ℕ) where
-  module _ (at : ℕ → Marked) (bits : ℕ → Bool) where
+  module _ (at : ℕ → View) (bits : ℕ → Bool) where
     abbrev ends : ℕ → Bool
     ends j = at j .ends
 
@@ -36,7 +36,7 @@ module _ (edge : ℕ → Edge) (line : ℕ → ℕ) where
       abbrev l : ℕ
       l = at j .column .line
 
-      pub column-walls : (o : Option Edge) → wallsBy edge line o (eventsAt (ends j) (bits j) (last j) (isOpen o) j) ≡ finished (bits j) o (at j)
+      column-walls : (o : Option Edge) → wallsBy edge line o (eventsAt (ends j) (bits j) (last j) (isOpen o) j) ≡ finished (bits j) o (at j)
       column-walls o = by (ends j) (bits j) (last j) o
         where
           by : (ends bit last : Bool) (o : Option Edge) → wallsBy edge line o (eventsAt ends bit last (isOpen o) j) ≡ closed ends bit o l here ++ elim last [ true ↦ closed true false (opened ends bit o here) l (openEnd high) | false ↦ [] ]
@@ -53,7 +53,7 @@ module _ (edge : ℕ → Edge) (line : ℕ → ℕ) where
           by true false true (some a) = rw (t .change-edge, t .change-line)
           by true false false (some a) = rw (t .change-edge, t .change-line)
 
-      pub column-opens : (o : Option Edge) → openBy edge o (eventsAt (ends j) (bits j) (last j) (isOpen o) j) ≡ openNext (bits j) o (at j)
+      column-opens : (o : Option Edge) → openBy edge o (eventsAt (ends j) (bits j) (last j) (isOpen o) j) ≡ openNext (bits j) o (at j)
       column-opens o = by (ends j) (bits j) (last j) o
         where
           by : (ends bit last : Bool) (o : Option Edge) → openBy edge o (eventsAt ends bit last (isOpen o) j) ≡ elim last [ true ↦ none | false ↦ opened ends bit o here ]
@@ -86,7 +86,7 @@ module _ (edge : ℕ → Edge) (line : ℕ → ℕ) where
       events n = eventsAfter ends bits last (isOpen o) n
 
       -- there is metal where a wall is open
-      pub open-metal : (n : ℕ) → isOpen (openAfter at bits o n) ≡ metalAfter ends bits last (isOpen o) n
+      open-metal : (n : ℕ) → isOpen (openAfter at bits o n) ≡ metalAfter ends bits last (isOpen o) n
       open-metal zero = rw (open-zero at bits o, metal-zero ends bits last (isOpen o))
       open-metal (suc n) = rw (open-more at bits o n, metal-more ends bits last (isOpen o) n) (open-next n (openAfter at bits o n) ∙ ap (metalNext (ends n) (bits n) (last n)) (open-metal n))
 

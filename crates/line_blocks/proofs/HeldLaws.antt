@@ -5,42 +5,40 @@ use mathlib.Core.Path.{_≡_, refl, sym, ap, _∙_}
 use mathlib.Core.Bool.{Bool, true, false, cond}
 use mathlib.Core.List.{List}
 use borrow.Author.Tests.{lt-ltb, le-ltb}
-use lib.Dec.{eqb}
 use lib.IntN.{ℤ}
-use lib.ListN.{getD}
 use Rattle.formula.specs.States.{State, outside}
 use Rattle.lines.specs.Lines.{LineLists, lineLists, startState}
-use Rattle.lines.specs.Columns.{turned}
-use Rattle.lines.specs.Marked.{Marked, columnEdge, stateNext, stateAfter}
+use Rattle.lines.specs.Columns.{flippedBy}
+use Rattle.lines.specs.Views.{View, columnEdge, stateNext, stateAfter}
 use Rattle.lines.proofs.BlockWalls.{state-zero, state-more}
-use Rattle.line_lists.specs.Block.{Plan, planned, columns}
-use Rattle.line_strips.specs.Strips.{turnsAt, lastAt, entering}
+use Rattle.line_lists.specs.Block.{Plan, planned, columns, isStart}
+use Rattle.line_strips.specs.Strips.{flipsAt, lastAt, entering}
 use Rattle.line_columns.specs.Planned.{startHeld, crossingHeld, heldAt}
 use Rattle.line_events.specs.Events.{endsIn}
 use Rattle.line_writing.specs.Finishing.{Held, held, columnLine, edgeThere, eventLine, eventEdge}
 use Rattle.line_blocks.proofs.EventWalls.{Told}
 
-module _ (names : ℕ) (rows ls : List ℕ) (ps : List ℤ) (ss : List ℕ) (a : ℕ) (cols starts lasts : List ℕ) where
+module _ (names : ℕ) (rows ls : List ℕ) (ps : List ℤ) (ss : List ℕ) (a : ℕ) (cols lasts : List ℕ) where
   abbrev c : LineLists
   c = lineLists rows ls ps ss
 
   abbrev p : Plan
-  p = planned cols starts lasts
+  p = planned cols lasts
 
-  abbrev at : ℕ → Marked
+  abbrev at : ℕ → View
   at j = heldAt names c a p j
 
-  held-turns : (j : ℕ) → at j .column .turns ≡ turnsAt names c a p j
-  unfolding heldAt turnsAt
-  held-turns j = by (eqb (getD cols j 0) 65535)
+  held-flips : (j : ℕ) → at j .column .flips ≡ flipsAt names c a p j
+  unfolding heldAt flipsAt
+  held-flips j = by (isStart cols j)
     where
-      by : (t : Bool) → cond t (startHeld names c p j) (crossingHeld names c a p j) .column .turns ≡ cond t (startHeld names c p j .column .turns) (crossingHeld names c a p j .column .turns)
+      by : (t : Bool) → cond t (startHeld names c p j) (crossingHeld names c a p j) .column .flips ≡ cond t (startHeld names c p j .column .flips) (crossingHeld names c a p j .column .flips)
       by true = refl
       by false = refl
 
   pub held-last : (j : ℕ) → at j .last ≡ lastAt p j
   unfolding heldAt
-  held-last j = by (eqb (getD cols j 0) 65535)
+  held-last j = by (isStart cols j)
     where
       by : (t : Bool) → cond t (startHeld names c p j) (crossingHeld names c a p j) .last ≡ lastAt p j
       by true = refl
@@ -48,7 +46,7 @@ module _ (names : ℕ) (rows ls : List ℕ) (ps : List ℤ) (ss : List ℕ) (a :
 
   pub held-ends : (j : ℕ) → at j .ends ≡ endsIn ls ps a cols j
   unfolding heldAt endsIn
-  held-ends j = by (eqb (getD cols j 0) 65535)
+  held-ends j = by (isStart cols j)
     where
       by : (t : Bool) → cond t (startHeld names c p j) (crossingHeld names c a p j) .ends ≡ cond t true (crossingHeld names c a p j .ends)
       by true = refl
@@ -62,21 +60,21 @@ module _ (names : ℕ) (rows ls : List ℕ) (ps : List ℤ) (ss : List ℕ) (a :
 
   held-edge : (j : ℕ) → edgeThere start b j ≡ columnEdge (at j .column)
   unfolding heldAt
-  held-edge j = by (eqb (getD cols j 0) 65535)
+  held-edge j = by (isStart cols j)
     where
       by : (t : Bool) → cond t (columnEdge (startHeld names c p j .column)) (columnEdge (crossingHeld names c a p j .column)) ≡ columnEdge (cond t (startHeld names c p j) (crossingHeld names c a p j) .column)
       by true = refl
       by false = refl
 
-  held-line : (j : ℕ) → columnLine b starts j ≡ at j .column .line
+  held-line : (j : ℕ) → columnLine b j ≡ at j .column .line
   unfolding heldAt
-  held-line j = by (eqb (getD cols j 0) 65535)
+  held-line j = by (isStart cols j)
     where
       by : (t : Bool) → cond t (startHeld names c p j .column .line) (crossingHeld names c a p j .column .line) ≡ cond t (startHeld names c p j) (crossingHeld names c a p j) .column .line
       by true = refl
       by false = refl
 
-  pub held-told : (bits : ℕ → Bool) (j : ℕ) → j < columns → Told (eventEdge start b) (eventLine b starts) at bits j
+  pub held-told : (bits : ℕ → Bool) (j : ℕ) → j < columns → Told (eventEdge start b) (eventLine b) at bits j
   held-told bits j h =
       let off : columns + j - columns ≡ j = omega arith in
       record {
@@ -86,30 +84,30 @@ module _ (names : ℕ) (rows ls : List ℕ) (ps : List ℤ) (ss : List ℕ) (a :
         end-line = rw (le-ltb (columns + j) columns (omega arith), off) (held-line j);
       }
 
-  entering-zero : (first : State) → entering (turnsAt names c a p) (lastAt p) first 0 ≡ first
+  entering-zero : (first : State) → entering (flipsAt names c a p) (lastAt p) first 0 ≡ first
   unfolding entering
   entering-zero first = refl
 
-  entering-more : (first : State) (j : ℕ) → entering (turnsAt names c a p) (lastAt p) first (suc j) ≡ elim (lastAt p j) [ true ↦ outside | false ↦ turned (turnsAt names c a p j) (entering (turnsAt names c a p) (lastAt p) first j) ]
+  entering-more : (first : State) (j : ℕ) → entering (flipsAt names c a p) (lastAt p) first (suc j) ≡ elim (lastAt p j) [ true ↦ outside | false ↦ flippedBy (flipsAt names c a p j) (entering (flipsAt names c a p) (lastAt p) first j) ]
   unfolding entering
   entering-more first j = refl
 
-  next-is : (s : State) (j : ℕ) → stateNext s (at j) ≡ elim (lastAt p j) [ true ↦ outside | false ↦ turned (turnsAt names c a p j) s ]
-  unfolding heldAt turnsAt
-  next-is s j = by (eqb (getD cols j 0) 65535)
+  next-is : (s : State) (j : ℕ) → stateNext s (at j) ≡ elim (lastAt p j) [ true ↦ outside | false ↦ flippedBy (flipsAt names c a p j) s ]
+  unfolding heldAt flipsAt
+  next-is s j = by (isStart cols j)
     where
-      by : (t : Bool) → stateNext s (cond t (startHeld names c p j) (crossingHeld names c a p j)) ≡ elim (lastAt p j) [ true ↦ outside | false ↦ turned (cond t (startHeld names c p j .column .turns) (crossingHeld names c a p j .column .turns)) s ]
+      by : (t : Bool) → stateNext s (cond t (startHeld names c p j) (crossingHeld names c a p j)) ≡ elim (lastAt p j) [ true ↦ outside | false ↦ flippedBy (cond t (startHeld names c p j .column .flips) (crossingHeld names c a p j .column .flips)) s ]
       by true = refl
       by false = refl
 
   -- the states that the fill lays are those of the pass
-  pub held-states : (first : State) (j : ℕ) → stateAfter at first j ≡ entering (turnsAt names c a p) (lastAt p) first j
+  held-states : (first : State) (j : ℕ) → stateAfter at first j ≡ entering (flipsAt names c a p) (lastAt p) first j
   held-states first zero = state-zero at first ∙ sym (entering-zero first)
   held-states first (suc j) =
       state-more at first j
       ∙ ap (λ (s : State). stateNext s (at j)) (held-states first j)
-      ∙ next-is (entering (turnsAt names c a p) (lastAt p) first j) j
+      ∙ next-is (entering (flipsAt names c a p) (lastAt p) first j) j
       ∙ sym (entering-more first j)
 
-  pub held-leaving : (first : State) (j : ℕ) → turned (at j .column .turns) (stateAfter at first j) ≡ turned (turnsAt names c a p j) (entering (turnsAt names c a p) (lastAt p) first j)
-  held-leaving first j = rw (held-turns j, held-states first j)
+  pub held-leaving : (first : State) (j : ℕ) → flippedBy (at j .column .flips) (stateAfter at first j) ≡ flippedBy (flipsAt names c a p j) (entering (flipsAt names c a p) (lastAt p) first j)
+  held-leaving first j = rw (held-flips j, held-states first j)

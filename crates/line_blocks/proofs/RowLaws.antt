@@ -9,12 +9,12 @@ use Rattle.line_words.specs.Evaluating.{Evaluable, Evaluated}
 use Rattle.line_words.specs.declared.Arranged.{Arranged}
 use Rattle.line_blocks.specs.Blocks.{RowMade}
 
-module _ {stretches links : List ℕ} {arranged : Arranged} {names : ℕ} {rows shapes cols starts lasts : List ℕ} {a n : ℕ} {goesOn : Bool} {words then : List ℕ} where
-  pub evaluable-filled : Evaluable stretches links words arranged → Fills names rows shapes cols starts lasts a n goesOn words then → Evaluable stretches links then arranged
+module _ {table : List ℕ} {arranged : Arranged} {names : ℕ} {rows shapes cols lasts : List ℕ} {a n : ℕ} {goesOn : Bool} {words then : List ℕ} where
+  pub evaluable-filled : Evaluable table words arranged → Fills names rows shapes cols lasts a n goesOn words then → Evaluable table then arranged
   evaluable-filled e f = record { workable = e .workable; room = omega (arith, e .room, f .long) }
 
-  pub row-made : {told : Bool} {words′ row : List ℕ} → Fillable names rows shapes cols starts lasts a n told words → Fills names rows shapes cols starts lasts a n goesOn words then → Evaluated stretches links arranged then words′ row
-      → RowMade stretches links arranged names rows shapes cols starts lasts a n goesOn words words′ row
+  pub row-made : {told : Bool} {words′ row : List ℕ} → Fillable names rows shapes cols lasts a n told words → Fills names rows shapes cols lasts a n goesOn words then → Evaluated table arranged then words′ row
+      → RowMade table arranged names rows shapes cols lasts a n goesOn words words′ row
   row-made {told} {words′} {row} ok f e =
       record {
         long = e .long ∙ f .long;

@@ -14,26 +14,26 @@ use Rattle.line_words.specs.declared.Arranged.{Arranged}
 use Rattle.line_writing.specs.Finishing.{held, wallsBy}
 use Rattle.line_writing.proofs.FinishLaws.{walls-count, open-metal}
 use Rattle.line_blocks.specs.Blocks.{heldIn, edgeIn, lineIn, BlockMade}
-use Rattle.line_blocks.specs.declared.Block.{Block}
+use Rattle.line_blocks.specs.declared.Pass.{Pass}
 use Rattle.line_blocks.proofs.PassLaws.{passing-room}
 use Rattle.line_writing.specs.Writing.{openOf, openCount, Delivering, Delivered}
-use Rattle.line_blocks.specs.Steps.{roomFor, StepAsk, StepDone}
+use Rattle.line_blocks.specs.Walls.{roomFor, StepAsk, StepDone}
 use Rattle.line_writing.specs.declared.writing.Course.{Course}
 use Rattle.line_blocks.specs.declared.Progress.{Progress}
 use Rattle.line_writing.proofs.ListLaws.{same-none, room-same}
 
-module _ {stretches links : List ℕ} {arranged : Arranged} {names : ℕ} {c : LineLists} {words : List ℕ} (p : Progress) {words′ cols starts lasts events : List ℕ} {b : Block}
-    (made : BlockMade stretches links arranged names c words (p .pass) (p .run .metal) words′ cols starts lasts events b) where
+module _ {table : List ℕ} {arranged : Arranged} {names : ℕ} {c : LineLists} {words : List ℕ} (p : Progress) {words′ cols lasts events : List ℕ} {next : Pass} {m : ℕ}
+    (made : BlockMade table arranged names c words (p .pass) (p .run .metal) words′ cols lasts events next m) where
   abbrev from : Option Edge
   from = openOf (p .run)
 
   abbrev new : List Wall
-  new = wallsBy (edgeIn names c (p .pass) cols) (lineIn c (p .pass) cols starts) from (take (b .events) events)
+  new = wallsBy (edgeIn names c (p .pass) cols) (lineIn c (p .pass) cols) from (take m events)
 
-  new-count : length new ≡ (b .events + openCount (p .run)) / 2
+  new-count : length new ≡ (m + openCount (p .run)) / 2
   new-count =
-      let long : length (take (b .events) events) ≡ b .events = length-take-le (b .events) events (omega (arith, made .few, made .sized .events-sized)) in
-      walls-count (edgeIn names c (p .pass) cols) (lineIn c (p .pass) cols starts) from (take (b .events) events) ∙ rw (long, open-metal (p .run .metal) (p .run .from))
+      let long : length (take m events) ≡ m = length-take-le m events (omega (arith, made .few, made .sized .events-sized)) in
+      walls-count (edgeIn names c (p .pass) cols) (lineIn c (p .pass) cols) from (take m events) ∙ rw (long, open-metal (p .run .metal) (p .run .from))
 
   -- no more than columns, since every other event ends a wall
   few : length new ≤ columns
@@ -43,20 +43,19 @@ module _ {stretches links : List ℕ} {arranged : Arranged} {names : ℕ} {c : L
       open-one true = omega arith
       open-one false = omega arith
 
-  delivering : {now : AnswerLists} → StepAsk stretches links arranged names c words p now → Delivering (heldIn c (p .pass) cols) starts events (b .events) (p .run) now
+  delivering : {now : AnswerLists} → StepAsk table arranged names c words p now → Delivering (heldIn c (p .pass) cols) events m (p .run) now
   delivering ask =
       let s = ask .ask .going .standing in
       let all : length (ask .found ++ new) ≤ roomFor names c = passing-room (made .going) (s .formula) _ (ask .found ++ new) (made .passes (s .formula) (s .stands) (s .over) from (ask .found) (open-metal (p .run .metal) (p .run .from)) (ask .passing)) in
       record {
-        starts-sized = made .sized .plan .starts;
         sized = made .sized .events-sized;
         few = made .few;
         each = made .each;
         room = room-same same-none (omega (arith, new-count)) (ask .room (length new) few (omega (arith, length-append (ask .found) new)));
       }
 
-  pub step-done : {now after : AnswerLists} {r : Course} → Delivered (heldIn c (p .pass) cols) starts events (b .events) (p .run) now r after
-      → StepDone stretches links arranged names c words p now words′ cols starts lasts events (record { pass = b .next; run = r }) after
+  pub step-done : {now after : AnswerLists} {r : Course} → Delivered (heldIn c (p .pass) cols) events m (p .run) now r after
+      → StepDone table arranged names c words p now words′ cols lasts events (record { pass = next; run = r }) after
   step-done d =
       let g = d .made (startState names (c .rows)) in
       record {
@@ -71,7 +70,7 @@ module _ {stretches links : List ℕ} {arranged : Arranged} {names : ℕ} {c : L
         fewer = made .fewer;
       }
 
-pub step-delivering : {stretches links : List ℕ} {arranged : Arranged} {names : ℕ} {rows ls : List ℕ} {ps : List ℤ} {ss : List ℕ} {words : List ℕ} (p : Progress) {words′ cols starts lasts events : List ℕ} (b : Block) {now : AnswerLists}
-    → BlockMade stretches links arranged names (lineLists rows ls ps ss) words (p .pass) (p .run .metal) words′ cols starts lasts events b → StepAsk stretches links arranged names (lineLists rows ls ps ss) words p now
-    → Delivering (held ls ps ss (p .pass .cursor .i) cols) starts events (b .events) (p .run) now
-step-delivering p b made ask = delivering p made ask
+pub step-delivering : {table : List ℕ} {arranged : Arranged} {names : ℕ} {rows ls : List ℕ} {ps : List ℤ} {ss : List ℕ} {words : List ℕ} (p : Progress) {words′ cols lasts events : List ℕ} {next : Pass} {m : ℕ} {now : AnswerLists}
+    → BlockMade table arranged names (lineLists rows ls ps ss) words (p .pass) (p .run .metal) words′ cols lasts events next m → StepAsk table arranged names (lineLists rows ls ps ss) words p now
+    → Delivering (held ls ps ss (p .pass .cursor .i) cols) events m (p .run) now
+step-delivering p made ask = delivering p made ask

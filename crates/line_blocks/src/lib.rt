@@ -1,19 +1,20 @@
 // The pass over a call's columns, block by block: a block's columns, its row of metal, its events, and the walls that they finish, put into five lists. Whose lists they are is the caller's.
 use line_lists::COLUMNS;
 use line_lists::EVENTS;
+use line_lists::Part;
 use line_lists::W;
 ghost use mathlib.Core.Path.{_≡_};
 ghost use mathlib.Core.Bool.{not, _&&_, _||_};
 ghost use lib.Dec.{eqb, ltb};
-ghost use Prim.Native.Nat.{_-_, _*_};
+ghost use Prim.Native.Nat.{_-_};
 ghost use lib.ListN.{length};
 ghost use Rattle.lines.specs.Lines.{lineLists, rowCount, answerLists};
 ghost use Rattle.line_lists.specs.Block.{wide, columns, cell};
 ghost use Rattle.line_strips.specs.Filling.{Fillable};
 ghost use Rattle.line_words.specs.Evaluating.{Evaluable};
 ghost use Rattle.line_columns.specs.Planning.{WholeRows, NextInside};
-ghost use Rattle.line_blocks.specs.Blocks.{RowMade, CanSweep, EventsMade, Sized, BlockAsk, BlockEnds, BlockMade, SaidOf, Begun};
-ghost use Rattle.line_blocks.specs.Steps.{StepAsk, StepDone, NothingDone};
+ghost use Rattle.line_blocks.specs.Blocks.{RowMade, Sized, SaidOf, Begun};
+ghost use Rattle.line_blocks.specs.Walls.{StepAsk, StepDone, NothingDone};
 
 const LAST: usize = W - 1;
 
@@ -25,24 +26,11 @@ pub struct Call {
     pub air: bool,
 }
 
-// A block: its first crossing, its number of columns, whether they are crossings alone, and whether the first is on the line of the last one before it.
-struct Part {
-    first: usize,
-    size: usize,
-    alone: bool,
-    onward: bool,
-}
-
-// How far the pass has come: the cursor of the next block, and whether its first column is on the line of the last one before it.
+// How far the pass has come: the cursor of the next block, whether its first column is on the line of the last one before it, and whether the columns stand numbered, as a block of crossings alone leaves them.
 pub struct Pass {
     pub cursor: line_columns::Cursor,
     pub onward: bool,
-}
-
-// The pass after a block, and how many events the block has.
-pub struct Block {
-    pub next: Pass,
-    pub events: usize,
+    pub numbered: bool,
 }
 
 // How far the pass has come, and the walls.
@@ -51,83 +39,23 @@ pub struct Progress {
     pub run: line_writing::writing::Course,
 }
 
-// The formula's row of a block of n columns, whose first crossing is a.
+// The formula's row of a block.
 fn block_row(
-    stretches: &[u64; 1024],
-    links: &[u32],
+    table: &[u32],
     call: Call,
     words: &mut [u64],
     rows: &[u8],
     shape: &[u16],
-    cols: &[u16; COLUMNS],
-    starts: &[u32; COLUMNS],
+    cols: &[usize; COLUMNS],
     lasts: &[u64; W],
     b: Part,
 ) -> [u64; W]
-    requires { ⌜ Evaluable (now stretches) (now links) (now words) (call .arranged) × Fillable (call .names) (now rows) (now shape) (now cols) (now starts) (now lasts) (b .first) (b .size) (b .alone) (now words) ⌝ }
-    ensures { λ r. ⌜ RowMade (now (stretches .entry)) (now (links .entry)) (call .arranged) (call .names) (now (rows .entry)) (now (shape .entry)) (now (cols .entry)) (now (starts .entry)) (now (lasts .entry)) (b .first) (b .size) (b .onward) (now (words .entry)) (now (words .exit)) r ⌝ }
+    requires { ⌜ Evaluable (now table) (now words) (call .arranged) × Fillable (call .names) (now rows) (now shape) (now cols) (now lasts) (b .first) (b .size) (b .alone) (now words) ⌝ }
+    ensures { λ r. ⌜ RowMade (now (table .entry)) (call .arranged) (call .names) (now (rows .entry)) (now (shape .entry)) (now (cols .entry)) (now (lasts .entry)) (b .first) (b .size) (b .onward) (now (words .entry)) (now (words .exit)) r ⌝ }
 {
-    line_strips::fill(
-        words,
-        call.names,
-        rows,
-        shape,
-        cols,
-        starts,
-        lasts,
-        b.first,
-        b.size,
-        b.alone,
-        b.onward,
-    );
+    line_strips::fill(words, call.names, rows, shape, cols, lasts, b);
     let arranged = call.arranged;
-    line_words::evaluate(stretches, links, arranged, words)
-}
-
-// The events of such a block; how many.
-fn block_events(
-    stretches: &[u64; 1024],
-    links: &[u32],
-    call: Call,
-    words: &mut [u64],
-    rows: &[u8],
-    line: &[u32],
-    at: &[i32],
-    shape: &[u16],
-    cols: &[u16; COLUMNS],
-    starts: &[u32; COLUMNS],
-    lasts: &[u64; W],
-    b: Part,
-    metal: bool,
-    events: &mut [u16; EVENTS],
-) -> usize
-    requires { ⌜ Evaluable (now stretches) (now links) (now words) (call .arranged) × Fillable (call .names) (now rows) (now shape) (now cols) (now starts) (now lasts) (b .first) (b .size) (b .alone) (now words) × CanSweep (now line) (now at) (b .first) (b .size) (b .alone) (now cols) (now lasts) (now events) ⌝ }
-    ensures { λ r. ⌜ EventsMade (now (stretches .entry)) (now (links .entry)) (call .arranged) (call .names) (now (rows .entry)) (now (line .entry)) (now (at .entry)) (now (shape .entry)) (now (cols .entry)) (now (starts .entry)) (now (lasts .entry)) (b .first) (b .size) (b .onward) metal (now (words .entry)) (now (words .exit)) (now (events .exit)) r ⌝ }
-{
-    let row = block_row(
-        stretches,
-        links,
-        call,
-        words,
-        rows,
-        shape,
-        cols,
-        starts,
-        lasts,
-        b,
-    );
-    line_sweeping::sweep(
-        &row,
-        lasts,
-        line,
-        at,
-        b.first,
-        cols,
-        b.size,
-        b.alone,
-        metal,
-        events,
-    )
+    line_words::evaluate(table, arranged, words)
 }
 
 // The line of the last of n columns goes on: only where the block is full.
@@ -142,111 +70,6 @@ fn goes_past(lasts: &[u64; W], n: usize) -> bool
         return false;
     }
     true
-}
-
-// The block whose columns are planned, with metal before it or not: its events, and the pass after it.
-fn planned_block(
-    stretches: &[u64; 1024],
-    links: &[u32],
-    call: Call,
-    words: &mut [u64],
-    rows: &[u8],
-    line: &[u32],
-    at: &[i32],
-    shape: &[u16],
-    cols: &[u16; COLUMNS],
-    starts: &[u32; COLUMNS],
-    lasts: &[u64; W],
-    events: &mut [u16; EVENTS],
-    p: Pass,
-    ended: line_columns::Ended,
-    metal: bool,
-) -> Block
-    requires { ⌜ BlockAsk (now stretches) (now links) (call .arranged) (call .names) (lineLists (now rows) (now line) (now at) (now shape)) (now words) p × BlockEnds (call .names) (now rows) (now line) (now cols) (now starts) (now lasts) p ended × (length (now events) ≡ 2 * columns) ⌝ }
-    ensures { λ r. ⌜ BlockMade (now (stretches .entry)) (now (links .entry)) (call .arranged) (call .names) (lineLists (now (rows .entry)) (now (line .entry)) (now (at .entry)) (now (shape .entry))) (now (words .entry)) p metal (now (words .exit)) (now (cols .entry)) (now (starts .entry)) (now (lasts .entry)) (now (events .exit)) r ⌝ }
-{
-    let from = p.cursor;
-    let next = ended.next;
-    let b = Part {
-        first: from.i,
-        size: next.c,
-        alone: ended.alone,
-        onward: p.onward,
-    };
-    let m = block_events(
-        stretches,
-        links,
-        call,
-        words,
-        rows,
-        line,
-        at,
-        shape,
-        cols,
-        starts,
-        lasts,
-        b,
-        metal,
-        events,
-    );
-    let onward = goes_past(lasts, next.c);
-    Block {
-        next: Pass {
-            cursor: next,
-            onward,
-        },
-        events: m,
-    }
-}
-
-// The next block of the pass, with metal before it or not: its columns and its events.
-fn next_block(
-    stretches: &[u64; 1024],
-    links: &[u32],
-    call: Call,
-    words: &mut [u64],
-    rows: &[u8],
-    line: &[u32],
-    at: &[i32],
-    shape: &[u16],
-    cols: &mut [u16; COLUMNS],
-    starts: &mut [u32; COLUMNS],
-    lasts: &mut [u64; W],
-    events: &mut [u16; EVENTS],
-    p: Pass,
-    metal: bool,
-) -> Block
-    requires { ⌜ BlockAsk (now stretches) (now links) (call .arranged) (call .names) (lineLists (now rows) (now line) (now at) (now shape)) (now words) p × Sized (now cols) (now starts) (now lasts) (now events) × (call .count ≡ rowCount (call .names) (now rows)) ⌝ }
-    ensures { λ r. ⌜ BlockMade (now (stretches .entry)) (now (links .entry)) (call .arranged) (call .names) (lineLists (now (rows .entry)) (now (line .entry)) (now (at .entry)) (now (shape .entry))) (now (words .entry)) p metal (now (words .exit)) (now (cols .exit)) (now (starts .exit)) (now (lasts .exit)) (now (events .exit)) r ⌝ }
-{
-    let from = p.cursor;
-    let ended = line_columns::plan(
-        cols,
-        starts,
-        lasts,
-        rows,
-        call.names,
-        call.count,
-        line,
-        from,
-    );
-    planned_block(
-        stretches,
-        links,
-        call,
-        words,
-        rows,
-        line,
-        at,
-        shape,
-        cols,
-        starts,
-        lasts,
-        events,
-        p,
-        ended,
-        metal,
-    )
 }
 
 // The first line with a shape inside at its start. Where every line starts in air the rows are not looked at.
@@ -268,21 +91,20 @@ fn first_pass(rows: &[u8], names: usize, count: usize, air: bool) -> Pass
     Pass {
         cursor: line_columns::Cursor { i: 0, q, c: 0 },
         onward: false,
+        numbered: false,
     }
 }
 
 // The next block of the pass, and its walls.
 pub fn step(
-    stretches: &[u64; 1024],
-    links: &[u32],
+    table: &[u32],
     call: Call,
     words: &mut [u64],
     rows: &[u8],
     line: &[u32],
     at: &[i32],
     shape: &[u16],
-    cols: &mut [u16; COLUMNS],
-    starts: &mut [u32; COLUMNS],
+    cols: &mut [usize; COLUMNS],
     lasts: &mut [u64; W],
     events: &mut [u16; EVENTS],
     p: Progress,
@@ -292,37 +114,40 @@ pub fn step(
     wf: &mut [u16],
     wt: &mut [u16],
 ) -> Progress
-    requires { ⌜ StepAsk (now stretches) (now links) (call .arranged) (call .names) (lineLists (now rows) (now line) (now at) (now shape)) (now words) p (answerLists (now wl) (now ws) (now we) (now wf) (now wt)) × Sized (now cols) (now starts) (now lasts) (now events) × (call .count ≡ rowCount (call .names) (now rows)) ⌝ }
-    ensures { λ r. ⌜ StepDone (now (stretches .entry)) (now (links .entry)) (call .arranged) (call .names) (lineLists (now (rows .entry)) (now (line .entry)) (now (at .entry)) (now (shape .entry))) (now (words .entry)) p (answerLists (now (wl .entry)) (now (ws .entry)) (now (we .entry)) (now (wf .entry)) (now (wt .entry))) (now (words .exit)) (now (cols .exit)) (now (starts .exit)) (now (lasts .exit)) (now (events .exit)) r (answerLists (now (wl .exit)) (now (ws .exit)) (now (we .exit)) (now (wf .exit)) (now (wt .exit))) ⌝ }
+    requires { ⌜ StepAsk (now table) (call .arranged) (call .names) (lineLists (now rows) (now line) (now at) (now shape)) (now words) p (answerLists (now wl) (now ws) (now we) (now wf) (now wt)) × Sized (now cols) (now lasts) (now events) (p .pass .numbered) × (call .count ≡ rowCount (call .names) (now rows)) ⌝ }
+    ensures { λ r. ⌜ StepDone (now (table .entry)) (call .arranged) (call .names) (lineLists (now (rows .entry)) (now (line .entry)) (now (at .entry)) (now (shape .entry))) (now (words .entry)) p (answerLists (now (wl .entry)) (now (ws .entry)) (now (we .entry)) (now (wf .entry)) (now (wt .entry))) (now (words .exit)) (now (cols .exit)) (now (lasts .exit)) (now (events .exit)) r (answerLists (now (wl .exit)) (now (ws .exit)) (now (we .exit)) (now (wf .exit)) (now (wt .exit))) ⌝ }
 {
     let pass = p.pass;
     let run = p.run;
-    let b = next_block(
-        stretches,
-        links,
-        call,
-        words,
-        rows,
-        line,
-        at,
-        shape,
-        cols,
-        starts,
-        lasts,
-        events,
-        pass,
-        run.metal,
-    );
     let from = pass.cursor;
+    let ended = line_columns::plan(
+        cols,
+        lasts,
+        rows,
+        call.names,
+        call.count,
+        line,
+        from,
+        pass.numbered,
+    );
+    let next = ended.next;
+    let b = Part {
+        first: from.i,
+        size: next.c,
+        alone: ended.alone,
+        onward: pass.onward,
+        metal: run.metal,
+    };
+    let row = block_row(table, call, words, rows, shape, cols, lasts, b);
+    let m = line_sweeping::sweep(&row, lasts, line, at, cols, b, events);
     let after = line_writing::writing::deliver(
         events,
-        b.events,
+        m,
         line,
         at,
         shape,
         from.i,
         cols,
-        starts,
         run,
         wl,
         ws,
@@ -330,9 +155,13 @@ pub fn step(
         wf,
         wt,
     );
-    let next = b.next;
+    let onward = goes_past(lasts, next.c);
     Progress {
-        pass: next,
+        pass: Pass {
+            cursor: next,
+            onward,
+            numbered: ended.alone,
+        },
         run: after,
     }
 }

@@ -7,22 +7,17 @@ use mathlib.Core.List.{List, [], _∷_}
 use borrow.Author.Tests.{ltb-true, ltb-false, ne-eqb}
 use lib.Dec.{eqb, ltb}
 use lib.ListN.{getD, length, drop}
-use Rattle.outcome.specs.Outcome.{given}
 use Rattle.formula.specs.States.{State}
-use Rattle.lines.specs.Lines.{LineLists, entries, rowCount, startState, judged}
+use Rattle.lines.specs.Lines.{LineLists, entries, rowCount, startState}
+use Rattle.lines.specs.AtIndex.{Accepted}
 use Rattle.lines.specs.Columns.{anyInside, columnsOf, allColumns}
-use Rattle.lines.proofs.Judgement.{judged-whole, judged-few, judged-bytes}
-use Rattle.lines.proofs.Items.{judged-ascending}
 use Rattle.lines.proofs.ColumnLists.{columns-length}
 use Rattle.line_checking.specs.Verdicts.{InAir}
 use Rattle.line_columns.specs.Planned.{leftAt}
-use Rattle.line_columns.specs.Planning.{Plannable, AtCursor, NextInside}
+use Rattle.line_columns.specs.Planning.{AtCursor, NextInside}
 use Rattle.line_columns.proofs.Lefts.{start, shape, count, starts, more, some-starts, skipped, none-left}
 
-pub judged-plannable : (names : ℕ) (c : LineLists) → 0 < names → names ≤ 256 → judged names c ≡ given tt → Plannable names c
-judged-plannable names c some few e = record { some = some; ascending = judged-ascending names few c e; whole = judged-whole names c e; few = judged-few names c e; bytes = judged-bytes names c e }
-
-module _ (names : ℕ) (c : LineLists) (ok : Plannable names c) where
+module _ (names : ℕ) (c : LineLists) (ok : Accepted names c) where
   pub cursor-first : (q : ℕ) → NextInside names (c .rows) 0 q → AtCursor names c 0 q
   cursor-first q n = record { crossing = omega arith; row = n .row; inside = n .inside }
 

@@ -2,16 +2,17 @@
 use Prim.Native.Nat.{ℕ, _*_, _/_, _%_, _^_, _<_}
 use native.Mathlib.Omega.{arith}
 use mathlib.Core.Path.{_≡_, refl, sym, _∙_}
-use mathlib.Core.Bool.{Bool, true, false, _&&_, _||_, cond}
+use mathlib.Core.Bool.{Bool, true, false, _&&_, _||_, cond, or-false}
 use mathlib.Core.List.{List}
 use borrow.Author.Tests.{eqb-true, eqb-false, eq-eqb, ne-eqb}
 use lib.Bits.{bitOr}
 use lib.Dec.{eqb}
 use lib.ListN.{length, set}
 use lib.Seq.{getD-set-same, getD-set-other}
-use Rattle.line_bits.specs.Words.{bit}
+use Rattle.word_bits.specs.Words.{bit}
 use Rattle.line_lists.specs.Block.{wide, columns, cell}
-use Rattle.line_bits.proofs.Digits.{bit-or, bit-none, one-bit, or-none}
+use Rattle.word_bits.proofs.Digits.{bit-or, bit-none}
+use Rattle.word_bits.proofs.OneBit.{one-bit}
 use Rattle.line_columns.specs.Planning.{LastPut}
 
 -- ---- one bit put in
@@ -41,7 +42,7 @@ last-put w f c last e = record { same = same; here = here }
     bit-new d k = bit-or w (f * 2 ^ (c % 64) % 2 ^ 64) d ∙ rw (flag-bit last f (c % 64) d e k)
 
     same : (d : ℕ) → d < 64 → (d ≡ c % 64 → ⊥) → bit new d ≡ bit w d
-    same d k ne = bit-new d k ∙ rw (ne-eqb d (c % 64) ne) (or-none (bit w d))
+    same d k ne = bit-new d k ∙ rw (ne-eqb d (c % 64) ne) (or-false (bit w d))
 
     here : bit w (c % 64) ≡ false → bit new (c % 64) ≡ last
     here off = bit-new (c % 64) (omega arith) ∙ rw (off, eq-eqb (c % 64) (c % 64) refl)
@@ -49,7 +50,7 @@ last-put w f c last e = record { same = same; here = here }
 -- ---- a word among the others
 
 module _ (lasts : List ℕ) (k w j : ℕ) where
-  pub cell-within : k < length lasts → j / 64 ≡ k → cell (set lasts k w) j ≡ bit w (j % 64)
+  cell-within : k < length lasts → j / 64 ≡ k → cell (set lasts k w) j ≡ bit w (j % 64)
   unfolding cell
   cell-within h e = rw (e, getD-set-same lasts k w 0 h)
 

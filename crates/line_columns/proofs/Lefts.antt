@@ -13,16 +13,16 @@ use lib.Signed.{ltZ, leZ}
 use Rattle.formula.specs.States.{State}
 use Rattle.lines.specs.Lines.{LineLists, Crossing, entries, rowCount, startState, low, high, shapeAt}
 use Rattle.lines.specs.Columns.{startColumn, crossingColumn, anyInside, startsFrom, columnsOf, lastColumn, endsColumns}
-use Rattle.lines.specs.AtIndex.{item, groupEndsAt}
+use Rattle.lines.specs.AtIndex.{item, groupEndsAt, Accepted}
 use Rattle.lines.proofs.Keys.{no→lt}
-use Rattle.lines.proofs.Items.{drop-item, drop-all}
+use Rattle.lines.proofs.Items.{drop-item, drop-all, accepted-positions, accepted-shapes, accepted-kept}
 use Rattle.lines.proofs.ColumnLists.{Beyond, starts-in, starts-out, starts-beyond}
 use Rattle.line_columns.specs.Planned.{leftAt}
 use Rattle.line_runs.specs.Runs.{overAt}
-use Rattle.line_columns.specs.Planning.{Plannable, AtCursor, NextInside}
+use Rattle.line_columns.specs.Planning.{AtCursor, NextInside}
 use Rattle.line_columns.proofs.Heads.{LineOver, GroupOver, NotBefore, head-crossing, head-start, head-none, last-ahead, ends-ahead}
 
-module _ (names : ℕ) (c : LineLists) (ok : Plannable names c) where
+module _ (names : ℕ) (c : LineLists) (ok : Accepted names c) where
   abbrev pub start : ℕ → State
   start = startState names (c .rows)
 
@@ -35,14 +35,14 @@ module _ (names : ℕ) (c : LineLists) (ok : Plannable names c) where
   abbrev pub starts : ℕ → List ℕ
   starts q = startsFrom names start (count - q) q
 
-  abbrev pub here : ℕ → Crossing
+  abbrev here : ℕ → Crossing
   here i = item (c .lines) (c .positions) (c .shapes) i
 
   pub more : (i : ℕ) → i < length (c .lines) → drop i (entries c) ≡ here i ∷ drop (i + 1) (entries c)
-  more i h = drop-item (c .lines) (c .positions) (c .shapes) i (ok .ascending .positions) (ok .ascending .shapes) h ∙ rw (add-one i)
+  more i h = drop-item (c .lines) (c .positions) (c .shapes) i (accepted-positions ok) (accepted-shapes ok) h ∙ rw (add-one i)
 
   no-more : (i : ℕ) → length (c .lines) ≤ i → drop i (entries c) ≡ []
-  no-more i h = drop-all (c .lines) (c .positions) (c .shapes) i (ok .ascending .positions) (ok .ascending .shapes) h
+  no-more i h = drop-all (c .lines) (c .positions) (c .shapes) i (accepted-positions ok) (accepted-shapes ok) h
 
   no-starts : (q : ℕ) → count ≤ q → starts q ≡ []
   unfolding startsFrom
@@ -133,7 +133,7 @@ module _ (names : ℕ) (c : LineLists) (ok : Plannable names c) where
             first false b z = refl
 
         by : (t : Bool) → ltb i (length (c .lines)) ≡ t → GroupOver q low (drop i (entries c)) ≡ true
-        by true e = rw (more i (ltb-true i (length (c .lines)) e), above (getD (c .lines) i 0) (getD (c .positions) i (pos 0)) (ok .ascending .kept i (ltb-true i (length (c .lines)) e))) (or-yes (not (eqb (getD (c .lines) i 0) q)))
+        by true e = rw (more i (ltb-true i (length (c .lines)) e), above (getD (c .lines) i 0) (getD (c .positions) i (pos 0)) (accepted-kept ok i (ltb-true i (length (c .lines)) e))) (or-yes (not (eqb (getD (c .lines) i 0) q)))
         by false e = rw (no-more i (ltb-false i (length (c .lines)) e))
 
   pub none-left : (i q : ℕ) → length (c .lines) ≤ i → count ≤ q → leftAt names c i q ≡ []

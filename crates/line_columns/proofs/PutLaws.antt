@@ -31,14 +31,11 @@ module _ (cols : List ℕ) (w w′ c col : ℕ) (last over : Bool) (wide : lengt
     lasts = rw (← is) put;
   }
 
-module _ (names : ℕ) (rows ls : List ℕ) (count : ℕ) (cols starts : List ℕ) (w w′ i q c : ℕ) (ready : StartReady names rows ls count cols starts i q c) where
+module _ (names : ℕ) (rows ls : List ℕ) (count : ℕ) (cols : List ℕ) (w w′ i q c : ℕ) (ready : StartReady names rows ls count cols i q c) where
   pub start-put : (next : ℕ) (last : Bool) → last ≡ overAt ls q i → LastPut w w′ c last → NextInside names rows (q + 1) next
-      → StartPut names rows ls cols starts w (set cols c 65535) (set starts c q) w′ i q c i next (c + 1)
+      → StartPut names rows ls cols w (set cols c (columns + q)) w′ i q c i next (c + 1)
   start-put next last is put after = record {
-    put = column-put cols w w′ c 65535 last (overAt ls q i) (ready .wide) (ready .narrow) put is;
-    long = length-set starts c q ∙ ready .long;
-    here = getD-set-same starts c q 0 (omega (arith, ready .long, ready .narrow));
-    others = λ j ne. getD-set-other starts c j q 0 ne;
+    put = column-put cols w w′ c (columns + q) last (overAt ls q i) (ready .wide) (ready .narrow) put is;
     next = after;
     same = refl;
     more = refl;

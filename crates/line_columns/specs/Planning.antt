@@ -7,20 +7,12 @@ use lib.IntN.{ℤ}
 use lib.ListN.{getD, length, drop, set}
 use Rattle.lines.specs.Lines.{LineLists, lineLists, rowCount, startState}
 use Rattle.lines.specs.Columns.{anyInside}
-use Rattle.lines.specs.Marked.{markAt}
-use Rattle.lines.specs.AtIndex.{Ascending}
-use Rattle.line_bits.specs.Words.{bit}
+use Rattle.lines.specs.Views.{viewAt}
+use Rattle.lines.specs.AtIndex.{Accepted}
+use Rattle.word_bits.specs.Words.{bit}
 use Rattle.line_lists.specs.Block.{Plan, planned, wide, columns}
 use Rattle.line_runs.specs.Runs.{overAt}
 use Rattle.line_columns.specs.Planned.{leftAt, heldAt, HeldWithin, PlanSized, BlockPlanned}
-
--- accepted lists: their rows are whole
-pub record Plannable (names : ℕ) (c : LineLists) : Type 0 where
-  pub some : 0 < names
-  pub ascending : Ascending names c
-  pub whole : length (c .rows) ≡ rowCount names (c .rows) * names
-  pub few : rowCount names (c .rows) ≤ 4294967296
-  pub bytes : (j : ℕ) → getD (c .rows) j 0 ≤ 1
 
 -- a cursor stands before crossing i, and before the start of line q, where a shape is inside, or after all starts
 pub record AtCursor (names : ℕ) (c : LineLists) (i q : ℕ) : Type 0 where
@@ -72,20 +64,16 @@ pub record ColumnPut (cols : List ℕ) (w : ℕ) (cols′ : List ℕ) (w′ c co
   pub lasts : LastPut w w′ c last
 
 -- the start of line q can become column c
-pub record StartReady (names : ℕ) (rows ls : List ℕ) (count : ℕ) (cols starts : List ℕ) (i q c : ℕ) : Type 0 where
+pub record StartReady (names : ℕ) (rows ls : List ℕ) (count : ℕ) (cols : List ℕ) (i q c : ℕ) : Type 0 where
   pub whole : WholeRows names rows count
   pub few : count ≤ 4294967296
   pub wide : length cols ≡ columns
-  pub long : length starts ≡ columns
   pub narrow : c < columns
   pub crossing : i ≤ length ls
   pub row : q < count
 
-pub record StartPut (names : ℕ) (rows ls cols starts : List ℕ) (w : ℕ) (cols′ starts′ : List ℕ) (w′ i q c i′ q′ c′ : ℕ) : Type 0 where
-  pub put : ColumnPut cols w cols′ w′ c 65535 (overAt ls q i)
-  pub long : length starts′ ≡ columns
-  pub here : getD starts′ c 0 ≡ q
-  pub others : (j : ℕ) → (j ≡ c → ⊥) → getD starts′ j 0 ≡ getD starts j 0
+pub record StartPut (names : ℕ) (rows ls cols : List ℕ) (w : ℕ) (cols′ : List ℕ) (w′ i q c i′ q′ c′ : ℕ) : Type 0 where
+  pub put : ColumnPut cols w cols′ w′ c (columns + q) (overAt ls q i)
   pub next : NextInside names rows (q + 1) q′
   pub same : i′ ≡ i
   pub more : c′ ≡ c + 1
@@ -112,7 +100,7 @@ pub record Planning (names : ℕ) (c : LineLists) (i q : ℕ) (p : Plan) (n i′
   pub on : i ≤ i′
   pub gone : i′ ≤ i + n
   pub enough : n ≤ length (leftAt names c i q)
-  pub are : (j : ℕ) → j < n → heldAt names c i p j ≡ markAt (leftAt names c i q) j
+  pub are : (j : ℕ) → j < n → heldAt names c i p j ≡ viewAt (leftAt names c i q) j
   pub within : (j : ℕ) → j < n → HeldWithin names c i p j
   pub left : leftAt names c i′ q′ ≡ drop n (leftAt names c i q)
 
@@ -126,7 +114,7 @@ pub record PlanningOf (names : ℕ) (rows ls : List ℕ) (count : ℕ) (i q : �
   pub row : q′ ≤ count
   pub on : i ≤ i′
   pub gone : i′ ≤ i + n
-  pub all : (ps : List ℤ) (ss : List ℕ) → Plannable names (lineLists rows ls ps ss) → AtCursor names (lineLists rows ls ps ss) i q → Planning names (lineLists rows ls ps ss) i q p n i′ q′
+  pub all : (ps : List ℤ) (ss : List ℕ) → Accepted names (lineLists rows ls ps ss) → AtCursor names (lineLists rows ls ps ss) i q → Planning names (lineLists rows ls ps ss) i q p n i′ q′
 
 -- a word of columns comes next
 pub record WordNext (names : ℕ) (rows ls : List ℕ) (count : ℕ) (i q : ℕ) (p : Plan) (c i′ q′ : ℕ) : Type 0 where
@@ -135,8 +123,8 @@ pub record WordNext (names : ℕ) (rows ls : List ℕ) (count : ℕ) (i q : ℕ)
   pub more : c < columns
 
 -- the word of lasts from column c on is in hand: it is w, and says of no column from n on
-pub record WordPlanning (names : ℕ) (rows ls : List ℕ) (count : ℕ) (i q : ℕ) (lasts : List ℕ) (c : ℕ) (cols starts : List ℕ) (w n i′ q′ : ℕ) : Type 0 where
-  pub planning : PlanningOf names rows ls count i q (planned cols starts (set lasts (c / 64) w)) n i′ q′
+pub record WordPlanning (names : ℕ) (rows ls : List ℕ) (count : ℕ) (i q : ℕ) (lasts : List ℕ) (c : ℕ) (cols : List ℕ) (w n i′ q′ : ℕ) : Type 0 where
+  pub planning : PlanningOf names rows ls count i q (planned cols (set lasts (c / 64) w)) n i′ q′
   pub words : c % 64 ≡ 0
   pub more : c < columns
   pub from : c ≤ n
@@ -155,8 +143,8 @@ pub record UntilReady (ls cols : List ℕ) (a stop i c : ℕ) : Type 0 where
 -- the first of them are columns: whatever block they are of, if its next start is not before line limit
 pub record UntilPut (ls : List ℕ) (a limit stop : ℕ) (cols : List ℕ) (w i q c : ℕ) (cols′ : List ℕ) (w′ i′ q′ c′ : ℕ) : Type 0 where
   pub further : c ≤ c′
-  pub planning : (names : ℕ) (rows : List ℕ) (count q₀ : ℕ) (lasts : List ℕ) (c₀ : ℕ) (starts : List ℕ) → (q < count → limit ≤ q) → stop + c ≤ c₀ + 64 + i
-      → WordPlanning names rows ls count a q₀ lasts c₀ cols starts w c i q → WordPlanning names rows ls count a q₀ lasts c₀ cols′ starts w′ c′ i′ q′
+  pub planning : (names : ℕ) (rows : List ℕ) (count q₀ : ℕ) (lasts : List ℕ) (c₀ : ℕ) → (q < count → limit ≤ q) → stop + c ≤ c₀ + 64 + i
+      → WordPlanning names rows ls count a q₀ lasts c₀ cols w c i q → WordPlanning names rows ls count a q₀ lasts c₀ cols′ w′ c′ i′ q′
 
 -- the crossings from i on can become the columns from c to end
 pub record CrossingsReady (ls cols : List ℕ) (a end i c : ℕ) : Type 0 where
@@ -170,8 +158,8 @@ pub record CrossingsReady (ls cols : List ℕ) (a end i c : ℕ) : Type 0 where
 -- one or more of them are columns: whatever block they are of, if its next start is not before crossing i
 pub record CrossingsPut (ls : List ℕ) (count a end : ℕ) (cols : List ℕ) (w i q c : ℕ) (cols′ : List ℕ) (w′ i′ q′ c′ : ℕ) : Type 0 where
   pub further : c < c′
-  pub planning : (names : ℕ) (rows : List ℕ) (q₀ : ℕ) (lasts : List ℕ) (c₀ : ℕ) (starts : List ℕ) → StartsNext ls count i q false → end ≡ c₀ + 64
-      → WordPlanning names rows ls count a q₀ lasts c₀ cols starts w c i q → WordPlanning names rows ls count a q₀ lasts c₀ cols′ starts w′ c′ i′ q′
+  pub planning : (names : ℕ) (rows : List ℕ) (q₀ : ℕ) (lasts : List ℕ) (c₀ : ℕ) → StartsNext ls count i q false → end ≡ c₀ + 64
+      → WordPlanning names rows ls count a q₀ lasts c₀ cols w c i q → WordPlanning names rows ls count a q₀ lasts c₀ cols′ w′ c′ i′ q′
 
 -- the word from column c on is planned, to column n; its columns are fewer than 64 only where nothing is left
 pub record WordPlanned (names : ℕ) (rows ls : List ℕ) (count : ℕ) (i q : ℕ) (p : Plan) (c n i′ q′ : ℕ) : Type 0 where
@@ -195,8 +183,8 @@ pub record PlanMade (names : ℕ) (rows ls : List ℕ) (p : Plan) (i q n i′ q�
   pub narrow : n ≤ columns
   pub crossing : i′ ≤ length ls
   pub row : q′ ≤ rowCount names rows
-  pub block : (ps : List ℤ) (ss : List ℕ) → Plannable names (lineLists rows ls ps ss) → AtCursor names (lineLists rows ls ps ss) i q → BlockPlanned names (lineLists rows ls ps ss) i q p n i′ q′
-  pub next : (ps : List ℤ) (ss : List ℕ) → Plannable names (lineLists rows ls ps ss) → AtCursor names (lineLists rows ls ps ss) i q → AtCursor names (lineLists rows ls ps ss) i′ q′
+  pub block : (ps : List ℤ) (ss : List ℕ) → Accepted names (lineLists rows ls ps ss) → AtCursor names (lineLists rows ls ps ss) i q → BlockPlanned names (lineLists rows ls ps ss) i q p n i′ q′
+  pub next : (ps : List ℤ) (ss : List ℕ) → Accepted names (lineLists rows ls ps ss) → AtCursor names (lineLists rows ls ps ss) i q → AtCursor names (lineLists rows ls ps ss) i′ q′
 
 -- ---- a block of crossings alone
 

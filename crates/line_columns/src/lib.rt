@@ -1,6 +1,5 @@
 // The columns of a block, from a cursor in the lists: a crossing, or the start of a line with a shape inside. See specs/Planned.antt.
 use line_lists::COLUMNS;
-use line_lists::START;
 use line_lists::W;
 ghost use mathlib.Core.Path.{_≡_};
 ghost use mathlib.Core.Bool.{cond};
@@ -8,7 +7,7 @@ ghost use Prim.Native.Nat.{_+_, _<_, _≤_};
 ghost use lib.ListN.{length};
 ghost use Rattle.lines.specs.Lines.{startState};
 ghost use Rattle.lines.specs.Columns.{anyInside};
-ghost use Rattle.line_lists.specs.Block.{columns, planned, SaidAlone};
+ghost use Rattle.line_lists.specs.Block.{columns, planned, SaidNumbered, SaidAlone};
 ghost use Rattle.line_columns.specs.Planning.{NextInside, WholeRows, RowThere, Occupied, StartsNext, LastPut, StartReady, StartPut, CrossingReady, CrossingPut, UntilReady, UntilPut, CrossingsReady, CrossingsPut, CanPlan, WordNext, WordPlanned, PlanMade, RunsOn};
 
 // Beyond every line.
@@ -101,23 +100,21 @@ fn is_start(line: &[u32], count: usize, f: Cursor) -> bool
 
 // The start of line q becomes column c; the cursor and the lasts after it.
 fn start_column(
-    cols: &mut [u16; COLUMNS],
-    starts: &mut [u32; COLUMNS],
+    cols: &mut [usize; COLUMNS],
     rows: &[u8],
     names: usize,
     count: usize,
     line: &[u32],
     at: Word,
 ) -> Word
-    requires { ⌜ StartReady names (now rows) (now line) count (now cols) (now starts) (at .next .i) (at .next .q) (at .next .c) ⌝ }
-    ensures { λ r. ⌜ StartPut names (now (rows .entry)) (now (line .entry)) (now (cols .entry)) (now (starts .entry)) (at .lasts) (now (cols .exit)) (now (starts .exit)) (r .lasts) (at .next .i) (at .next .q) (at .next .c) (r .next .i) (r .next .q) (r .next .c) ⌝ }
+    requires { ⌜ StartReady names (now rows) (now line) count (now cols) (at .next .i) (at .next .q) (at .next .c) ⌝ }
+    ensures { λ r. ⌜ StartPut names (now (rows .entry)) (now (line .entry)) (now (cols .entry)) (at .lasts) (now (cols .exit)) (r .lasts) (at .next .i) (at .next .q) (at .next .c) (r .next .i) (r .next .q) (r .next .c) ⌝ }
 {
     let i = at.next.i;
     let q = at.next.q;
     let c = at.next.c;
     let last = line_runs::is_over(line, q, i);
-    cols[c] = START;
-    starts[c] = q as u32;
+    cols[c] = COLUMNS + q;
     let lasts = put_last(at.lasts, c, last);
     let after = next_inside(rows, names, count, q + 1);
     Word {
@@ -131,14 +128,14 @@ fn start_column(
 }
 
 // The next crossing becomes column c of the block that begins at crossing a; the cursor and the lasts after it.
-fn crossing_column(cols: &mut [u16; COLUMNS], a: usize, last: bool, at: Word) -> Word
+fn crossing_column(cols: &mut [usize; COLUMNS], a: usize, last: bool, at: Word) -> Word
     requires { ⌜ CrossingReady (now cols) a (at .next .i) (at .next .c) ⌝ }
     ensures { λ r. ⌜ CrossingPut (now (cols .entry)) (at .lasts) (now (cols .exit)) (r .lasts) a last (at .next .i) (at .next .q) (at .next .c) (r .next .i) (r .next .q) (r .next .c) ⌝ }
 {
     let i = at.next.i;
     let q = at.next.q;
     let c = at.next.c;
-    cols[c] = (i - a) as u16;
+    cols[c] = i - a;
     let lasts = put_last(at.lasts, c, last);
     Word {
         next: Cursor {
@@ -162,7 +159,7 @@ fn start_line(count: usize, q: usize) -> usize
 
 // As long as the next crossing is before line `limit`, and another one comes before `stop`, it becomes a column. Most columns are made here, so little is asked of each.
 fn cross_until(
-    cols: &mut [u16; COLUMNS],
+    cols: &mut [usize; COLUMNS],
     line: &[u32],
     a: usize,
     limit: usize,
@@ -178,7 +175,7 @@ fn cross_until(
         if limit <= basics::wide_long(line[i]) {
             return at;
         }
-        let last = line_runs::turns_away(line, i);
+        let last = line_runs::last_of_line(line, i);
         at = crossing_column(cols, a, last, at);
     }
     at
@@ -186,7 +183,7 @@ fn cross_until(
 
 // The next crossing becomes a column, and those after it before the next start, to column `end` at most.
 fn crossings(
-    cols: &mut [u16; COLUMNS],
+    cols: &mut [usize; COLUMNS],
     line: &[u32],
     count: usize,
     a: usize,
@@ -206,8 +203,7 @@ fn crossings(
 
 // The next 64 columns of the block that begins at `from`, or all that are left. Their lasts are written once, so that no column waits for the one before it.
 fn plan_word(
-    cols: &mut [u16; COLUMNS],
-    starts: &mut [u32; COLUMNS],
+    cols: &mut [usize; COLUMNS],
     lasts: &mut [u64; W],
     rows: &[u8],
     names: usize,
@@ -216,8 +212,8 @@ fn plan_word(
     from: Cursor,
     first: Cursor,
 ) -> Cursor
-    requires { ⌜ WordNext names (now rows) (now line) count (from .i) (from .q) (planned (now cols) (now starts) (now lasts)) (first .c) (first .i) (first .q) ⌝ }
-    ensures { λ r. ⌜ WordPlanned names (now (rows .entry)) (now (line .entry)) count (from .i) (from .q) (planned (now (cols .exit)) (now (starts .exit)) (now (lasts .exit))) (first .c) (r .c) (r .i) (r .q) ⌝ }
+    requires { ⌜ WordNext names (now rows) (now line) count (from .i) (from .q) (planned (now cols) (now lasts)) (first .c) (first .i) (first .q) ⌝ }
+    ensures { λ r. ⌜ WordPlanned names (now (rows .entry)) (now (line .entry)) count (from .i) (from .q) (planned (now (cols .exit)) (now (lasts .exit))) (first .c) (r .c) (r .i) (r .q) ⌝ }
 {
     let k = first.c / 64;
     let end = first.c + 64;
@@ -227,7 +223,7 @@ fn plan_word(
     };
     while at.next.c < end {
         if is_start(line, count, at.next) {
-            at = start_column(cols, starts, rows, names, count, line, at);
+            at = start_column(cols, rows, names, count, line, at);
             continue;
         }
         if at.next.i == line.len() {
@@ -242,8 +238,7 @@ fn plan_word(
 
 // The columns of a block one by one, 64 to a word of lasts.
 fn plan_each(
-    cols: &mut [u16; COLUMNS],
-    starts: &mut [u32; COLUMNS],
+    cols: &mut [usize; COLUMNS],
     lasts: &mut [u64; W],
     rows: &[u8],
     names: usize,
@@ -251,8 +246,8 @@ fn plan_each(
     line: &[u32],
     from: Cursor,
 ) -> Cursor
-    requires { ⌜ CanPlan names (now rows) (now line) count (planned (now cols) (now starts) (now lasts)) (from .i) (from .q) ⌝ }
-    ensures { λ r. ⌜ PlanMade names (now (rows .entry)) (now (line .entry)) (planned (now (cols .exit)) (now (starts .exit)) (now (lasts .exit))) (from .i) (from .q) (r .c) (r .i) (r .q) ⌝ }
+    requires { ⌜ CanPlan names (now rows) (now line) count (planned (now cols) (now lasts)) (from .i) (from .q) ⌝ }
+    ensures { λ r. ⌜ PlanMade names (now (rows .entry)) (now (line .entry)) (planned (now (cols .exit)) (now (lasts .exit))) (from .i) (from .q) (r .c) (r .i) (r .q) ⌝ }
 {
     let mut f = Cursor {
         i: from.i,
@@ -261,7 +256,7 @@ fn plan_each(
     };
     while f.c < COLUMNS {
         let end = f.c + 64;
-        f = plan_word(cols, starts, lasts, rows, names, count, line, from, f);
+        f = plan_word(cols, lasts, rows, names, count, line, from, f);
         if f.c < end {
             return f;
         }
@@ -289,29 +284,29 @@ fn run_length(line: &[u32], count: usize, f: Cursor) -> usize
     0
 }
 
-// The columns of the block that begins at a cursor, and how it ends. Crossings alone are marked many at a time.
+// The columns of the block that begins at a cursor, and how it ends. Crossings alone are put many at a time; `numbered` says that the columns are numbered already.
 pub fn plan(
-    cols: &mut [u16; COLUMNS],
-    starts: &mut [u32; COLUMNS],
+    cols: &mut [usize; COLUMNS],
     lasts: &mut [u64; W],
     rows: &[u8],
     names: usize,
     count: usize,
     line: &[u32],
     from: Cursor,
+    numbered: bool,
 ) -> Ended
-    requires { ⌜ CanPlan names (now rows) (now line) count (planned (now cols) (now starts) (now lasts)) (from .i) (from .q) ⌝ }
-    ensures { λ r. ⌜ PlanMade names (now (rows .entry)) (now (line .entry)) (planned (now (cols .exit)) (now (starts .exit)) (now (lasts .exit))) (from .i) (from .q) (r .next .c) (r .next .i) (r .next .q) × SaidAlone (now (line .entry)) (now (cols .exit)) (from .i) (r .next .c) (r .alone) ⌝ }
+    requires { ⌜ CanPlan names (now rows) (now line) count (planned (now cols) (now lasts)) (from .i) (from .q) × SaidNumbered (now cols) numbered ⌝ }
+    ensures { λ r. ⌜ PlanMade names (now (rows .entry)) (now (line .entry)) (planned (now (cols .exit)) (now (lasts .exit))) (from .i) (from .q) (r .next .c) (r .next .i) (r .next .q) × SaidAlone (now (line .entry)) (now (cols .exit)) (from .i) (r .next .c) (r .alone) × SaidNumbered (now (cols .exit)) (r .alone) ⌝ }
 {
     let n = run_length(line, count, from);
     if n == 0 {
-        let next = plan_each(cols, starts, lasts, rows, names, count, line, from);
+        let next = plan_each(cols, lasts, rows, names, count, line, from);
         return Ended { next, alone: false };
     }
     let i = from.i;
     let q = from.q;
-    line_runs::number(cols);
-    line_runs::mark_run(lasts, line, i, n);
+    line_runs::number_once(cols, numbered);
+    line_runs::note_ends(lasts, line, i, n);
     let m = line_runs::cut(lasts, n);
     Ended {
         next: Cursor { i: i + m, q, c: m },

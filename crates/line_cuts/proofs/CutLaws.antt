@@ -13,7 +13,7 @@ use Rattle.outcome.specs.Outcome.{given, _>>_}
 use Rattle.outcome.proofs.Questions.{given-same}
 use Rattle.formula.specs.Formula.{Formula}
 use Rattle.lines.specs.Lines.{LineLists, lineLists, rowCount, judged, AnswerLists, roomyLists, Wall, walls, classified}
-use Rattle.lines.proofs.Judgement.{both, and-yes, judged-accepted}
+use Rattle.lines.proofs.Judgement.{both, and-yes, judged-in-order}
 use Rattle.line_cuts.specs.Cuts.{firstPart, lowered, secondPart, together, onLater, roomFor}
 use Rattle.line_cuts.specs.Places.{CutAt, OneLength, Leads}
 use Rattle.line_cuts.proofs.Together.{alike, judged-asks, rows-all, walls-together, accepted-together, rest-room}
@@ -106,15 +106,15 @@ module _ (names r i : ℕ) (c : LineLists) (cut : CutAt names r i c) where
   rows-in-all named = sym (rows-all names r named ahead snd ahead-leads) ∙ ap (rowCount names) rows-again
 
   -- accepted lists rise: from the cut on, all are on later lines
-  pub whole-from : judged names c ≡ given tt → AllFrom r (drop i (c .lines))
+  whole-from : judged names c ≡ given tt → AllFrom r (drop i (c .lines))
   whole-from e =
       let h = judged-long names c e in
-      sorted-from r i (c .lines) (c .positions) (c .shapes) (cut .between) (h .positions-long) (h .shapes-long) (judged-accepted names c e .sorted)
+      sorted-from r i (c .lines) (c .positions) (c .shapes) (cut .between) (h .positions-long) (h .shapes-long) (judged-in-order names c e .sorted)
 
   -- ---- where all are, the parts together are the whole
 
   module _ (after : AllFrom r (drop i (c .lines))) where
-    pub put-back : together r fst snd ≡ c
+    put-back : together r fst snd ≡ c
     put-back =
         let rows = take-append-drop (r * names) (c .rows) in
         let lines = ap (λ (ls : List ℕ). take i (c .lines) ++ ls) (raised-again r (drop i (c .lines)) (cut .between .numbers) after) ∙ take-append-drop i (c .lines) in
@@ -123,7 +123,7 @@ module _ (names r i : ℕ) (c : LineLists) (cut : CutAt names r i c) where
         λ j. record { rows = rows j; lines = lines j; positions = positions j; shapes = shapes j }
 
     module _ (named : 0 < names) (h : OneLength c) where
-      pub walls-on-cut : (f : Formula) → walls f names c ≡ walls f names fst ++ map (onLater r) (walls f names snd)
+      walls-on-cut : (f : Formula) → walls f names c ≡ walls f names fst ++ map (onLater r) (walls f names snd)
       walls-on-cut f = ap (walls f names) (sym put-back) ∙ walls-together names r named fst snd (first-leads h) f
 
   module _ (named : 0 < names) where
@@ -143,7 +143,7 @@ module _ (names r i : ℕ) (c : LineLists) (cut : CutAt names r i c) where
             let h = parts-long (judged-long names fst (p .0)) s in
             let few : r + rowCount names (snd .rows) ≤ 4294967296 = omega (arith, p .2, rows-in-all named) in
             let after : AllFrom r (drop i (c .lines)) = lowered-from r (rowCount names (snd .rows)) few (drop i (c .lines)) (drop i (c .positions)) (drop i (c .shapes)) (cut .between .numbers)
-            (omega (arith, s .positions-long, length-map (drop i (c .lines)) (lowered r))) (omega (arith, s .shapes-long, length-map (drop i (c .lines)) (lowered r))) (judged-accepted names snd (p .1) .kept) in
+            (omega (arith, s .positions-long, length-map (drop i (c .lines)) (lowered r))) (omega (arith, s .shapes-long, length-map (drop i (c .lines)) (lowered r))) (judged-in-order names snd (p .1) .kept) in
             ap (judged names) (sym (put-back after)) ∙ accepted-together names r named fst snd (first-leads h) .1 (p .0, p .1, few)
 
     -- Of accepted lists:

@@ -92,7 +92,7 @@ module _ (names : ℕ) (named : 0 < names) where
 
   module _ (f : Formula) where
     -- The walls of the whole are those of the parts, part after part.
-    pub walls-parts : (sizes : List ℕ) (c : LineLists) → Cuttable names sizes c → judged names c ≡ given tt → walls f names c ≡ joinWalls sizes (map (walls f names) (partsOf names sizes c))
+    walls-parts : (sizes : List ℕ) (c : LineLists) → Cuttable names sizes c → judged names c ≡ given tt → walls f names c ≡ joinWalls sizes (map (walls f names) (partsOf names sizes c))
     walls-parts [] c k e = refl
     walls-parts (r ∷ rs) c k e =
         let i : ℕ = cutIndex r (c .lines) in

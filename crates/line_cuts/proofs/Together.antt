@@ -33,7 +33,7 @@ alike c = eqb (length (c .positions)) (length (c .lines)) && eqb (length (c .sha
 abbrev pub rowsRight : ℕ → List ℕ → Bool
 rowsRight names rows = eqb (length rows % names) 0 && (leb (rowCount names rows) 4294967296 && bits rows)
 
-abbrev pub items : ℕ → LineLists → Outcome (Unit {0})
+abbrev items : ℕ → LineLists → Outcome (Unit {0})
 items names c = ordered names (rowCount names (c .rows)) none 0 (entries c)
 
 module _ (names : ℕ) (c : LineLists) where
@@ -66,7 +66,7 @@ module _ (names : ℕ) (rows : List ℕ) where
       let q = and-yes (leb (rowCount names rows) 4294967296) (bits rows) (p .1) in
       (eqb-true (length rows % names) 0 (p .0), leb-true (rowCount names rows) 4294967296 (q .0), q .1)
 
-  pub rows-from : length rows % names ≡ 0 → rowCount names rows ≤ 4294967296 → bits rows ≡ true → rowsRight names rows ≡ true
+  rows-from : length rows % names ≡ 0 → rowCount names rows ≤ 4294967296 → bits rows ≡ true → rowsRight names rows ≡ true
   rows-from a b c = rw (eq-eqb (length rows % names) 0 a, le-leb (rowCount names rows) 4294967296 b, c)
 
 module _ (names r : ℕ) (named : 0 < names) (a b : LineLists) (fit : Leads names r a) where
@@ -145,14 +145,14 @@ module _ (names r : ℕ) (named : 0 < names) (a b : LineLists) (fit : Leads name
       ∙ ap (λ (n : ℕ). ordered names r none 0 (entries a) >> later n (items names b)) (length-crossings (a .lines) (a .positions) (a .shapes) (fit .one-length .positions-long) (fit .one-length .shapes-long))
       ∙ ap (λ (n : ℕ). ordered names n none 0 (entries a) >> later (length (a .lines)) (items names b)) (sym rows-first)
 
-  pub rows-whole : rowsRight names (a .rows) ≡ true → rowsRight names (b .rows) ≡ true → r + rowCount names (b .rows) ≤ 4294967296 → rowsRight names (a .rows ++ b .rows) ≡ true
+  rows-whole : rowsRight names (a .rows) ≡ true → rowsRight names (b .rows) ≡ true → r + rowCount names (b .rows) ≤ 4294967296 → rowsRight names (a .rows ++ b .rows) ≡ true
   rows-whole p q few =
       let ga = rows-gives names (a .rows) p in
       let gb = rows-gives names (b .rows) q in
       rows-from names (a .rows ++ b .rows) (whole-all ∙ gb .0) (omega (arith, rows-all)) (bits-append (a .rows) (b .rows) ∙ rw (ga .2) (gb .2))
 
   -- Where neither part is refused 13 or 14, and there are not too many rows in all: the whole is refused as the first part is, or as the second is, further on.
-  pub judged-together : rowed names (a .rows) ≡ given tt → alike b ≡ true → rowed names (b .rows) ≡ given tt → r + rowCount names (b .rows) ≤ 4294967296
+  judged-together : rowed names (a .rows) ≡ given tt → alike b ≡ true → rowed names (b .rows) ≡ given tt → r + rowCount names (b .rows) ≤ 4294967296
       → judged names (together r a b) ≡ (judged names a >> later (length (a .lines)) (judged names b))
   judged-together p q s few =
       let ra = need-yes (rowsRight names (a .rows)) 14 0 p in
@@ -191,7 +191,7 @@ module _ (names r : ℕ) (named : 0 < names) (a b : LineLists) (fit : Leads name
   -- ---- (3) the room
 
   -- one more than the parts' if both have an odd number of crossings
-  pub room-together : roomFor names (together r a b) ≡ roomFor names a + roomFor names b + (length (a .lines) % 2 + length (b .lines) % 2) / 2
+  room-together : roomFor names (together r a b) ≡ roomFor names a + roomFor names b + (length (a .lines) % 2 + length (b .lines) % 2) / 2
   room-together = omega (arith, rows-all, rows-first, lines-long)
 
   -- After the first part's walls there is still the room that the second part asks for.

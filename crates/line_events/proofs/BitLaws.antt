@@ -3,12 +3,12 @@ use Prim.Native.Nat.{ℕ, suc, _+_, _-_, _*_, _/_, _%_, _^_, _≤_}
 use native.Mathlib.Numerals.{add-one}
 use native.Mathlib.Omega.{arith}
 use mathlib.Core.Path.{_≡_, refl, ap, _∙_}
-use mathlib.Core.Bool.{Bool, true, false, not, _&&_}
+use mathlib.Core.Bool.{Bool, true, false, not, _&&_, or-false}
 use lib.Bits.{bitAnd, bitOr, bitXor}
 use Rattle.formula.specs.Formula.{exclusive, meaning}
-use Rattle.line_bits.specs.Words.{digit, bit}
+use Rattle.word_bits.specs.Words.{digit, bit}
 use Rattle.line_events.specs.Noted.{oneIf, GoesOn, Before, FirstOn, BitOf}
-use Rattle.line_bits.proofs.Digits.{bit-and, bit-or, bit-xor, bit-ones, bit-none, bit-first, bit-moved, bit-shift, bit-past, shift-bit, or-none}
+use Rattle.word_bits.proofs.Digits.{bit-and, bit-or, bit-xor, bit-ones, bit-none, bit-first, bit-moved, bit-shift, bit-past, shift-bit}
 
 pub goes-on : (w y : ℕ) → GoesOn w y (bitAnd w (bitXor w y))
 goes-on w y = record { says = λ b. bit-and w (bitXor w y) b ∙ ap (λ (x : Bool). bit w b && x) (bit-xor w y b) ∙ by (bit w b) (bit y b) }
@@ -37,7 +37,7 @@ metal-before w y g h l metal on is same =
       first = bit-or (g * 2 ^ 1 % 2 ^ 64) (oneIf metal) 0 ∙ rw (bit-first g) (one-first metal);
       next = λ b lt.
           rw (add-one b)
-          (bit-or (g * 2 ^ 1 % 2 ^ 64) (oneIf metal) (suc b) ∙ rw (bit-moved g b (omega arith), one-above metal b) (or-none (bit g b)) ∙ on .says b);
+          (bit-or (g * 2 ^ 1 % 2 ^ 64) (oneIf metal) (suc b) ∙ rw (bit-moved g b (omega arith), one-above metal b) (or-false (bit g b)) ∙ on .says b);
     })
 
 pub first-on : (m : ℕ) → m ≤ 64 → FirstOn m ((2 ^ 64 - 1) / 2 ^ (64 - m))

@@ -1,5 +1,5 @@
 pub mod BitLaws
 mod EndLaws
 pub mod ListedLaws
-pub mod MarkedLaws
+pub mod SaidLaws
 mod AloneLaws

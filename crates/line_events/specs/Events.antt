@@ -2,15 +2,14 @@
 use Prim.Native.Nat.{ℕ, zero, suc, _+_}
 use mathlib.Core.Bool.{Bool, true, false, not, _&&_, cond, Bool·beq}
 use mathlib.Core.List.{List, [], _∷_, _++_}
-use lib.Dec.{eqb}
 use lib.IntN.{ℤ}
 use lib.ListN.{getD}
 use Rattle.lines.specs.AtIndex.{groupEndsAt}
-use Rattle.line_lists.specs.Block.{columns}
+use Rattle.line_lists.specs.Block.{columns, isStart}
 
 -- All that stands at the position of column j has acted, where the block's first crossing is a: a line's start stands alone.
 unfoldable pub endsIn : List ℕ → List ℤ → ℕ → List ℕ → ℕ → Bool
-endsIn ls ps a cols j = cond (eqb (getD cols j 0) 65535) true (groupEndsAt ls ps (a + getD cols j 0))
+endsIn ls ps a cols j = cond (isStart cols j) true (groupEndsAt ls ps (a + getD cols j 0))
 
 -- What there is after a column, with `metal` before it: what its bit says, once all that stands there has acted.
 abbrev pub settled : Bool → Bool → Bool → Bool

@@ -7,7 +7,7 @@ use lib.Dec.{eqb}
 use lib.IntN.{ℤ, pos}
 use lib.ListN.{length, take, getD}
 use lib.Signed.{ltZ}
-use Rattle.line_bits.specs.Words.{bit}
+use Rattle.word_bits.specs.Words.{bit}
 use Rattle.line_lists.specs.Block.{columns}
 use Rattle.line_events.specs.Events.{metalAfter, eventsAfter}
 use Rattle.line_events.specs.declared.Found.{Found}
@@ -77,9 +77,9 @@ abbrev pub someIf : Bool → ℕ → List ℕ
 someIf holds v = cond holds (v ∷ []) []
 
 -- the events of the first columns of word k that two words say: where metal changes, and where it goes on past a line's end
-unfoldable pub markedEvents : ℕ → ℕ → ℕ → ℕ → List ℕ
-markedEvents changes opens k zero = []
-markedEvents changes opens k (suc b) = markedEvents changes opens k b ++ (someIf (bit changes b) (64 * k + b) ++ someIf (bit opens b) (columns + (64 * k + b)))
+unfoldable pub saidEvents : ℕ → ℕ → ℕ → ℕ → List ℕ
+saidEvents changes opens k zero = []
+saidEvents changes opens k (suc b) = saidEvents changes opens k b ++ (someIf (bit changes b) (64 * k + b) ++ someIf (bit opens b) (columns + (64 * k + b)))
 
 -- word k of a block, before e: w with line ends y, where each column stands alone
 pub record WordAlone (ends bits last : ℕ → Bool) (w y k e : ℕ) : Type 0 where

@@ -8,9 +8,9 @@ ghost use Prim.Native.Nat.{_+_, _*_, _≤_, _<_};
 ghost use lib.Dec.{eqb};
 ghost use lib.ListN.{length};
 ghost use Rattle.lines.specs.AtIndex.{groupEndsAt};
-ghost use Rattle.line_bits.specs.Words.{bit};
+ghost use Rattle.word_bits.specs.Words.{bit};
 ghost use Rattle.line_lists.specs.Block.{wide, columns};
-ghost use Rattle.line_events.specs.Noted.{NoteRoom, oneIf, risesAt, AllHold, GoesOn, Before, FirstOn, BitOf, someIf, markedEvents, RoomFrom, SweptAlone, Noted, WordPart};
+ghost use Rattle.line_events.specs.Noted.{NoteRoom, oneIf, risesAt, AllHold, GoesOn, Before, FirstOn, BitOf, someIf, saidEvents, RoomFrom, SweptAlone, Noted, WordPart};
 
 // Whether there is metal after the columns gone through, and how many events they have.
 pub struct Found {
@@ -136,15 +136,15 @@ fn step_alone(
 }
 
 // The events of word k, which two words say: where metal changes, and where it goes on past a line's end.
-fn note_marked(changes: u64, opens: u64, k: usize, events: &mut [u16; EVENTS], count: u16) -> u16
+fn note_said(changes: u64, opens: u64, k: usize, events: &mut [u16; EVENTS], count: u16) -> u16
     requires { ⌜ (k < wide) × RoomFrom (64 * k) (now events) count ⌝ }
-    ensures { λ r. ⌜ Noted (markedEvents changes opens k 64) count (now (events .entry)) r (now (events .exit)) ⌝ }
+    ensures { λ r. ⌜ Noted (saidEvents changes opens k 64) count (now (events .entry)) r (now (events .exit)) ⌝ }
 {
     let mut d = changes | opens;
     let mut n = count;
     while 0 < d {
-        n = step_alone(changes, opens, k, line_bits::lowest(d), events, n);
-        d = line_bits::others(d);
+        n = step_alone(changes, opens, k, word_bits::lowest(d), events, n);
+        d = word_bits::others(d);
     }
     n
 }
@@ -152,26 +152,26 @@ fn note_marked(changes: u64, opens: u64, k: usize, events: &mut [u16; EVENTS], c
 // The same where none goes on past a line's end: each bit is an event.
 fn note_changes(changes: u64, k: usize, events: &mut [u16; EVENTS], count: u16) -> u16
     requires { ⌜ (k < wide) × RoomFrom (64 * k) (now events) count ⌝ }
-    ensures { λ r. ⌜ Noted (markedEvents changes 0 k 64) count (now (events .entry)) r (now (events .exit)) ⌝ }
+    ensures { λ r. ⌜ Noted (saidEvents changes 0 k 64) count (now (events .entry)) r (now (events .exit)) ⌝ }
 {
     let mut d = changes;
     let mut n = basics::wide(count);
     while 0 < d {
-        events[n] = basics::narrow(64 * k + line_bits::lowest(d));
+        events[n] = basics::narrow(64 * k + word_bits::lowest(d));
         n += 1;
-        d = line_bits::others(d);
+        d = word_bits::others(d);
     }
     basics::narrow(n)
 }
 
 fn note_word(changes: u64, opens: u64, k: usize, events: &mut [u16; EVENTS], count: u16) -> u16
     requires { ⌜ (k < wide) × RoomFrom (64 * k) (now events) count ⌝ }
-    ensures { λ r. ⌜ Noted (markedEvents changes opens k 64) count (now (events .entry)) r (now (events .exit)) ⌝ }
+    ensures { λ r. ⌜ Noted (saidEvents changes opens k 64) count (now (events .entry)) r (now (events .exit)) ⌝ }
 {
     if opens == 0 {
         return note_changes(changes, k, events, count);
     }
-    note_marked(changes, opens, k, events, count)
+    note_said(changes, opens, k, events, count)
 }
 
 pub fn is_on(w: u64, b: usize) -> bool
@@ -206,5 +206,5 @@ pub fn sweep_alone(
 // Whether more than three columns of a word may be events: then it pays to look at all of its crossings.
 pub fn many_noisy(w: u64, y: u64, metal: bool) -> bool {
     let opens = w & y;
-    line_bits::others(line_bits::others(line_bits::others(w ^ before(w, y, metal) | opens))) != 0
+    word_bits::others(word_bits::others(word_bits::others(w ^ before(w, y, metal) | opens))) != 0
 }

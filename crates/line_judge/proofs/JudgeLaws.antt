@@ -20,9 +20,9 @@ use Rattle.line_lists.specs.Block.{columns}
 use Rattle.line_words.specs.Stretches.{StandFor}
 use Rattle.line_words.specs.declared.Arranged.{Arranged}
 use Rattle.line_blocks.specs.Blocks.{Sized, leftOf, PassingAt, Going, CanPass}
-use Rattle.line_blocks.proofs.PassLaws.{going-start, passing-start, going-ask, passing-end, verdict-told}
+use Rattle.line_blocks.proofs.PassLaws.{going-start, sized-start, passing-start, going-ask, passing-end, verdict-told}
 use Rattle.line_writing.specs.Writing.{openOf, Put, HasRoom}
-use Rattle.line_blocks.specs.Steps.{StepAsk, StepDone, NothingDone}
+use Rattle.line_blocks.specs.Walls.{StepAsk, StepDone, NothingDone}
 use Rattle.line_blocks.specs.declared.Progress.{Progress}
 use Rattle.line_writing.proofs.ListLaws.{put-same}
 use Rattle.line_opinion.specs.Judging.{Entry, entries, bare, TheirLists, theirLists, theirs, opinion, opinionFrom, judgement}
@@ -31,7 +31,7 @@ use Rattle.line_opinion.specs.declared.Eaten.{Eaten}
 use Rattle.line_opinion.specs.declared.Eaten.the-variants as eaten
 use Rattle.line_opinion.proofs.EatLaws.{opinion-over, opinion-done}
 use Rattle.line_opinion.proofs.AllLaws.{ate-none, ate-more}
-use Rattle.line_judge.specs.Blocks.{afresh, OpinionFound, OpinionGiven, JudgeDone}
+use Rattle.line_judge.specs.Blocks.{OpinionFound, OpinionGiven, JudgeDone}
 use Rattle.line_judge.specs.declared.TheirAnswer.{TheirAnswer}
 use Rattle.line_judge.specs.declared.TheirAnswer.the-variants.{Right, Wrong, Refused}
 
@@ -54,6 +54,10 @@ put-ours {new} {now} put room =
     first : {A : Type 0} (f : Wall → A) (l : List A) → length new ≤ length l → sets l 0 (map f new) ≡ map f new ++ drop (length new) l
     first f l h = let z : 0 + length (map f new) ≡ length new = omega (arith, length-map new f) in sets-eq (map f new) l 0 (omega (arith, length-map new f)) ∙ rw z
 
+-- the pass as it stands, its next wall the first of a list
+abbrev afresh : Progress → Progress
+afresh p = record { pass = p .pass; run = record { metal = p .run .metal; from = p .run .from; count = 0 } }
+
 -- of a formula's walls those found are given by their list before entry next
 pub record PassOf (f : Formula) (names : ℕ) (c : LineLists) (t : TheirLists) (words : List ℕ) (p : Progress) (next : ℕ) : Type 0 where
   pub done : List Wall
@@ -69,17 +73,17 @@ pub record Own (own : AnswerLists) : Type 0 where
   pub endShapes : length (own .endShapes) ≡ columns
 
 -- what the loop keeps: no entry was wrong
-pub record Looping (stretches links : List ℕ) (arranged : Arranged) (names : ℕ) (c : LineLists) (t : TheirLists) (count : ℕ) (words₀ words cols starts lasts events : List ℕ) (p : Progress) (next : ℕ) (own : AnswerLists) : Type 0 where
-  pub going : Going stretches links arranged names c words (p .pass)
-  pub passed : (f : Formula) → StandFor (postfix f) stretches links arranged → Over names f → PassOf f names c t words p next
+pub record Looping (table : List ℕ) (arranged : Arranged) (names : ℕ) (c : LineLists) (t : TheirLists) (count : ℕ) (words₀ words cols lasts events : List ℕ) (p : Progress) (next : ℕ) (own : AnswerLists) : Type 0 where
+  pub going : Going table arranged names c words (p .pass)
+  pub passed : (f : Formula) → StandFor (postfix f) table arranged → Over names f → PassOf f names c t words p next
   pub same : SameLength t
   pub own-sized : Own own
   pub kept : length words ≡ length words₀
-  pub sized : Sized cols starts lasts events
+  pub sized : Sized cols lasts events (p .pass .numbered)
   pub counted : count ≡ rowCount names (c .rows)
 
-pub looping-start : {stretches links : List ℕ} {arranged : Arranged} {names : ℕ} {air : Bool} {c : LineLists} {words : List ℕ} {t : TheirLists} → CanPass stretches links arranged names air c words → SameLength t → {count : ℕ} → count ≡ rowCount names (c .rows) → {p : Progress} → NothingDone names (c .rows) p → {own : AnswerLists} → Own own
-    → Looping stretches links arranged names c t count words words (replicate columns 0) (replicate columns 0) (replicate 8 0) (replicate (2 * columns) 0) p 0 own
+pub looping-start : {table : List ℕ} {arranged : Arranged} {names : ℕ} {air : Bool} {c : LineLists} {words : List ℕ} {t : TheirLists} → CanPass table arranged names air c words → SameLength t → {count : ℕ} → count ≡ rowCount names (c .rows) → {p : Progress} → NothingDone names (c .rows) p → {own : AnswerLists} → Own own
+    → Looping table arranged names c t count words words (replicate columns 0) (replicate 8 0) (replicate (2 * columns) 0) p 0 own
 looping-start can same counted b own =
     record {
       going = going-start can (b .begun);
@@ -87,16 +91,16 @@ looping-start can same counted b own =
       same = same;
       own-sized = own;
       kept = refl;
-      sized = record { plan = record { cols = refl; starts = refl; lasts = refl }; events-sized = refl };
+      sized = sized-start can (b .begun);
       counted = counted;
     }
 
-module _ {stretches links : List ℕ} {arranged : Arranged} {names : ℕ} {c : LineLists} {t : TheirLists} {count : ℕ} {words₀ words cols starts lasts events : List ℕ} {p : Progress} {next : ℕ} {own : AnswerLists} (l : Looping stretches links arranged names c t count words₀ words cols starts lasts events p next own) where
-  pub looping-sized : Sized cols starts lasts events
+module _ {table : List ℕ} {arranged : Arranged} {names : ℕ} {c : LineLists} {t : TheirLists} {count : ℕ} {words₀ words cols lasts events : List ℕ} {p : Progress} {next : ℕ} {own : AnswerLists} (l : Looping table arranged names c t count words₀ words cols lasts events p next own) where
+  pub looping-sized : Sized cols lasts events (p .pass .numbered)
   looping-sized = l .sized
 
-  module _ {q : Progress} (is-q : q ≡ afresh p) {words′ cols′ starts′ lasts′ events′ : List ℕ} {p′ : Progress} {after : AnswerLists} (d : StepDone stretches links arranged names c words q own words′ cols′ starts′ lasts′ events′ p′ after) where
-    e : StepDone stretches links arranged names c words (afresh p) own words′ cols′ starts′ lasts′ events′ p′ after
+  module _ {q : Progress} (is-q : q ≡ afresh p) {words′ cols′ lasts′ events′ : List ℕ} {p′ : Progress} {after : AnswerLists} (d : StepDone table arranged names c words q own words′ cols′ lasts′ events′ p′ after) where
+    e : StepDone table arranged names c words (afresh p) own words′ cols′ lasts′ events′ p′ after
     e = rw is-q at d
 
     counts : p′ .run .count ≡ length (e .new)
@@ -123,10 +127,10 @@ module _ {stretches links : List ℕ} {arranged : Arranged} {names : ℕ} {c : L
       compared : Ate t next (map bare (e .new)) r
       compared = rw (put-ours (e .put) (rw counts at (e .room))) at (rw counts at ate)
 
-      so-far : (f : Formula) (st : StandFor (postfix f) stretches links arranged) (o : Over names f) → Ate t 0 (map bare (l .passed f st o .done ++ e .new)) r
+      so-far : (f : Formula) (st : StandFor (postfix f) table arranged) (o : Over names f) → Ate t 0 (map bare (l .passed f st o .done ++ e .new)) r
       so-far f st o = let q = l .passed f st o in rw (bare-app (q .done) (e .new)) (ate-more (q .whole) compared)
 
-      pub looping-more : {next′ : ℕ} → r ≡ eaten.Whole next′ → Looping stretches links arranged names c t count words₀ words′ cols′ starts′ lasts′ events′ p′ next′ after
+      pub looping-more : {next′ : ℕ} → r ≡ eaten.Whole next′ → Looping table arranged names c t count words₀ words′ cols′ lasts′ events′ p′ next′ after
       looping-more is =
           record {
             going = e .going;
@@ -138,7 +142,7 @@ module _ {stretches links : List ℕ} {arranged : Arranged} {names : ℕ} {c : L
             counted = l .counted;
           }
 
-      pub looping-wrong : {index : ℕ} → r ≡ eaten.Wrong index → OpinionFound stretches links arranged names c t (Wrong index)
+      pub looping-wrong : {index : ℕ} → r ≡ eaten.Wrong index → OpinionFound table arranged names c t (Wrong index)
       looping-wrong {index} is =
           record {
             is = λ f st o.
@@ -149,7 +153,7 @@ module _ {stretches links : List ℕ} {arranged : Arranged} {names : ℕ} {c : L
           }
 
   module _ {a : Bool} (is : a ≡ (ltb (p .pass .cursor .i) (length (c .lines)) || ltb (p .pass .cursor .q) count)) where
-    pub looping-ask : {q : Progress} → q ≡ afresh p → a ≡ true → StepAsk stretches links arranged names c words q own
+    pub looping-ask : {q : Progress} → q ≡ afresh p → a ≡ true → StepAsk table arranged names c words q own
     looping-ask is-q yes-left =
         let b = going-ask (l .going) count (l .counted) a is yes-left in
         let s = b .going .standing in
@@ -165,20 +169,20 @@ module _ {stretches links : List ℕ} {arranged : Arranged} {names : ℕ} {c : L
 
     module _ (none-left : a ≡ false) where
       -- our walls are all given
-      over : (f : Formula) → StandFor (postfix f) stretches links arranged → Over names f → opinion (walls f names c) (theirs t) ≡ opinionFrom next [] (drop next (theirs t))
+      over : (f : Formula) → StandFor (postfix f) table arranged → Over names f → opinion (walls f names c) (theirs t) ≡ opinionFrom next [] (drop next (theirs t))
       over f st o =
           let q = l .passed f st o in
           ap (λ (ws : List Entry). opinionFrom 0 ws (theirs t)) (ap (map bare) (passing-end (l .going) count (l .counted) a is f (openOf (p .run)) (q .done) none-left (q .passing)) ∙ sym (append-nil (map bare (q .done))))
           ∙ q .whole .to []
 
-      pub looping-over : next < length (t .lines) → OpinionFound stretches links arranged names c t (Wrong next)
+      pub looping-over : next < length (t .lines) → OpinionFound table arranged names c t (Wrong next)
       looping-over h = record { is = λ f st o. ap given (sym (over f st o ∙ opinion-over t (l .same) next h)) }
 
-      pub looping-right : length (t .lines) ≤ next → OpinionFound stretches links arranged names c t Right
+      pub looping-right : length (t .lines) ≤ next → OpinionFound table arranged names c t Right
       looping-right h = record { is = λ f st o. ap given (sym (over f st o ∙ opinion-done t (l .same) next h)) }
 
-pub opinion-given : {codes : List ℕ} {n names : ℕ} {c : LineLists} {t : TheirLists} {r : TheirAnswer} {stretches links : List ℕ} {arranged : Arranged} → StandFor (take n codes) stretches links arranged → OpinionFound stretches links arranged names c t r
-    → OpinionGiven codes n names c t r
+pub opinion-given : {codes : List ℕ} {names : ℕ} {c : LineLists} {t : TheirLists} {r : TheirAnswer} {table : List ℕ} {arranged : Arranged} → StandFor codes table arranged → OpinionFound table arranged names c t r
+    → OpinionGiven codes names c t r
 opinion-given stand w = record { is = λ f q o. w .is f (rw q at stand) o }
 
 -- ---- the judgement
@@ -201,18 +205,18 @@ module _ (f : Formula) (names : ℕ) (c : LineLists) (t : TheirLists) where
     unfolding judgement
     lines-good e = rw (eq-eqb (length (t .starts)) (length (t .lines)) (same .starts), eq-eqb (length (t .ends)) (length (t .lines)) (same .ends), e)
 
-module _ {codes : List ℕ} {n names : ℕ} {c : LineLists} {ls : List ℕ} {ps qs : List ℤ} where
-  pub uneven-starts : (length ps ≡ length ls → ⊥) → JudgeDone codes n names c (theirLists ls ps qs) (Refused 13 0)
+module _ {codes : List ℕ} {names : ℕ} {c : LineLists} {ls : List ℕ} {ps qs : List ℤ} where
+  pub uneven-starts : (length ps ≡ length ls → ⊥) → JudgeDone codes names c (theirLists ls ps qs) (Refused 13 0)
   uneven-starts h = record { answered-so = λ f q o. starts-uneven f names c (theirLists ls ps qs) h }
 
-  pub uneven-ends : length ps ≡ length ls → (length qs ≡ length ls → ⊥) → JudgeDone codes n names c (theirLists ls ps qs) (Refused 13 0)
+  pub uneven-ends : length ps ≡ length ls → (length qs ≡ length ls → ⊥) → JudgeDone codes names c (theirLists ls ps qs) (Refused 13 0)
   uneven-ends starts h = record { answered-so = λ f q o. ends-uneven f names c (theirLists ls ps qs) starts h }
 
   module _ (starts : length ps ≡ length ls) (ends : length qs ≡ length ls) {v : Verdict} (j : Judged names c v) where
-    pub judge-refused : {number place : ℕ} → v ≡ verdicts.Refused number place → JudgeDone codes n names c (theirLists ls ps qs) (Refused number place)
+    pub judge-refused : {number place : ℕ} → v ≡ verdicts.Refused number place → JudgeDone codes names c (theirLists ls ps qs) (Refused number place)
     judge-refused {number} {place} is = record { answered-so = λ f q o. lines-refused f names c (theirLists ls ps qs) (record { starts = starts; ends = ends }) number place (verdict-told (j .is) is) }
 
-    pub judge-given : {air : Bool} {r : TheirAnswer} → v ≡ verdicts.Fine air → OpinionGiven codes n names c (theirLists ls ps qs) r → JudgeDone codes n names c (theirLists ls ps qs) r
+    pub judge-given : {air : Bool} {r : TheirAnswer} → v ≡ verdicts.Fine air → OpinionGiven codes names c (theirLists ls ps qs) r → JudgeDone codes names c (theirLists ls ps qs) r
     judge-given is g = record { answered-so = λ f q o. g .is f q o ∙ lines-good f names c (theirLists ls ps qs) (record { starts = starts; ends = ends }) (verdict-told (j .is) is) }
 
 pub even : {ls : List ℕ} {ps qs : List ℤ} → length ps ≡ length ls → length qs ≡ length ls → SameLength (theirLists ls ps qs)

@@ -2,13 +2,11 @@
 use Prim.Native.Nat.{ℕ}
 use mathlib.Core.Path.{_≡_}
 use mathlib.Core.List.{List}
-use lib.ListN.{take}
 use Rattle.outcome.specs.Outcome.{Outcome, given, refused}
 use Rattle.formula.specs.Formula.{Formula, postfix, Over}
 use Rattle.lines.specs.Lines.{LineLists, walls}
 use Rattle.line_words.specs.Stretches.{StandFor}
 use Rattle.line_words.specs.declared.Arranged.{Arranged}
-use Rattle.line_blocks.specs.declared.Progress.{Progress}
 use Rattle.line_opinion.specs.Judging.{TheirLists, theirs, Opinion, right, wrongAt, opinion, judgement}
 use Rattle.line_judge.specs.declared.TheirAnswer.{TheirAnswer}
 use Rattle.line_judge.specs.declared.TheirAnswer.the-variants.{Right, Wrong, Refused}
@@ -19,18 +17,14 @@ answered Right = given right
 answered (Wrong index) = given (wrongAt index)
 answered (Refused number place) = refused number place
 
--- the pass as it stands, its next wall the first of a list
-abbrev pub afresh : Progress → Progress
-afresh p = record { pass = p .pass; run = record { metal = p .run .metal; from = p .run .from; count = 0 } }
-
--- the opinion against the walls of whatever formula the stretches stand for
-pub record OpinionFound (stretches links : List ℕ) (arranged : Arranged) (names : ℕ) (c : LineLists) (t : TheirLists) (r : TheirAnswer) : Type 0 where
-  pub is : (f : Formula) → StandFor (postfix f) stretches links arranged → Over names f → answered r ≡ given (opinion (walls f names c) (theirs t))
+-- the opinion against the walls of whatever formula the table stands for
+pub record OpinionFound (table : List ℕ) (arranged : Arranged) (names : ℕ) (c : LineLists) (t : TheirLists) (r : TheirAnswer) : Type 0 where
+  pub is : (f : Formula) → StandFor (postfix f) table arranged → Over names f → answered r ≡ given (opinion (walls f names c) (theirs t))
 
 -- of whatever formula the codes are
-pub record OpinionGiven (codes : List ℕ) (n names : ℕ) (c : LineLists) (t : TheirLists) (r : TheirAnswer) : Type 0 where
-  pub is : (f : Formula) → take n codes ≡ postfix f → Over names f → answered r ≡ given (opinion (walls f names c) (theirs t))
+pub record OpinionGiven (codes : List ℕ) (names : ℕ) (c : LineLists) (t : TheirLists) (r : TheirAnswer) : Type 0 where
+  pub is : (f : Formula) → codes ≡ postfix f → Over names f → answered r ≡ given (opinion (walls f names c) (theirs t))
 
 -- the line job of judging
-pub record JudgeDone (codes : List ℕ) (n names : ℕ) (c : LineLists) (t : TheirLists) (r : TheirAnswer) : Type 0 where
-  pub answered-so : (f : Formula) → take n codes ≡ postfix f → Over names f → answered r ≡ judgement f names c t
+pub record JudgeDone (codes : List ℕ) (names : ℕ) (c : LineLists) (t : TheirLists) (r : TheirAnswer) : Type 0 where
+  pub answered-so : (f : Formula) → codes ≡ postfix f → Over names f → answered r ≡ judgement f names c t

@@ -4,10 +4,11 @@ use line_lists::EVENTS;
 use line_lists::W;
 ghost use mathlib.Core.Path.{_≡_};
 ghost use Rattle.lines.specs.Lines.{lineLists, rowCount};
-ghost use Rattle.line_blocks.specs.Blocks.{CanPass, FewCodes, GoodLists};
+ghost use Rattle.lines.specs.AtIndex.{Accepted};
+ghost use Rattle.line_blocks.specs.Blocks.{CanPass, FewCodes, SaidOf};
 ghost use Rattle.line_opinion.specs.Judging.{theirLists};
 ghost use Rattle.line_opinion.specs.Eating.{SameLength};
-ghost use Rattle.line_judge.specs.Blocks.{afresh, OpinionFound, OpinionGiven, JudgeDone};
+ghost use Rattle.line_judge.specs.Blocks.{OpinionFound, OpinionGiven, JudgeDone};
 
 // Right, or the index of the first entry after which no right list could begin that way, or a refusal.
 pub enum TheirAnswer {
@@ -16,27 +17,9 @@ pub enum TheirAnswer {
     Refused(u8, usize),
 }
 
-// The pass as it stands, its next wall the first of a list.
-fn afresh(p: line_blocks::Progress) -> line_blocks::Progress
-    ensures { λ r. ⌜ r ≡ afresh p ⌝ }
-{
-    let pass = p.pass;
-    let run = p.run;
-    let from = run.from;
-    line_blocks::Progress {
-        pass,
-        run: line_writing::writing::Course {
-            metal: run.metal,
-            from,
-            count: 0,
-        },
-    }
-}
-
 // Their list against the walls of accepted lists, block by block. It ends with the block of the first wrong entry; after our last wall there may be no entry more.
 fn blocks(
-    stretches: &[u64; 1024],
-    links: &[u32],
+    table: &[u32],
     call: line_blocks::Call,
     words: &mut [u64],
     rows: &[u8],
@@ -47,11 +30,10 @@ fn blocks(
     ts: &[i32],
     te: &[i32],
 ) -> TheirAnswer
-    requires { ⌜ CanPass (now stretches) (now links) (call .arranged) (call .names) (call .air) (lineLists (now rows) (now line) (now at) (now shape)) (now words) × SameLength (theirLists (now tl) (now ts) (now te)) × (call .count ≡ rowCount (call .names) (now rows)) ⌝ }
-    ensures { λ r. ⌜ OpinionFound (now (stretches .entry)) (now (links .entry)) (call .arranged) (call .names) (lineLists (now (rows .entry)) (now (line .entry)) (now (at .entry)) (now (shape .entry))) (theirLists (now (tl .entry)) (now (ts .entry)) (now (te .entry))) r ⌝ }
+    requires { ⌜ CanPass (now table) (call .arranged) (call .names) (call .air) (lineLists (now rows) (now line) (now at) (now shape)) (now words) × SameLength (theirLists (now tl) (now ts) (now te)) × (call .count ≡ rowCount (call .names) (now rows)) ⌝ }
+    ensures { λ r. ⌜ OpinionFound (now (table .entry)) (call .arranged) (call .names) (lineLists (now (rows .entry)) (now (line .entry)) (now (at .entry)) (now (shape .entry))) (theirLists (now (tl .entry)) (now (ts .entry)) (now (te .entry))) r ⌝ }
 {
-    let mut cols = [0u16; COLUMNS];
-    let mut starts = [0u32; COLUMNS];
+    let mut cols = [0usize; COLUMNS];
     let mut lasts = [0u64; W];
     let mut events = [0u16; EVENTS];
     let mut wl = [0u32; COLUMNS];
@@ -62,10 +44,9 @@ fn blocks(
     let mut p = line_blocks::begin(rows, call);
     let mut next: usize = 0;
     while line_blocks::is_left(p, line.len(), call.count) {
-        p = afresh(p);
+        p.run.count = 0;
         p = line_blocks::step(
-            stretches,
-            links,
+            table,
             call,
             words,
             rows,
@@ -73,7 +54,6 @@ fn blocks(
             at,
             shape,
             &mut cols,
-            &mut starts,
             &mut lasts,
             &mut events,
             p,
@@ -103,8 +83,7 @@ fn blocks(
 
 // The opinion of accepted lists. Only a formula whose results wait in many rows pays for clearing them.
 fn opine(
-    codes: &[u16; 2048],
-    n: usize,
+    codes: &[u16],
     names: usize,
     air: bool,
     rows: &[u8],
@@ -115,12 +94,11 @@ fn opine(
     ts: &[i32],
     te: &[i32],
 ) -> TheirAnswer
-    requires { ⌜ FewCodes (now codes) n names × GoodLists names air (lineLists (now rows) (now line) (now at) (now shape)) × SameLength (theirLists (now tl) (now ts) (now te)) ⌝ }
-    ensures { λ r. ⌜ OpinionGiven (now (codes .entry)) n names (lineLists (now (rows .entry)) (now (line .entry)) (now (at .entry)) (now (shape .entry))) (theirLists (now (tl .entry)) (now (ts .entry)) (now (te .entry))) r ⌝ }
+    requires { ⌜ FewCodes (now codes) names × Accepted names (lineLists (now rows) (now line) (now at) (now shape)) × SaidOf air (now rows) × SameLength (theirLists (now tl) (now ts) (now te)) ⌝ }
+    ensures { λ r. ⌜ OpinionGiven (now (codes .entry)) names (lineLists (now (rows .entry)) (now (line .entry)) (now (at .entry)) (now (shape .entry))) (theirLists (now (tl .entry)) (now (ts .entry)) (now (te .entry))) r ⌝ }
 {
-    let mut stretches = [0u64; 1024];
-    let mut links = [0u32; 1024];
-    let arranged = line_words::arrange(codes, n, &mut stretches, &mut links);
+    let mut table = [0u32; line_words::TABLE];
+    let arranged = line_words::arrange(codes, &mut table);
     let count = rows.len() / names;
     let call = line_blocks::Call {
         arranged,
@@ -130,40 +108,15 @@ fn opine(
     };
     if arranged.rows <= 16 {
         let mut words = [0u64; line_words::FEW];
-        return blocks(
-            &stretches,
-            &links,
-            call,
-            &mut words,
-            rows,
-            line,
-            at,
-            shape,
-            tl,
-            ts,
-            te,
-        );
+        return blocks(&table, call, &mut words, rows, line, at, shape, tl, ts, te);
     }
     let mut words = [0u64; line_words::MOST];
-    blocks(
-        &stretches,
-        &links,
-        call,
-        &mut words,
-        rows,
-        line,
-        at,
-        shape,
-        tl,
-        ts,
-        te,
-    )
+    blocks(&table, call, &mut words, rows, line, at, shape, tl, ts, te)
 }
 
-// The line job of judging, where the first n codes are the formula's in postfix order.
+// The line job of judging, where the codes are the formula's in postfix order.
 pub fn judge(
-    codes: &[u16; 2048],
-    n: usize,
+    codes: &[u16],
     names: usize,
     rows: &[u8],
     line: &[u32],
@@ -173,8 +126,8 @@ pub fn judge(
     ts: &[i32],
     te: &[i32],
 ) -> TheirAnswer
-    requires { ⌜ FewCodes (now codes) n names ⌝ }
-    ensures { λ r. ⌜ JudgeDone (now (codes .entry)) n names (lineLists (now (rows .entry)) (now (line .entry)) (now (at .entry)) (now (shape .entry))) (theirLists (now (tl .entry)) (now (ts .entry)) (now (te .entry))) r ⌝ }
+    requires { ⌜ FewCodes (now codes) names ⌝ }
+    ensures { λ r. ⌜ JudgeDone (now (codes .entry)) names (lineLists (now (rows .entry)) (now (line .entry)) (now (at .entry)) (now (shape .entry))) (theirLists (now (tl .entry)) (now (ts .entry)) (now (te .entry))) r ⌝ }
 {
     if ts.len() != tl.len() {
         return TheirAnswer::Refused(13, 0);
@@ -186,7 +139,7 @@ pub fn judge(
     match v {
         line_checking::Verdict::Refused(number, place) => TheirAnswer::Refused(number, place),
         line_checking::Verdict::Fine(air) => {
-            opine(codes, n, names, air, rows, line, at, shape, tl, ts, te)
+            opine(codes, names, air, rows, line, at, shape, tl, ts, te)
         }
     }
 }

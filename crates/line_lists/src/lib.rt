@@ -7,20 +7,27 @@ ghost use lib.ListN.{getD, length};
 ghost use lib.Signed.{ltZ, leZ};
 ghost use Rattle.line_lists.specs.Greatest.{Greatest};
 
-// The words of a row, and its columns.
+// The words of a row.
 pub const W: usize = 8;
 
+// The columns of a row. As a number, a column is a crossing, counted from the block's first one, or COLUMNS + l for the start of line l.
 pub const COLUMNS: usize = 64 * W;
 
 // Metal changes at a column, or goes on past it: at most two events a column.
 pub const EVENTS: usize = 2 * COLUMNS;
 
-// A line's start among the columns.
-pub const START: u16 = 65535;
-
 // A position by value: a signed number of a slice is not compared with a constant.
 pub struct Place {
     pub at: i32,
+}
+
+// A block: its first crossing, its number of columns, whether they are crossings alone, whether the first is on the line of the last one before it, and whether there is metal there.
+pub struct Part {
+    pub first: usize,
+    pub size: usize,
+    pub alone: bool,
+    pub onward: bool,
+    pub metal: bool,
 }
 
 // The position at i is below that at j.
@@ -56,11 +63,11 @@ pub fn one_if(is: bool) -> u32
 }
 
 // Crossing o of a block whose first crossing is a, of n crossings in all.
-pub fn crossing_at(a: usize, o: u16, n: usize) -> usize
+pub fn crossing_at(a: usize, o: usize, n: usize) -> usize
     requires { ⌜ a + o < n ⌝ }
     ensures { λ r. ⌜ (r ≡ a + o) × (r < n) ⌝ }
 {
-    a + basics::wide(o)
+    a + o
 }
 
 fn larger_byte(a: u8, b: u8) -> u8

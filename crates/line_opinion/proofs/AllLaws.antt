@@ -28,7 +28,7 @@ module _ {t : TheirLists} {xs : List Entry} {i : ℕ} where
       by (Wrong k) b = record { to = λ vs. apart t i xs ys vs ∙ a .to (ys ++ vs) ∙ b .to vs }
 
   -- what follows a wrong entry changes nothing
-  pub ate-wrong : {k : ℕ} → Ate t i xs (Wrong k) → (ys : List Entry) → Ate t i (xs ++ ys) (Wrong k)
+  ate-wrong : {k : ℕ} → Ate t i xs (Wrong k) → (ys : List Entry) → Ate t i (xs ++ ys) (Wrong k)
   ate-wrong a ys = record { to = λ vs. apart t i xs ys vs ∙ a .to (ys ++ vs) }
 
 -- the first k of n walls are whole before their entry j

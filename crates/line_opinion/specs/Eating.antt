@@ -27,7 +27,7 @@ pub record EntryThere (t : TheirLists) (j : ℕ) : Type 0 where
   pub end : j < length (t .ends)
 
 -- some walls of ours compared from their entry j on: they are whole before entry k, or no right list has entry k; whatever walls vs follow
-abbrev pub AteTo : TheirLists → ℕ → List Entry → Eaten → List Entry → Type 0
+abbrev AteTo : TheirLists → ℕ → List Entry → Eaten → List Entry → Type 0
 AteTo t j ours (Whole k) vs = opinionFrom j (ours ++ vs) (drop j (theirs t)) ≡ opinionFrom k vs (drop k (theirs t))
 AteTo t j ours (Wrong k) vs = opinionFrom j (ours ++ vs) (drop j (theirs t)) ≡ wrongAt k
 

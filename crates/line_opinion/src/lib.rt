@@ -55,7 +55,7 @@ fn fits_at(lines: &[u32], starts: &[i32], ends: &[i32], j: usize, v: Need) -> bo
 }
 
 // One wall of ours against their entries from `first` on.
-pub fn eat(lines: &[u32], starts: &[i32], ends: &[i32], first: usize, wall: Need) -> Eaten
+fn eat(lines: &[u32], starts: &[i32], ends: &[i32], first: usize, wall: Need) -> Eaten
     requires { ⌜ SameLength (theirLists (now lines) (now starts) (now ends)) ⌝ }
     ensures { λ r. ⌜ Ate (theirLists (now (lines .entry)) (now (starts .entry)) (now (ends .entry))) first (needed wall ∷ []) r ⌝ }
 {

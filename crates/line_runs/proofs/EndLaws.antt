@@ -2,18 +2,19 @@
 use Prim.Native.Nat.{ℕ, zero, suc, _+_, _-_, _*_, _/_, _%_, _^_, _<_, _≤_}
 use native.Mathlib.Omega.{arith}
 use mathlib.Core.Path.{_≡_, refl, sym, _∙_}
-use mathlib.Core.Bool.{Bool, true, false, not, _||_}
+use mathlib.Core.Bool.{Bool, true, false, not, _||_, or-false}
 use mathlib.Core.List.{List}
 use borrow.Author.Tests.{eqb-true, eqb-false, eq-eqb, ne-eqb, ltb-true, ltb-false}
 use lib.Bits.{bitOr}
 use lib.Dec.{eqb, ltb}
 use lib.ListN.{getD, length, set, length-set}
 use lib.Seq.{getD-set-same, getD-set-other}
-use Rattle.line_bits.specs.Words.{digit, bit}
+use Rattle.word_bits.specs.Words.{digit, bit}
 use Rattle.line_bits.specs.Bits.{Since}
-use Rattle.line_lists.specs.Block.{wide, columns, cell}
-use Rattle.line_bits.proofs.Digits.{bit-or, bit-none, or-none, first-bit, second-bit, one-bit}
-use Rattle.line_runs.specs.Runs.{overAt, turnsAway, endsLine, Ends, LineEnds, RunMarked, Numbered, CutTo}
+use Rattle.line_lists.specs.Block.{wide, columns, cell, SaidNumbered}
+use Rattle.word_bits.proofs.Digits.{bit-or, bit-none, first-bit, second-bit}
+use Rattle.word_bits.proofs.OneBit.{one-bit}
+use Rattle.line_runs.specs.Runs.{overAt, lastOfLine, endsLine, Ends, LineEnds, EndsNoted, Numbered, CutTo}
 
 -- ---- a line that is over
 
@@ -26,8 +27,8 @@ module _ (ls : List ℕ) (l i : ℕ) where
   unfolding overAt
   over-on w ne e = rw (ne-eqb i (length ls) ne, e)
 
-pub turned-away : (ls : List ℕ) (i : ℕ) → i + 1 < length ls → turnsAway ls i ≡ overAt ls (getD ls i 0) (i + 1)
-turned-away ls i h = over-on ls (getD ls i 0) (i + 1) (getD ls (i + 1) 0) (λ e. omega arith) refl
+pub last-is-over : (ls : List ℕ) (i : ℕ) → i + 1 < length ls → lastOfLine ls i ≡ overAt ls (getD ls i 0) (i + 1)
+last-is-over ls i h = over-on ls (getD ls i 0) (i + 1) (getD ls (i + 1) 0) (λ e. omega arith) refl
 
 -- ---- flags
 
@@ -37,10 +38,10 @@ pub record FlagsTo (ls : List ℕ) (i t w : ℕ) : Type 0 where
   pub within : t ≤ 64
   pub are : Ends ls i t w
 
--- the first k words of a run are marked
-pub record MarkedTo (ls : List ℕ) (i n : ℕ) (lasts : List ℕ) (k : ℕ) : Type 0 where
+-- the first k words of a run are noted
+pub record NotedTo (ls : List ℕ) (i n : ℕ) (lasts : List ℕ) (k : ℕ) : Type 0 where
   pub few : k ≤ wide
-  pub run : RunMarked ls i n lasts (64 * k)
+  pub run : EndsNoted ls i n lasts (64 * k)
 
 -- the first t of those that are left, none of which is the list's last
 pub record RestTo (ls : List ℕ) (i t w : ℕ) : Type 0 where
@@ -53,7 +54,7 @@ module _ (ls : List ℕ) where
   unfolding digit
   ends-one i ne = record { on = on; off = off }
     where
-      on : (t : ℕ) → t < 1 → bit 1 t ≡ turnsAway ls (i + t)
+      on : (t : ℕ) → t < 1 → bit 1 t ≡ lastOfLine ls (i + t)
       on t h = let z : t ≡ 0 = omega arith in let s : i + 0 ≡ i = omega arith in rw (z, s, ne-eqb (getD ls (i + 1) 0) (getD ls i 0) ne)
 
       off : (t : ℕ) → 1 ≤ t → t < 64 → bit 1 t ≡ false
@@ -70,10 +71,10 @@ module _ (ls : List ℕ) where
   ends-join : (i k m a b : ℕ) → k + m ≤ 64 → Ends ls i k a → Ends ls (i + k) m b → Ends ls i (k + m) (bitOr a (b * 2 ^ k % 18446744073709551616))
   ends-join i k m a b few x y = record { on = on; off = off }
     where
-      on : (t : ℕ) → t < k + m → bit (bitOr a (b * 2 ^ k % 2 ^ 64)) t ≡ turnsAway ls (i + t)
+      on : (t : ℕ) → t < k + m → bit (bitOr a (b * 2 ^ k % 2 ^ 64)) t ≡ lastOfLine ls (i + t)
       on t h = by (ltb t k) refl
         where
-          by : (u : Bool) → ltb t k ≡ u → bit (bitOr a (b * 2 ^ k % 2 ^ 64)) t ≡ turnsAway ls (i + t)
+          by : (u : Bool) → ltb t k ≡ u → bit (bitOr a (b * 2 ^ k % 2 ^ 64)) t ≡ lastOfLine ls (i + t)
           by true e = first-bit a b k t (omega arith) (λ l. absurd (omega (arith, ltb-true t k e))) ∙ x .on t (ltb-true t k e)
           by false e =
               let far : k ≤ t = ltb-false t k e in
@@ -107,7 +108,7 @@ module _ (ls : List ℕ) where
   -- ---- the lines' ends among 64 crossings
 
   pub flags-ends : (i w : ℕ) → Ends ls i 64 w → 64 < length ls - i → LineEnds ls i w
-  flags-ends i w e h = record { on = λ t k l. e .on t k ∙ turned-away ls (i + t) (omega arith) }
+  flags-ends i w e h = record { on = λ t k l. e .on t k ∙ last-is-over ls (i + t) (omega arith) }
 
   pub rest-none : (i : ℕ) → i < length ls → length ls ≤ i + 64 → RestTo ls i 0 0
   rest-none i h k = record { within = omega arith; near = k; are = ends-none i }
@@ -132,16 +133,16 @@ module _ (ls : List ℕ) where
           by true e = bit-or w (1 * 2 ^ t % 2 ^ 64) u ∙ rw (one-bit t u k, e) (or-yes (bit w u)) ∙ over-end ls (getD ls (i + u) 0) (i + u + 1) (omega (arith, eqb-true u t e, r .within))
           by false e =
               bit-or w (1 * 2 ^ t % 2 ^ 64) u
-              ∙ rw (one-bit t u k, e) (or-none (bit w u))
+              ∙ rw (one-bit t u k, e) (or-false (bit w u))
               ∙ r .are .on u (omega (arith, eqb-false u t e, r .within))
-              ∙ turned-away ls (i + u) (omega (arith, eqb-false u t e, r .within))
+              ∙ last-is-over ls (i + u) (omega (arith, eqb-false u t e, r .within))
 
   -- ---- the words of a block
 
-  pub run-none : (lasts : List ℕ) (i n : ℕ) → length lasts ≡ wide → MarkedTo ls i n lasts 0
+  pub run-none : (lasts : List ℕ) (i n : ℕ) → length lasts ≡ wide → NotedTo ls i n lasts 0
   run-none lasts i n e = record { few = omega arith; run = record { long = e; are = λ j h. absurd (omega arith) } }
 
-  pub run-more : (lasts : List ℕ) (i n k w : ℕ) → MarkedTo ls i n lasts k → n ≤ columns → i + n ≤ length ls → 64 * k < n → LineEnds ls (i + 64 * k) w → MarkedTo ls i n (set lasts k w) (k + 1)
+  pub run-more : (lasts : List ℕ) (i n k w : ℕ) → NotedTo ls i n lasts k → n ≤ columns → i + n ≤ length ls → 64 * k < n → LineEnds ls (i + 64 * k) w → NotedTo ls i n (set lasts k w) (k + 1)
   unfolding cell
   run-more lasts i n k w r most there h e = record { few = omega arith; run = record { long = length-set lasts k w ∙ r .run .long; are = are } }
     where
@@ -155,10 +156,10 @@ module _ (ls : List ℕ) where
               rw (word, getD-set-same lasts k w 0 (omega (arith, r .run .long))) (e .on (j % 64) (omega arith) (omega (arith, word)) ∙ rw back)
           by false f = rw (getD-set-other lasts k (j / 64) w 0 (eqb-false (j / 64) k f)) (r .run .are j (omega (arith, eqb-false (j / 64) k f)) m)
 
-  pub run-word : (lasts : List ℕ) (i n k : ℕ) → MarkedTo ls i n lasts k → n ≤ columns → 64 * k < n → k < length lasts
+  pub run-word : (lasts : List ℕ) (i n k : ℕ) → NotedTo ls i n lasts k → n ≤ columns → 64 * k < n → k < length lasts
   run-word lasts i n k r most h = omega (arith, r .run .long)
 
-  pub run-all : (lasts : List ℕ) (i n k : ℕ) → MarkedTo ls i n lasts k → n ≤ 64 * k → RunMarked ls i n lasts n
+  pub run-all : (lasts : List ℕ) (i n k : ℕ) → NotedTo ls i n lasts k → n ≤ 64 * k → EndsNoted ls i n lasts n
   run-all lasts i n k r h = record { long = r .run .long; are = λ j l m. r .run .are j (omega arith) m }
 
 -- ---- up to a line's end
@@ -194,3 +195,6 @@ numbered-more cols n r h = record { long = length-set cols n n ∙ r .long; alon
 
 pub numbered-all : (cols : List ℕ) (n : ℕ) → Numbered cols n → columns ≤ n → Numbered cols columns
 numbered-all cols n r h = record { long = r .long; alone = record { are = λ j l. r .alone .are j (omega arith) } }
+
+pub numbered-said : (cols : List ℕ) (told : Bool) → length cols ≡ columns → SaidNumbered cols told → told ≡ true → Numbered cols columns
+numbered-said cols told e s t = record { long = e; alone = s .are t }

@@ -5,7 +5,7 @@ use mathlib.Core.Bool.{Bool, true, false, not, cond}
 use mathlib.Core.List.{List}
 use lib.Dec.{eqb}
 use lib.ListN.{getD, length}
-use Rattle.line_bits.specs.Words.{bit}
+use Rattle.word_bits.specs.Words.{bit}
 use Rattle.line_lists.specs.Block.{cell, wide, columns, Alone}
 
 -- line l is over before crossing i
@@ -13,8 +13,8 @@ unfoldable pub overAt : List ℕ → ℕ → ℕ → Bool
 overAt ls l i = cond (eqb i (length ls)) true (not (eqb (getD ls i 0) l))
 
 -- crossing i, which is not the list's last, is its line's last
-abbrev pub turnsAway : List ℕ → ℕ → Bool
-turnsAway ls i = not (eqb (getD ls (i + 1) 0) (getD ls i 0))
+abbrev pub lastOfLine : List ℕ → ℕ → Bool
+lastOfLine ls i = not (eqb (getD ls (i + 1) 0) (getD ls i 0))
 
 -- crossing i is its line's last
 abbrev pub endsLine : List ℕ → ℕ → Bool
@@ -22,7 +22,7 @@ endsLine ls i = overAt ls (getD ls i 0) (i + 1)
 
 -- of the k crossings from i on, a bit each
 pub record Ends (ls : List ℕ) (i k w : ℕ) : Type 0 where
-  pub on : (t : ℕ) → t < k → bit w t ≡ turnsAway ls (i + t)
+  pub on : (t : ℕ) → t < k → bit w t ≡ lastOfLine ls (i + t)
   pub off : (t : ℕ) → k ≤ t → t < 64 → bit w t ≡ false
 
 -- of the 64 crossings from i on that there are, a bit each
@@ -30,7 +30,7 @@ pub record LineEnds (ls : List ℕ) (i w : ℕ) : Type 0 where
   pub on : (t : ℕ) → t < 64 → i + t < length ls → bit w t ≡ endsLine ls (i + t)
 
 -- the first m of n crossings alone
-pub record RunMarked (ls : List ℕ) (i n : ℕ) (lasts : List ℕ) (m : ℕ) : Type 0 where
+pub record EndsNoted (ls : List ℕ) (i n : ℕ) (lasts : List ℕ) (m : ℕ) : Type 0 where
   pub long : length lasts ≡ wide
   pub are : (j : ℕ) → j < m → j < n → cell lasts j ≡ endsLine ls (i + j)
 

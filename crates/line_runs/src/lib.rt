@@ -4,8 +4,8 @@ use line_lists::W;
 ghost use mathlib.Core.Path.{_≡_};
 ghost use Prim.Native.Nat.{_+_, _<_, _≤_};
 ghost use lib.ListN.{length};
-ghost use Rattle.line_lists.specs.Block.{wide, columns};
-ghost use Rattle.line_runs.specs.Runs.{overAt, turnsAway, Ends, LineEnds, RunMarked, Numbered, CutTo};
+ghost use Rattle.line_lists.specs.Block.{wide, columns, SaidNumbered};
+ghost use Rattle.line_runs.specs.Runs.{overAt, lastOfLine, Ends, LineEnds, EndsNoted, Numbered, CutTo};
 
 const LAST: usize = W - 1;
 
@@ -21,9 +21,9 @@ pub fn is_over(line: &[u32], l: usize, i: usize) -> bool
 }
 
 // The crossing at i, which is not the list's last, is its line's last.
-pub fn turns_away(line: &[u32], i: usize) -> bool
+pub fn last_of_line(line: &[u32], i: usize) -> bool
     requires { ⌜ i + 1 < length (now line) ⌝ }
-    ensures { λ r. ⌜ r ≡ turnsAway (now (line .entry)) i ⌝ }
+    ensures { λ r. ⌜ r ≡ lastOfLine (now (line .entry)) i ⌝ }
 {
     line[i + 1] != line[i]
 }
@@ -101,9 +101,9 @@ fn line_ends(line: &[u32], i: usize) -> u64
 }
 
 // The lasts of n crossings alone, from i on.
-pub fn mark_run(lasts: &mut [u64; W], line: &[u32], i: usize, n: usize)
+pub fn note_ends(lasts: &mut [u64; W], line: &[u32], i: usize, n: usize)
     requires { ⌜ (length (now lasts) ≡ wide) × (n ≤ columns) × (i + n ≤ length (now line)) ⌝ }
-    ensures { λ _. ⌜ RunMarked (now (line .entry)) i n (now (lasts .exit)) n ⌝ }
+    ensures { λ _. ⌜ EndsNoted (now (line .entry)) i n (now (lasts .exit)) n ⌝ }
 {
     let mut k: usize = 0;
     while 64 * k < n {
@@ -112,15 +112,26 @@ pub fn mark_run(lasts: &mut [u64; W], line: &[u32], i: usize, n: usize)
     }
 }
 
-pub fn number(cols: &mut [u16; COLUMNS])
+fn number(cols: &mut [usize; COLUMNS])
     requires { ⌜ length (now cols) ≡ columns ⌝ }
     ensures { λ _. ⌜ Numbered (now (cols .exit)) columns ⌝ }
 {
     let mut c: usize = 0;
     while c < COLUMNS {
-        cols[c] = c as u16;
+        cols[c] = c;
         c += 1;
     }
+}
+
+// The columns numbered, if they are not so already: most blocks of crossings alone come after another one.
+pub fn number_once(cols: &mut [usize; COLUMNS], numbered: bool)
+    requires { ⌜ (length (now cols) ≡ columns) × SaidNumbered (now cols) numbered ⌝ }
+    ensures { λ _. ⌜ Numbered (now (cols .exit)) columns ⌝ }
+{
+    if numbered {
+        return;
+    }
+    number(cols);
 }
 
 // Of n crossings alone, as many as the block takes: where it is full, up to the last line's end in its last word, so that the next block begins with a line and no shape's state has to be carried.

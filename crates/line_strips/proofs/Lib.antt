@@ -1,5 +1,5 @@
 pub mod Stores
-pub mod Turns
+pub mod Flips
 pub mod Lays
 pub mod Opens
 pub mod Blocks

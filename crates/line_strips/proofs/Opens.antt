@@ -8,12 +8,12 @@ use lib.ListN.{length, getD, set, length-set}
 use lib.Seq.{getD-set-same, getD-set-other}
 use borrow.Author.Tests.{eq-eqb, ne-eqb}
 use Rattle.formula.specs.States.{State}
-use Rattle.line_bits.specs.Words.{bit}
+use Rattle.word_bits.specs.Words.{bit}
 use Rattle.line_lists.specs.Block.{wide, columns, cell}
 use Rattle.line_strips.specs.Strips.{on, entering}
 use Rattle.line_bits.specs.Bits.{none, Inner, Span, Spans, Since, Masked}
-use Rattle.line_strips.specs.Filling.{Apart, Flips, Blank, Right, Within, Replayed, Carried, Row, Opened, Opens, Begins}
-use Rattle.line_bits.proofs.Digits.{shift-bit}
+use Rattle.line_strips.specs.Filling.{Apart, WordFlips, Blank, Right, Within, Replayed, Carried, Row, Opened, Opens, Begins}
+use Rattle.word_bits.proofs.Digits.{shift-bit}
 use Rattle.line_bits.proofs.Spans.{one-first}
 use Rattle.line_strips.proofs.Stores.{same?, on-word, store-here, store-other, off-word, apart-none, apart-more}
 use Rattle.line_strips.proofs.Lays.{entering-last, entering-more, cell-word, span-column}
@@ -67,13 +67,13 @@ pub carrying-end : (names k to m s : ℕ) (ws ws′ : List ℕ) → Carrying nam
 carrying-end names k to m s ws ws′ d h = let e : s ≡ names = omega (arith, d .far) in rw e at (d .done)
 
 -- ---- replayed
-pub record Replaying (names : ℕ) (turns : ℕ → State) (k m c i : ℕ) (ws ws′ : List ℕ) : Type 0 where
+pub record Replaying (names : ℕ) (flips : ℕ → State) (k m c i : ℕ) (ws ws′ : List ℕ) : Type 0 where
   pub from : c ≤ i
   pub far : i ≤ 64 * k
-  pub done : Replayed names turns k m c i ws ws′
+  pub done : Replayed names flips k m c i ws ws′
 
-pub replaying-none : (names : ℕ) (turns : ℕ → State) (k m c : ℕ) (ws : List ℕ) → Blank names (64 * k) ws → c ≤ 64 * k → k < wide → Replaying names turns k m c c ws ws
-replaying-none names turns k m c ws blank h w =
+pub replaying-none : (names : ℕ) (flips : ℕ → State) (k m c : ℕ) (ws : List ℕ) → Blank names (64 * k) ws → c ≤ 64 * k → k < wide → Replaying names flips k m c c ws ws
+replaying-none names flips k m c ws blank h w =
     record {
       from = omega arith;
       far = h;
@@ -84,15 +84,15 @@ replaying-none names turns k m c ws blank h w =
           };
     }
 
-turned-masked : (t e r : Bool) → cond (t && r) (not (e && r)) (e && r) ≡ (cond t (not e) e && r)
-turned-masked true true true = refl
-turned-masked true true false = refl
-turned-masked true false true = refl
-turned-masked true false false = refl
-turned-masked false e r = refl
+flipped-masked : (t e r : Bool) → cond (t && r) (not (e && r)) (e && r) ≡ (cond t (not e) e && r)
+flipped-masked true true true = refl
+flipped-masked true true false = refl
+flipped-masked true false true = refl
+flipped-masked true false false = refl
+flipped-masked false e r = refl
 
-pub replaying-more : (names : ℕ) (turns : ℕ → State) (k m c i : ℕ) (ws ws₁ ws₂ : List ℕ) → Replaying names turns k m c i ws ws₁ → Flips names (turns i) k m ws₁ ws₂ → i < 64 * k → Replaying names turns k m c (i + 1) ws ws₂
-replaying-more names turns k m c i ws ws₁ ws₂ r f h =
+pub replaying-more : (names : ℕ) (flips : ℕ → State) (k m c i : ℕ) (ws ws₁ ws₂ : List ℕ) → Replaying names flips k m c i ws ws₁ → WordFlips names (flips i) k m ws₁ ws₂ → i < 64 * k → Replaying names flips k m c (i + 1) ws ws₂
+replaying-more names flips k m c i ws ws₁ ws₂ r f h =
     let lo : c ≤ i = r .from in
     record {
       from = omega arith;
@@ -102,26 +102,26 @@ replaying-more names turns k m c i ws ws₁ ws₂ r f h =
             apart = apart-more names k ws ws₁ ws₂ (r .done .apart) (f .apart);
             here = λ last first g s b n l.
                 let e : i + 1 ≡ suc i = omega arith in
-                let before : Within names turns last first c i = record { begins = g .begins; goes = λ x p q. g .goes x p (omega arith) } in
+                let before : Within names flips last first c i = record { begins = g .begins; goes = λ x p q. g .goes x p (omega arith) } in
                 f .here s b n l ∙ rw (r .done .here last first before s b n l)
-                (turned-masked (turns i s) (entering turns last first i s) (bit m b) ∙ rw e (ap (λ (t : Bool). t && bit m b) (sym (entering-more turns last first i s (g .goes i lo (omega arith))))));
+                (flipped-masked (flips i s) (entering flips last first i s) (bit m b) ∙ rw e (ap (λ (t : Bool). t && bit m b) (sym (entering-more flips last first i s (g .goes i lo (omega arith))))));
           };
     }
 
-pub replaying-room : (names : ℕ) (turns : ℕ → State) (k m c i : ℕ) (ws ws′ : List ℕ) → Replaying names turns k m c i ws ws′ → 256 * wide ≤ length ws → 256 * wide ≤ length ws′
-replaying-room names turns k m c i ws ws′ r h = omega (arith, r .done .apart .long)
+pub replaying-room : (names : ℕ) (flips : ℕ → State) (k m c i : ℕ) (ws ws′ : List ℕ) → Replaying names flips k m c i ws ws′ → 256 * wide ≤ length ws → 256 * wide ≤ length ws′
+replaying-room names flips k m c i ws ws′ r h = omega (arith, r .done .apart .long)
 
-pub replaying-end : (names : ℕ) (turns : ℕ → State) (k m c i : ℕ) (ws ws′ : List ℕ) → Replaying names turns k m c i ws ws′ → 64 * k ≤ i → Replayed names turns k m c (64 * k) ws ws′
-replaying-end names turns k m c i ws ws′ r h = let e : i ≡ 64 * k = omega (arith, r .far) in rw e at (r .done)
+pub replaying-end : (names : ℕ) (flips : ℕ → State) (k m c i : ℕ) (ws ws′ : List ℕ) → Replaying names flips k m c i ws ws′ → 64 * k ≤ i → Replayed names flips k m c (64 * k) ws ws′
+replaying-end names flips k m c i ws ws′ r h = let e : i ≡ 64 * k = omega (arith, r .far) in rw e at (r .done)
 
 -- ---- a word opened
-module _ (names : ℕ) (turns : ℕ → State) (lasts : List ℕ) (k : ℕ) (ws ws′ : List ℕ) (one : 1 ≤ k) (word : k < wide) where
+module _ (names : ℕ) (flips : ℕ → State) (lasts : List ℕ) (k : ℕ) (ws ws′ : List ℕ) (one : 1 ≤ k) (word : k < wide) where
   past-last : bit (getD lasts (k - 1) 0) 63 ≡ cell lasts (64 * (k - 1) + 63)
   past-last = sym (cell-word lasts (k - 1) 63 (omega arith))
 
   opens-by : Apart names k ws ws′ → (m : ℕ) → Span (getD lasts k 0) 0 m
-      → ((first : State) (n : ℕ) → 64 * k ≤ n → Right names turns (cell lasts) first n (64 * k) ws → (s b : ℕ) → s < names → b < 64 → on ws′ s (64 * k + b) ≡ (entering turns (cell lasts) first (64 * k) s && bit m b))
-      → Opens names turns (cell lasts) k ws ws′
+      → ((first : State) (n : ℕ) → 64 * k ≤ n → Right names flips (cell lasts) first n (64 * k) ws → (s b : ℕ) → s < names → b < 64 → on ws′ s (64 * k + b) ≡ (entering flips (cell lasts) first (64 * k) s && bit m b))
+      → Opens names flips (cell lasts) k ws ws′
   opens-by apart m span by =
       record {
         apart = apart;
@@ -130,12 +130,12 @@ module _ (names : ℕ) (turns : ℕ → State) (lasts : List ℕ) (k : ℕ) (ws 
               done = λ s b h l. absurd (omega arith);
               ahead = λ s b h l c.
                   let z : 64 * k + 0 ≡ 64 * k = omega arith in
-                  by first n far right s b h c ∙ and-swap (entering turns (cell lasts) first (64 * k) s) (bit m b)
+                  by first n far right s b h c ∙ and-swap (entering flips (cell lasts) first (64 * k) s) (bit m b)
                   ∙ rw (span-column lasts k 0 m b span l c, z);
             };
       }
 
-  pub opens-last : (past : ℕ) → Blank names (64 * k) ws → past ≡ getD lasts (k - 1) 0 → past / 2 ^ 63 % 2 ≡ 1 → Opens names turns (cell lasts) k ws ws
+  pub opens-last : (past : ℕ) → Blank names (64 * k) ws → past ≡ getD lasts (k - 1) 0 → past / 2 ^ 63 % 2 ≡ 1 → Opens names flips (cell lasts) k ws ws
   opens-last past blank e′ h′ =
       let h : getD lasts (k - 1) 0 / 2 ^ 63 % 2 ≡ 1 = rw e′ at h′ in
       record {
@@ -146,22 +146,22 @@ module _ (names : ℕ) (turns : ℕ → State) (lasts : List ℕ) (k : ℕ) (ws 
               ahead = λ s b n l c.
                   let z : 64 * k + 0 ≡ suc (64 * (k - 1) + 63) = omega arith in
                   blank .off s (64 * k + b) n (omega arith) (omega arith)
-                  ∙ rw z (sym (rw (entering-last turns (cell lasts) first (64 * (k - 1) + 63) s (sym past-last ∙ sym (shift-bit (getD lasts (k - 1) 0) 63) ∙ eq-eqb (getD lasts (k - 1) 0 / 2 ^ 63 % 2) 1 h)) (and-false (none (cell lasts) (suc (64 * (k - 1) + 63)) (b - 0)))));
+                  ∙ rw z (sym (rw (entering-last flips (cell lasts) first (64 * (k - 1) + 63) s (sym past-last ∙ sym (shift-bit (getD lasts (k - 1) 0) 63) ∙ eq-eqb (getD lasts (k - 1) 0 / 2 ^ 63 % 2) 1 h)) (and-false (none (cell lasts) (suc (64 * (k - 1) + 63)) (b - 0)))));
             };
       }
 
   goes-on : (getD lasts (k - 1) 0 / 2 ^ 63 % 2 ≡ 1 → ⊥) → cell lasts (64 * (k - 1) + 63) ≡ false
   goes-on h = sym past-last ∙ sym (shift-bit (getD lasts (k - 1) 0) 63) ∙ ne-eqb (getD lasts (k - 1) 0 / 2 ^ 63 % 2) 1 h
 
-  pub opens-carried : (w rest m : ℕ) → w ≡ getD lasts k 0 → (getD lasts (k - 1) 0 / 2 ^ 63 % 2 ≡ 1 → ⊥) → Inner w rest → Spans rest 1 m → Carried names (k - 1) k m ws ws′ → Opens names turns (cell lasts) k ws ws′
+  pub opens-carried : (w rest m : ℕ) → w ≡ getD lasts k 0 → (getD lasts (k - 1) 0 / 2 ^ 63 % 2 ≡ 1 → ⊥) → Inner w rest → Spans rest 1 m → Carried names (k - 1) k m ws ws′ → Opens names flips (cell lasts) k ws ws′
   opens-carried w rest m e″ h f p d =
       opens-by (record { long = d .long; other = λ s j n c q. d .other s j c q }) m (rw e″ at (p .is w 0 f one-first (omega arith)))
       (λ first n far right s b g c.
       let z : 64 * k ≡ suc (64 * (k - 1) + 63) = omega arith in
-      let e : on ws s (64 * (k - 1) + 63) ≡ entering turns (cell lasts) first (64 * k) s = right .is s (64 * (k - 1) + 63) g (omega arith) (omega arith) ∙ rw z (sym (entering-more turns (cell lasts) first (64 * (k - 1) + 63) s (goes-on h))) in
+      let e : on ws s (64 * (k - 1) + 63) ≡ entering flips (cell lasts) first (64 * k) s = right .is s (64 * (k - 1) + 63) g (omega arith) (omega arith) ∙ rw z (sym (entering-more flips (cell lasts) first (64 * (k - 1) + 63) s (goes-on h))) in
       d .here s b g c ∙ ap (λ (t : Bool). t && bit m b) e)
 
-  pub opens-replayed : (past w rest m j : ℕ) → past ≡ getD lasts (k - 1) 0 → w ≡ getD lasts k 0 → Inner w rest → Spans rest 1 m → Since past j → 0 < j → Replayed names turns k m (64 * (k - 1) + j) (64 * k) ws ws′ → Opens names turns (cell lasts) k ws ws′
+  pub opens-replayed : (past w rest m j : ℕ) → past ≡ getD lasts (k - 1) 0 → w ≡ getD lasts k 0 → Inner w rest → Spans rest 1 m → Since past j → 0 < j → Replayed names flips k m (64 * (k - 1) + j) (64 * k) ws ws′ → Opens names flips (cell lasts) k ws ws′
   opens-replayed past w rest m j e′ e″ f p since′ some r =
       let since : Since (getD lasts (k - 1) 0) j = rw e′ at since′ in
       opens-by (r .apart) m (rw e″ at (p .is w 0 f one-first (omega arith)))
@@ -169,7 +169,7 @@ module _ (names : ℕ) (turns : ℕ → State) (lasts : List ℕ) (k : ℕ) (ws 
       (record {
         begins = λ u h.
             let z : 64 * (k - 1) + j ≡ suc (64 * (k - 1) + (j - 1)) = omega arith in
-            rw z (entering-last turns (cell lasts) first (64 * (k - 1) + (j - 1)) u (cell-word lasts (k - 1) (j - 1) (omega (arith, since .most)) ∙ since .last some));
+            rw z (entering-last flips (cell lasts) first (64 * (k - 1) + (j - 1)) u (cell-word lasts (k - 1) (j - 1) (omega (arith, since .most)) ∙ since .last some));
         goes = λ i lo hi.
             let z : 64 * (k - 1) + (i - 64 * (k - 1)) ≡ i = omega arith in
             ap (cell lasts) (sym z) ∙ cell-word lasts (k - 1) (i - 64 * (k - 1)) (omega arith) ∙ since .none some (i - 64 * (k - 1)) (omega arith) (omega arith);
@@ -298,7 +298,7 @@ begins-off names lasts goesOn ws ws′ e l blank =
     record {
       long = l;
       blank = record { off = λ s j n h c. blank .off s j n (omega arith) c };
-      opened = λ turns first entered.
+      opened = λ flips first entered.
           record {
             done = λ s b n h. absurd (omega arith);
             ahead = λ s b n h c. blank .off s (64 * 0 + b) n (omega arith) (omega arith) ∙ sym (rw (entered .none e s n) (and-false (none (cell lasts) (64 * 0 + 0) (b - 0))));
@@ -311,7 +311,7 @@ begins-on names lasts goesOn rest m ws ws′ e f p o =
     record {
       long = o .long;
       blank = record { off = λ s j n h c. o .rest s j n h c };
-      opened = λ turns first entered.
+      opened = λ flips first entered.
           record {
             done = λ s b n h. absurd (omega arith);
             ahead = λ s b n h c.

@@ -4,7 +4,7 @@ use native.Mathlib.Omega.{arith}
 use mathlib.Core.Path.{_≡_, sym}
 use mathlib.Core.Bool.{Bool, true}
 use mathlib.Core.List.{List}
-use borrow.Author.Tests.{ne-eqb}
+use borrow.Author.Tests.{lt-leb}
 use mir.Syntax.{w64}
 use mir.Val.{Fits}
 use lib.IntN.{ℤ}
@@ -34,7 +34,7 @@ part-long {k = k} b p = b .there (64 * k) (p .some) .long
 
 ends-alone : (ls : List ℕ) (ps : List ℤ) (a : ℕ) (cols : List ℕ) (c : ℕ) → getD cols c 0 ≡ c → c < columns → groupEndsAt ls ps (a + c) ≡ true → endsIn ls ps a cols c ≡ true
 unfolding endsIn
-ends-alone ls ps a cols c is narrow ends = rw (is, ne-eqb c 65535 (λ q. omega arith)) ends
+ends-alone ls ps a cols c is narrow ends = rw (is, lt-leb columns c narrow) ends
 
 pub part-alone : {ls : List ℕ} {ps : List ℤ} {a k e : ℕ} {cols row lasts : List ℕ} {metal told all : Bool} {events events′ : List ℕ} {f f′ : Found} → WordPart k e → Sweepable ls ps a e cols row lasts → SaidAlone ls cols a e told → told ≡ true → AllHold (groupEndsAt ls ps) (a + 64 * k) (a + e) all → all ≡ true → Swept ls ps a cols row lasts metal (64 * k) events f → SweptAlone (getD row k 0) (getD lasts k 0) k e events f events′ f′
     → Swept ls ps a cols row lasts metal e events′ f′

@@ -9,12 +9,12 @@ use lib.Bits.{bitAnd, bitOr, bitXor}
 use lib.Count.{trailingZeros, trailing-le}
 use lib.ListN.{getD}
 use Rattle.formula.specs.Formula.{exclusive, meaning}
-use Rattle.line_bits.specs.Words.{digit, bit}
+use Rattle.word_bits.specs.Words.{digit, bit}
 use Rattle.line_lists.specs.Block.{cell}
 use Rattle.line_sweeping.specs.Sweeping.{Quiet, NextNoisy}
-use Rattle.line_bits.proofs.Digits.{bit-and, bit-or, bit-xor, bit-ones}
-use Rattle.line_bits.proofs.Digits.{bit-shift}
-use Rattle.line_bits.proofs.LowestLaws.{trailing-digit}
+use Rattle.word_bits.proofs.Digits.{bit-and, bit-or, bit-xor, bit-ones}
+use Rattle.word_bits.proofs.Digits.{bit-shift}
+use Rattle.word_bits.proofs.LowestLaws.{trailing-digit}
 
 -- below the lowest bit that is on, from bit j on
 zeros-off : (k w j b : ℕ) → j ≤ b → b < trailingZeros k (w / 2 ^ j) + j → bit w b ≡ false

@@ -8,14 +8,14 @@ use mathlib.Core.List.{List, [], _∷_, append-nil}
 use lib.IntN.{ℤ}
 use lib.ListN.{length, take, set, getD, length-set}
 use lib.Seq.{take-suc-set}
-use Rattle.line_bits.specs.Words.{bit}
+use Rattle.word_bits.specs.Words.{bit}
 use Rattle.line_lists.specs.Block.{cell, columns}
 use Rattle.line_events.specs.Events.{endsIn, settled, eventsAt, metalNext, metalAfter, eventsAfter}
 use Rattle.line_events.specs.Noted.{Noted, NoteRoom, WordPart, Events, Listed}
 use Rattle.line_events.specs.declared.Found.{Found}
 use Rattle.line_sweeping.specs.Sweeping.{Quiet, NextNoisy, EventNoted, EventRoom, Reached, Changed, Left, Stepped, Sweepable, Swept}
 use Rattle.line_events.proofs.ListedLaws.{events-zero, events-more, metal-zero, metal-more}
-use Rattle.line_events.proofs.MarkedLaws.{noted-both}
+use Rattle.line_events.proofs.SaidLaws.{noted-both}
 use Rattle.line_sweeping.proofs.BitLaws.{cell-word}
 
 -- ---- one column

@@ -5,7 +5,7 @@ use mathlib.Core.Bool.{Bool, false, not, _&&_}
 use mathlib.Core.List.{List, [], _∷_}
 use lib.IntN.{ℤ}
 use lib.ListN.{length, getD}
-use Rattle.line_bits.specs.Words.{bit}
+use Rattle.word_bits.specs.Words.{bit}
 use Rattle.line_lists.specs.Block.{wide, columns, cell}
 use Rattle.line_events.specs.Events.{endsIn, settled, changesAt, opensAt, eventsAt, metalNext}
 use Rattle.line_events.specs.Noted.{Noted, Events}
@@ -26,7 +26,7 @@ pub record NextNoisy (w y j : ℕ) (metal : Bool) (r : ℕ) : Type 0 where
 pub record ColumnThere (ls : List ℕ) (ps : List ℤ) (a : ℕ) (cols : List ℕ) (c : ℕ) : Type 0 where
   pub narrow : c < columns
   pub long : length ps ≡ length ls
-  pub crossing : (getD cols c 0 ≡ 65535 → ⊥) → a + getD cols c 0 < length ls
+  pub crossing : getD cols c 0 < columns → a + getD cols c 0 < length ls
   pub sized : length cols ≡ columns
 
 -- a list of events has room for the next, of column c

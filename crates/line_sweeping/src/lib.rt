@@ -2,7 +2,7 @@
 use line_events::Found;
 use line_lists::COLUMNS;
 use line_lists::EVENTS;
-use line_lists::START;
+use line_lists::Part;
 use line_lists::W;
 ghost use mathlib.Core.Path.{_≡_};
 ghost use mathlib.Core.Bool.{not, Bool·beq};
@@ -10,7 +10,7 @@ ghost use Prim.Native.Nat.{ℕ, _+_, _*_, _/_, _^_, _≤_, _<_};
 ghost use lib.Count.{trailingZeros};
 ghost use lib.ListN.{length};
 ghost use Rattle.lines.specs.AtIndex.{groupEndsAt};
-ghost use Rattle.line_bits.specs.Words.{bit};
+ghost use Rattle.word_bits.specs.Words.{bit};
 ghost use Rattle.line_lists.specs.Block.{columns, cell, SaidAlone};
 ghost use Rattle.line_events.specs.Events.{endsIn};
 ghost use Rattle.line_events.specs.Noted.{NoteRoom, WordPart, Listed};
@@ -30,12 +30,12 @@ fn group_ends(line: &[u32], at: &[i32], i: usize) -> bool
     line_lists::below(at, i, j)
 }
 
-fn column_ends(line: &[u32], at: &[i32], a: usize, cols: &[u16; COLUMNS], c: usize) -> bool
+fn column_ends(line: &[u32], at: &[i32], a: usize, cols: &[usize; COLUMNS], c: usize) -> bool
     requires { ⌜ ColumnThere (now line) (now at) a (now cols) c ⌝ }
     ensures { λ r. ⌜ r ≡ endsIn (now (line .entry)) (now (at .entry)) a (now (cols .entry)) c ⌝ }
 {
     let o = cols[c];
-    if o == START {
+    if COLUMNS <= o {
         return true;
     }
     let i = line_lists::crossing_at(a, o, line.len());
@@ -60,7 +60,7 @@ fn change(
     line: &[u32],
     at: &[i32],
     a: usize,
-    cols: &[u16; COLUMNS],
+    cols: &[usize; COLUMNS],
     c: usize,
     metal: bool,
     events: &mut [u16; EVENTS],
@@ -123,7 +123,7 @@ fn step(
     line: &[u32],
     at: &[i32],
     a: usize,
-    cols: &[u16; COLUMNS],
+    cols: &[usize; COLUMNS],
     w: u64,
     y: u64,
     k: usize,
@@ -145,16 +145,15 @@ fn sweep_word(
     lasts: &[u64; W],
     line: &[u32],
     at: &[i32],
-    a: usize,
-    cols: &[u16; COLUMNS],
+    cols: &[usize; COLUMNS],
+    p: Part,
     k: usize,
     e: usize,
-    metal: bool,
     events: &mut [u16; EVENTS],
     found: Found,
 ) -> Found
-    requires { ⌜ WordPart k e × Sweepable (now line) (now at) a e (now cols) (now row) (now lasts) × Swept (now line) (now at) a (now cols) (now row) (now lasts) metal (64 * k) (now events) found ⌝ }
-    ensures { λ r. ⌜ Swept (now (line .entry)) (now (at .entry)) a (now (cols .entry)) (now (row .entry)) (now (lasts .entry)) metal e (now (events .exit)) r ⌝ }
+    requires { ⌜ WordPart k e × Sweepable (now line) (now at) (p .first) e (now cols) (now row) (now lasts) × Swept (now line) (now at) (p .first) (now cols) (now row) (now lasts) (p .metal) (64 * k) (now events) found ⌝ }
+    ensures { λ r. ⌜ Swept (now (line .entry)) (now (at .entry)) (p .first) (now (cols .entry)) (now (row .entry)) (now (lasts .entry)) (p .metal) e (now (events .exit)) r ⌝ }
 {
     let w = row[k];
     let y = lasts[k];
@@ -166,7 +165,7 @@ fn sweep_word(
         if e <= d {
             return f;
         }
-        f = step(line, at, a, cols, w, y, k, b, events, f);
+        f = step(line, at, p.first, cols, w, y, k, b, events, f);
         c = d + 1;
     }
     f
@@ -178,52 +177,52 @@ fn sweep_part(
     lasts: &[u64; W],
     line: &[u32],
     at: &[i32],
-    a: usize,
-    cols: &[u16; COLUMNS],
+    cols: &[usize; COLUMNS],
+    p: Part,
     k: usize,
     e: usize,
-    alone: bool,
-    metal: bool,
     events: &mut [u16; EVENTS],
     f: Found,
 ) -> Found
-    requires { ⌜ WordPart k e × Sweepable (now line) (now at) a e (now cols) (now row) (now lasts) × SaidAlone (now line) (now cols) a e alone × Swept (now line) (now at) a (now cols) (now row) (now lasts) metal (64 * k) (now events) f ⌝ }
-    ensures { λ r. ⌜ Swept (now (line .entry)) (now (at .entry)) a (now (cols .entry)) (now (row .entry)) (now (lasts .entry)) metal e (now (events .exit)) r ⌝ }
+    requires { ⌜ WordPart k e × Sweepable (now line) (now at) (p .first) e (now cols) (now row) (now lasts) × SaidAlone (now line) (now cols) (p .first) e (p .alone) × Swept (now line) (now at) (p .first) (now cols) (now row) (now lasts) (p .metal) (64 * k) (now events) f ⌝ }
+    ensures { λ r. ⌜ Swept (now (line .entry)) (now (at .entry)) (p .first) (now (cols .entry)) (now (row .entry)) (now (lasts .entry)) (p .metal) e (now (events .exit)) r ⌝ }
 {
     let bits = row[k];
     let ends = lasts[k];
-    if alone {
+    if p.alone {
         if line_events::many_noisy(bits, ends, f.metal) {
+            let a = p.first;
             if line_events::all_alone(line, at, a + 64 * k, a + e, ends == 0) {
                 return line_events::sweep_alone(bits, ends, k, e, events, f);
             }
         }
     }
-    sweep_word(row, lasts, line, at, a, cols, k, e, metal, events, f)
+    sweep_word(row, lasts, line, at, cols, p, k, e, events, f)
 }
 
-// The events of a block of n columns, whose first crossing is a; how many.
+// The events of a block; how many.
 pub fn sweep(
     row: &[u64; W],
     lasts: &[u64; W],
     line: &[u32],
     at: &[i32],
-    a: usize,
-    cols: &[u16; COLUMNS],
-    n: usize,
-    alone: bool,
-    metal: bool,
+    cols: &[usize; COLUMNS],
+    p: Part,
     events: &mut [u16; EVENTS],
 ) -> usize
-    requires { ⌜ Sweepable (now line) (now at) a n (now cols) (now row) (now lasts) × SaidAlone (now line) (now cols) a n alone × (length (now events) ≡ 2 * columns) ⌝ }
-    ensures { λ r. ⌜ Listed (endsIn (now (line .entry)) (now (at .entry)) a (now (cols .entry))) (cell (now (row .entry))) (cell (now (lasts .entry))) metal n (now (events .exit)) r ⌝ }
+    requires { ⌜ Sweepable (now line) (now at) (p .first) (p .size) (now cols) (now row) (now lasts) × SaidAlone (now line) (now cols) (p .first) (p .size) (p .alone) × (length (now events) ≡ 2 * columns) ⌝ }
+    ensures { λ r. ⌜ Listed (endsIn (now (line .entry)) (now (at .entry)) (p .first) (now (cols .entry))) (cell (now (row .entry))) (cell (now (lasts .entry))) (p .metal) (p .size) (now (events .exit)) r ⌝ }
 {
-    let mut f = Found { metal, count: 0 };
+    let n = p.size;
+    let mut f = Found {
+        metal: p.metal,
+        count: 0,
+    };
     let mut k: usize = 0;
     let mut e: usize = 0;
     while e < n {
         e = basics::part_end(64 * k, n, 64);
-        f = sweep_part(row, lasts, line, at, a, cols, k, e, alone, metal, events, f);
+        f = sweep_part(row, lasts, line, at, cols, p, k, e, events, f);
         k += 1;
     }
     basics::wide(f.count)

@@ -11,11 +11,11 @@ use Rattle.outcome.specs.Outcome.{given, _>>_, need}
 use Rattle.outcome.proofs.Questions.{need-yes}
 use Rattle.formula.specs.Formula.{Formula}
 use Rattle.lines.specs.Lines.{LineLists, lineLists, rowCount, judged, AnswerLists, roomyLists, walls, classified}
+use Rattle.lines.specs.AtIndex.{Accepted}
 use Rattle.lines.proofs.Judgement.{both}
 use Rattle.line_checking.specs.Verdicts.{verdict, Judged}
 use Rattle.line_checking.specs.declared.Verdict.{Verdict}
 use Rattle.line_checking.specs.declared.Verdict.the-variants as verdicts
-use Rattle.line_blocks.specs.Blocks.{GoodLists}
 use Rattle.line_blocks.proofs.PassLaws.{verdict-told}
 use Rattle.line_writing.specs.Writing.{HasRoom, Written}
 use Rattle.line_walls.specs.Writing.{WallsGiven}
@@ -55,14 +55,14 @@ module _ (f : Formula) (names : ℕ) (c : LineLists) (lent : AnswerLists) (good 
         lists = record { lines-list = rw is (w .lines); starts-list = rw is (w .starts); ends-list = rw is (w .ends); start-shapes-list = rw is (w .startShapes); end-shapes-list = rw is (w .endShapes) };
       }
 
-pub job-refused : {codes : List ℕ} {n names : ℕ} {c : LineLists} {lent : AnswerLists} {number place : ℕ} {v : Verdict} → Judged names c v → v ≡ verdicts.Refused number place → JobDone codes n names c lent (Refused number place) lent
+pub job-refused : {codes : List ℕ} {names : ℕ} {c : LineLists} {lent : AnswerLists} {number place : ℕ} {v : Verdict} → Judged names c v → v ≡ verdicts.Refused number place → JobDone codes names c lent (Refused number place) lent
 job-refused {names = names} {c = c} {lent = lent} {number = number} {place = place} j is = record { answered-so = λ f q o. refused-judged f names c lent number place (verdict-told (j .is) is) }
 
-module _ {codes : List ℕ} {n names : ℕ} {air : Bool} {rows ls : List ℕ} {ps : List ℤ} {ss : List ℕ} {lent : AnswerLists} {w : Verdict} (good : GoodLists names air (lineLists rows ls ps ss)) (room : verdict w ≡ roomyLists (length ls / 2 + length rows / names) lent) where
-  pub room-refused : {number place : ℕ} → w ≡ verdicts.Refused number place → JobDone codes n names (lineLists rows ls ps ss) lent (Refused number place) lent
+module _ {codes : List ℕ} {names : ℕ} {rows ls : List ℕ} {ps : List ℤ} {ss : List ℕ} {lent : AnswerLists} {w : Verdict} (good : Accepted names (lineLists rows ls ps ss)) (room : verdict w ≡ roomyLists (length ls / 2 + length rows / names) lent) where
+  pub room-refused : {number place : ℕ} → w ≡ verdicts.Refused number place → JobDone codes names (lineLists rows ls ps ss) lent (Refused number place) lent
   room-refused {number} {place} is = record { answered-so = λ f q o. refused-room f names (lineLists rows ls ps ss) lent (good .judged-so) number place (verdict-told room is) }
 
-  pub job-given : {b : Bool} → w ≡ verdicts.Fine b → {k : ℕ} {after : AnswerLists} → WallsGiven codes n names (lineLists rows ls ps ss) lent k after → JobDone codes n names (lineLists rows ls ps ss) lent (Walls k) after
+  pub job-given : {b : Bool} → w ≡ verdicts.Fine b → {k : ℕ} {after : AnswerLists} → WallsGiven codes names (lineLists rows ls ps ss) lent k after → JobDone codes names (lineLists rows ls ps ss) lent (Walls k) after
   job-given fine {k} {after} g = record { answered-so = λ f q o. given-walls f names (lineLists rows ls ps ss) lent (good .judged-so) k after (verdict-told room fine) (g .written f q o) }
 
 pub room-there : (n : ℕ) {lent : AnswerLists} {w : Verdict} {b : Bool} → verdict w ≡ roomyLists n lent → w ≡ verdicts.Fine b → HasRoom n lent

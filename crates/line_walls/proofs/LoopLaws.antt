@@ -5,16 +5,16 @@ use mathlib.Core.Path.{_≡_, refl, _∙_}
 use mathlib.Core.Bool.{Bool, true, false, _||_}
 use mathlib.Core.List.{List, [], _++_}
 use lib.Dec.{ltb}
-use lib.ListN.{length, take, replicate}
+use lib.ListN.{length, replicate}
 use Rattle.formula.specs.Formula.{Formula, postfix, Over}
 use Rattle.lines.specs.Lines.{LineLists, rowCount, AnswerLists, Wall}
 use Rattle.line_lists.specs.Block.{columns}
 use Rattle.line_words.specs.Stretches.{StandFor}
 use Rattle.line_words.specs.declared.Arranged.{Arranged}
 use Rattle.line_blocks.specs.Blocks.{Sized, PassingAt, Going, CanPass}
-use Rattle.line_blocks.proofs.PassLaws.{going-start, passing-start, going-ask, passing-end}
+use Rattle.line_blocks.proofs.PassLaws.{going-start, sized-start, passing-start, going-ask, passing-end}
 use Rattle.line_writing.specs.Writing.{openOf, SameLengths, HasRoom, Written}
-use Rattle.line_blocks.specs.Steps.{roomFor, StepAsk, StepDone, NothingDone}
+use Rattle.line_blocks.specs.Walls.{roomFor, StepAsk, StepDone, NothingDone}
 use Rattle.line_blocks.specs.declared.Progress.{Progress}
 use Rattle.line_writing.proofs.ListLaws.{put-same, same-none, same-more, room-same, room-back, written-none, written-more}
 use Rattle.line_walls.specs.Writing.{WallsWritten, WallsGiven}
@@ -26,18 +26,18 @@ pub record PassOf (f : Formula) (names : ℕ) (c : LineLists) (words : List ℕ)
   pub written : Written done lent (p .run .count) now
 
 -- what the loop keeps
-pub record Looping (stretches links : List ℕ) (arranged : Arranged) (names : ℕ) (c : LineLists) (lent : AnswerLists) (count : ℕ) (words₀ words cols starts lasts events : List ℕ) (p : Progress) (now : AnswerLists) : Type 0 where
-  pub going : Going stretches links arranged names c words (p .pass)
+pub record Looping (table : List ℕ) (arranged : Arranged) (names : ℕ) (c : LineLists) (lent : AnswerLists) (count : ℕ) (words₀ words cols lasts events : List ℕ) (p : Progress) (now : AnswerLists) : Type 0 where
+  pub going : Going table arranged names c words (p .pass)
   pub room : HasRoom (roomFor names c) lent
   pub same : SameLengths lent now
-  pub passed : (f : Formula) → StandFor (postfix f) stretches links arranged → Over names f → PassOf f names c words p lent now
+  pub passed : (f : Formula) → StandFor (postfix f) table arranged → Over names f → PassOf f names c words p lent now
   pub kept : length words ≡ length words₀
-  pub sized : Sized cols starts lasts events
+  pub sized : Sized cols lasts events (p .pass .numbered)
   pub counted : count ≡ rowCount names (c .rows)
 
-module _ {stretches links : List ℕ} {arranged : Arranged} {names : ℕ} {air : Bool} {c : LineLists} {words : List ℕ} {lent : AnswerLists} where
-  pub looping-start : CanPass stretches links arranged names air c words → HasRoom (roomFor names c) lent → {count : ℕ} → count ≡ rowCount names (c .rows) → {p : Progress} → NothingDone names (c .rows) p
-      → Looping stretches links arranged names c lent count words words (replicate columns 0) (replicate columns 0) (replicate 8 0) (replicate (2 * columns) 0) p lent
+module _ {table : List ℕ} {arranged : Arranged} {names : ℕ} {air : Bool} {c : LineLists} {words : List ℕ} {lent : AnswerLists} where
+  pub looping-start : CanPass table arranged names air c words → HasRoom (roomFor names c) lent → {count : ℕ} → count ≡ rowCount names (c .rows) → {p : Progress} → NothingDone names (c .rows) p
+      → Looping table arranged names c lent count words words (replicate columns 0) (replicate 8 0) (replicate (2 * columns) 0) p lent
   looping-start can room counted {p} b =
       record {
         going = going-start can (b .begun);
@@ -45,16 +45,16 @@ module _ {stretches links : List ℕ} {arranged : Arranged} {names : ℕ} {air :
         same = same-none;
         passed = λ f st o. record { done = []; passing = rw (b .air) (passing-start can (b .begun) f); written = rw (b .none) written-none };
         kept = refl;
-        sized = record { plan = record { cols = refl; starts = refl; lasts = refl }; events-sized = refl };
+        sized = sized-start can (b .begun);
         counted = counted;
       }
 
-module _ {stretches links : List ℕ} {arranged : Arranged} {names : ℕ} {c : LineLists} {lent : AnswerLists} {count : ℕ} {words₀ words cols starts lasts events : List ℕ} {p : Progress} {now : AnswerLists} (l : Looping stretches links arranged names c lent count words₀ words cols starts lasts events p now) where
-  pub looping-sized : Sized cols starts lasts events
+module _ {table : List ℕ} {arranged : Arranged} {names : ℕ} {c : LineLists} {lent : AnswerLists} {count : ℕ} {words₀ words cols lasts events : List ℕ} {p : Progress} {now : AnswerLists} (l : Looping table arranged names c lent count words₀ words cols lasts events p now) where
+  pub looping-sized : Sized cols lasts events (p .pass .numbered)
   looping-sized = l .sized
 
-  pub looping-more : {words′ cols′ starts′ lasts′ events′ : List ℕ} {p′ : Progress} {after : AnswerLists} → StepDone stretches links arranged names c words p now words′ cols′ starts′ lasts′ events′ p′ after
-      → Looping stretches links arranged names c lent count words₀ words′ cols′ starts′ lasts′ events′ p′ after
+  pub looping-more : {words′ cols′ lasts′ events′ : List ℕ} {p′ : Progress} {after : AnswerLists} → StepDone table arranged names c words p now words′ cols′ lasts′ events′ p′ after
+      → Looping table arranged names c lent count words₀ words′ cols′ lasts′ events′ p′ after
   looping-more d =
       record {
         going = d .going;
@@ -69,7 +69,7 @@ module _ {stretches links : List ℕ} {arranged : Arranged} {names : ℕ} {c : L
       }
 
   module _ {t : Bool} (is : t ≡ (ltb (p .pass .cursor .i) (length (c .lines)) || ltb (p .pass .cursor .q) count)) where
-    pub looping-ask : t ≡ true → StepAsk stretches links arranged names c words p now
+    pub looping-ask : t ≡ true → StepAsk table arranged names c words p now
     looping-ask yes-left =
         let a = going-ask (l .going) count (l .counted) t is yes-left in
         let s = a .going .standing in
@@ -81,7 +81,7 @@ module _ {stretches links : List ℕ} {arranged : Arranged} {names : ℕ} {c : L
           room = λ n few h. room-same (l .same) (omega (arith, h, q .written .count)) (l .room);
         }
 
-    pub looping-end : t ≡ false → WallsWritten stretches links arranged names c lent (p .run .count) now
+    pub looping-end : t ≡ false → WallsWritten table arranged names c lent (p .run .count) now
     looping-end none-left =
         record {
           written = λ f st o.
@@ -89,6 +89,6 @@ module _ {stretches links : List ℕ} {arranged : Arranged} {names : ℕ} {c : L
               rw (passing-end (l .going) count (l .counted) t is f (openOf (p .run)) (q .done) none-left (q .passing)) (q .written);
         }
 
-pub walls-given : {codes : List ℕ} {n names : ℕ} {c : LineLists} {lent : AnswerLists} {k : ℕ} {after : AnswerLists} {stretches links : List ℕ} {arranged : Arranged} → StandFor (take n codes) stretches links arranged → WallsWritten stretches links arranged names c lent k after
-    → WallsGiven codes n names c lent k after
+pub walls-given : {codes : List ℕ} {names : ℕ} {c : LineLists} {lent : AnswerLists} {k : ℕ} {after : AnswerLists} {table : List ℕ} {arranged : Arranged} → StandFor codes table arranged → WallsWritten table arranged names c lent k after
+    → WallsGiven codes names c lent k after
 walls-given stand w = record { written = λ f q o. w .written f (rw q at stand) o }

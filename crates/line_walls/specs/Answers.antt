@@ -2,7 +2,7 @@
 use Prim.Native.Nat.{ℕ}
 use mathlib.Core.Path.{_≡_}
 use mathlib.Core.List.{List}
-use lib.ListN.{length, take}
+use lib.ListN.{length}
 use Rattle.outcome.specs.Outcome.{Outcome, given, refused, part}
 use Rattle.formula.specs.Formula.{Formula, postfix, Over}
 use Rattle.lines.specs.Lines.{LineLists, AnswerLists, Wall, classified}
@@ -20,5 +20,5 @@ pub record LinesAnswered (o : Outcome (List Wall)) (lent : AnswerLists) (r : Lin
   pub lists : WallLists o lent after
 
 -- Of whatever formula the codes are.
-pub record JobDone (codes : List ℕ) (n names : ℕ) (c : LineLists) (lent : AnswerLists) (r : LinesAnswer) (after : AnswerLists) : Type 0 where
-  pub answered-so : (f : Formula) → take n codes ≡ postfix f → Over names f → LinesAnswered (classified f names c lent) lent r after
+pub record JobDone (codes : List ℕ) (names : ℕ) (c : LineLists) (lent : AnswerLists) (r : LinesAnswer) (after : AnswerLists) : Type 0 where
+  pub answered-so : (f : Formula) → codes ≡ postfix f → Over names f → LinesAnswered (classified f names c lent) lent r after

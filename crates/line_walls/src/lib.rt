@@ -4,8 +4,9 @@ use line_lists::EVENTS;
 use line_lists::W;
 ghost use mathlib.Core.Path.{_≡_};
 ghost use Rattle.lines.specs.Lines.{lineLists, rowCount, answerLists};
-ghost use Rattle.line_blocks.specs.Blocks.{CanPass, FewCodes, GoodLists};
-ghost use Rattle.line_blocks.specs.Steps.{roomFor};
+ghost use Rattle.lines.specs.AtIndex.{Accepted};
+ghost use Rattle.line_blocks.specs.Blocks.{CanPass, FewCodes, SaidOf};
+ghost use Rattle.line_blocks.specs.Walls.{roomFor};
 ghost use Rattle.line_writing.specs.Writing.{HasRoom};
 ghost use Rattle.line_walls.specs.Writing.{WallsWritten, WallsGiven};
 ghost use Rattle.line_walls.specs.Answers.{JobDone};
@@ -17,8 +18,7 @@ pub enum LinesAnswer {
 
 // The walls of accepted lists, block by block; how many.
 fn blocks(
-    stretches: &[u64; 1024],
-    links: &[u32],
+    table: &[u32],
     call: line_blocks::Call,
     words: &mut [u64],
     rows: &[u8],
@@ -31,18 +31,16 @@ fn blocks(
     wf: &mut [u16],
     wt: &mut [u16],
 ) -> usize
-    requires { ⌜ CanPass (now stretches) (now links) (call .arranged) (call .names) (call .air) (lineLists (now rows) (now line) (now at) (now shape)) (now words) × HasRoom (roomFor (call .names) (lineLists (now rows) (now line) (now at) (now shape))) (answerLists (now wl) (now ws) (now we) (now wf) (now wt)) × (call .count ≡ rowCount (call .names) (now rows)) ⌝ }
-    ensures { λ r. ⌜ WallsWritten (now (stretches .entry)) (now (links .entry)) (call .arranged) (call .names) (lineLists (now (rows .entry)) (now (line .entry)) (now (at .entry)) (now (shape .entry))) (answerLists (now (wl .entry)) (now (ws .entry)) (now (we .entry)) (now (wf .entry)) (now (wt .entry))) r (answerLists (now (wl .exit)) (now (ws .exit)) (now (we .exit)) (now (wf .exit)) (now (wt .exit))) ⌝ }
+    requires { ⌜ CanPass (now table) (call .arranged) (call .names) (call .air) (lineLists (now rows) (now line) (now at) (now shape)) (now words) × HasRoom (roomFor (call .names) (lineLists (now rows) (now line) (now at) (now shape))) (answerLists (now wl) (now ws) (now we) (now wf) (now wt)) × (call .count ≡ rowCount (call .names) (now rows)) ⌝ }
+    ensures { λ r. ⌜ WallsWritten (now (table .entry)) (call .arranged) (call .names) (lineLists (now (rows .entry)) (now (line .entry)) (now (at .entry)) (now (shape .entry))) (answerLists (now (wl .entry)) (now (ws .entry)) (now (we .entry)) (now (wf .entry)) (now (wt .entry))) r (answerLists (now (wl .exit)) (now (ws .exit)) (now (we .exit)) (now (wf .exit)) (now (wt .exit))) ⌝ }
 {
-    let mut cols = [0u16; COLUMNS];
-    let mut starts = [0u32; COLUMNS];
+    let mut cols = [0usize; COLUMNS];
     let mut lasts = [0u64; W];
     let mut events = [0u16; EVENTS];
     let mut p = line_blocks::begin(rows, call);
     while line_blocks::is_left(p, line.len(), call.count) {
         p = line_blocks::step(
-            stretches,
-            links,
+            table,
             call,
             words,
             rows,
@@ -50,7 +48,6 @@ fn blocks(
             at,
             shape,
             &mut cols,
-            &mut starts,
             &mut lasts,
             &mut events,
             p,
@@ -67,8 +64,7 @@ fn blocks(
 
 // The walls of accepted lists; how many. Only a formula whose results wait in many rows pays for clearing them.
 fn write(
-    codes: &[u16; 2048],
-    n: usize,
+    codes: &[u16],
     names: usize,
     air: bool,
     rows: &[u8],
@@ -81,12 +77,11 @@ fn write(
     wf: &mut [u16],
     wt: &mut [u16],
 ) -> usize
-    requires { ⌜ FewCodes (now codes) n names × GoodLists names air (lineLists (now rows) (now line) (now at) (now shape)) × HasRoom (roomFor names (lineLists (now rows) (now line) (now at) (now shape))) (answerLists (now wl) (now ws) (now we) (now wf) (now wt)) ⌝ }
-    ensures { λ r. ⌜ WallsGiven (now (codes .entry)) n names (lineLists (now (rows .entry)) (now (line .entry)) (now (at .entry)) (now (shape .entry))) (answerLists (now (wl .entry)) (now (ws .entry)) (now (we .entry)) (now (wf .entry)) (now (wt .entry))) r (answerLists (now (wl .exit)) (now (ws .exit)) (now (we .exit)) (now (wf .exit)) (now (wt .exit))) ⌝ }
+    requires { ⌜ FewCodes (now codes) names × Accepted names (lineLists (now rows) (now line) (now at) (now shape)) × SaidOf air (now rows) × HasRoom (roomFor names (lineLists (now rows) (now line) (now at) (now shape))) (answerLists (now wl) (now ws) (now we) (now wf) (now wt)) ⌝ }
+    ensures { λ r. ⌜ WallsGiven (now (codes .entry)) names (lineLists (now (rows .entry)) (now (line .entry)) (now (at .entry)) (now (shape .entry))) (answerLists (now (wl .entry)) (now (ws .entry)) (now (we .entry)) (now (wf .entry)) (now (wt .entry))) r (answerLists (now (wl .exit)) (now (ws .exit)) (now (we .exit)) (now (wf .exit)) (now (wt .exit))) ⌝ }
 {
-    let mut stretches = [0u64; 1024];
-    let mut links = [0u32; 1024];
-    let arranged = line_words::arrange(codes, n, &mut stretches, &mut links);
+    let mut table = [0u32; line_words::TABLE];
+    let arranged = line_words::arrange(codes, &mut table);
     let count = rows.len() / names;
     let call = line_blocks::Call {
         arranged,
@@ -97,8 +92,7 @@ fn write(
     if arranged.rows <= 16 {
         let mut words = [0u64; line_words::FEW];
         return blocks(
-            &stretches,
-            &links,
+            &table,
             call,
             &mut words,
             rows,
@@ -114,8 +108,7 @@ fn write(
     }
     let mut words = [0u64; line_words::MOST];
     blocks(
-        &stretches,
-        &links,
+        &table,
         call,
         &mut words,
         rows,
@@ -130,51 +123,9 @@ fn write(
     )
 }
 
-// The line job of lists judged good: their room, then the walls.
-fn classify_good(
-    codes: &[u16; 2048],
-    n: usize,
-    names: usize,
-    air: bool,
-    rows: &[u8],
-    line: &[u32],
-    at: &[i32],
-    shape: &[u16],
-    wl: &mut [u32],
-    ws: &mut [i32],
-    we: &mut [i32],
-    wf: &mut [u16],
-    wt: &mut [u16],
-) -> LinesAnswer
-    requires { ⌜ FewCodes (now codes) n names × GoodLists names air (lineLists (now rows) (now line) (now at) (now shape)) ⌝ }
-    ensures { λ r. ⌜ JobDone (now (codes .entry)) n names (lineLists (now (rows .entry)) (now (line .entry)) (now (at .entry)) (now (shape .entry))) (answerLists (now (wl .entry)) (now (ws .entry)) (now (we .entry)) (now (wf .entry)) (now (wt .entry))) r (answerLists (now (wl .exit)) (now (ws .exit)) (now (we .exit)) (now (wf .exit)) (now (wt .exit))) ⌝ }
-{
-    let need = line.len() / 2 + rows.len() / names;
-    let room = line_checking::room(need, wl.len(), ws.len(), we.len(), wf.len(), wt.len());
-    if let line_checking::Verdict::Refused(number, place) = room {
-        return LinesAnswer::Refused(number, place);
-    }
-    LinesAnswer::Walls(write(
-        codes,
-        n,
-        names,
-        air,
-        rows,
-        line,
-        at,
-        shape,
-        wl,
-        ws,
-        we,
-        wf,
-        wt,
-    ))
-}
-
-// The line job, where the first n codes are the formula's in postfix order.
+// The line job, where the codes are the formula's in postfix order.
 pub fn classify(
-    codes: &[u16; 2048],
-    n: usize,
+    codes: &[u16],
     names: usize,
     rows: &[u8],
     line: &[u32],
@@ -186,26 +137,19 @@ pub fn classify(
     wf: &mut [u16],
     wt: &mut [u16],
 ) -> LinesAnswer
-    requires { ⌜ FewCodes (now codes) n names ⌝ }
-    ensures { λ r. ⌜ JobDone (now (codes .entry)) n names (lineLists (now (rows .entry)) (now (line .entry)) (now (at .entry)) (now (shape .entry))) (answerLists (now (wl .entry)) (now (ws .entry)) (now (we .entry)) (now (wf .entry)) (now (wt .entry))) r (answerLists (now (wl .exit)) (now (ws .exit)) (now (we .exit)) (now (wf .exit)) (now (wt .exit))) ⌝ }
+    requires { ⌜ FewCodes (now codes) names ⌝ }
+    ensures { λ r. ⌜ JobDone (now (codes .entry)) names (lineLists (now (rows .entry)) (now (line .entry)) (now (at .entry)) (now (shape .entry))) (answerLists (now (wl .entry)) (now (ws .entry)) (now (we .entry)) (now (wf .entry)) (now (wt .entry))) r (answerLists (now (wl .exit)) (now (ws .exit)) (now (we .exit)) (now (wf .exit)) (now (wt .exit))) ⌝ }
 {
     let v = line_checking::judge(names, rows, line, at, shape);
     match v {
         line_checking::Verdict::Refused(number, place) => LinesAnswer::Refused(number, place),
-        line_checking::Verdict::Fine(air) => classify_good(
-            codes,
-            n,
-            names,
-            air,
-            rows,
-            line,
-            at,
-            shape,
-            wl,
-            ws,
-            we,
-            wf,
-            wt,
-        ),
+        line_checking::Verdict::Fine(air) => {
+            let need = line.len() / 2 + rows.len() / names;
+            let room = line_checking::room(need, wl.len(), ws.len(), we.len(), wf.len(), wt.len());
+            if let line_checking::Verdict::Refused(number, place) = room {
+                return LinesAnswer::Refused(number, place);
+            }
+            LinesAnswer::Walls(write(codes, names, air, rows, line, at, shape, wl, ws, we, wf, wt))
+        }
     }
 }

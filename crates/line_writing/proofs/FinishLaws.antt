@@ -53,4 +53,4 @@ open-metal false p = refl
 -- ---- an event's line
 
 pub event-column : (ls : List ℕ) (ps : List ℤ) (ss : List ℕ) (a : ℕ) (cols : List ℕ) (e : ℕ) → EventHeld (held ls ps ss a cols) e → ColumnHeld (held ls [] [] a cols) (columnOf e)
-event-column ls ps ss a cols e t = record { narrow = t .column .narrow; sized = t .column .sized; inside = t .column .inside }
+event-column ls ps ss a cols e t = record { narrow = t .column .narrow; sized = t .column .sized; inside = t .column .inside; line = t .column .line }

@@ -1,4 +1,4 @@
--- What changes at a position is what the crossings of its group turn.
+-- What changes at a position is what the crossings of its group flip.
 use Prim.Native.Nat.{ℕ, zero, suc, _+_, _-_, _≤_, _<_}
 use native.Mathlib.Decide.{decLt}
 use native.Mathlib.Nat.{not-suc-le-zero, le-of-suc-le-suc}
@@ -18,9 +18,9 @@ use Rattle.formula.specs.Flips.{after}
 use Rattle.formula.proofs.States.{after-changedBy, after-append}
 use Rattle.lines.specs.Lines.{LineLists, lineLists, Crossing, crossings, bits, ordered, judged, crossed, shortOf, asFarAs, stateBefore, stateAt, lowestFrom, shapeAt}
 use Rattle.lines.specs.Right.{LowestChanged}
-use Rattle.lines.specs.AtIndex.{item, groupEndsAt, Ascending}
+use Rattle.lines.specs.AtIndex.{item, groupEndsAt, Accepted}
 use Rattle.lines.proofs.Keys.{yes-leK, ltZ-not, lt→no, lt→le, leZ-self, lt-le, le-lt}
-use Rattle.lines.proofs.Items.{judged-ascending}
+use Rattle.lines.proofs.Items.{accepted-positions, accepted-shapes, accepted-named, accepted-rises}
 use Rattle.lines.proofs.Lowest.{lowest-is}
 use Rattle.lines.proofs.Crossings.{crossed-in, crossed-out}
 use Rattle.line_writing.specs.Groups.{stateOf, aside, GroupStart, FirstThere, GroupEnd, GroupShape, FewShapes, Least, Tallied}
@@ -83,7 +83,7 @@ or-right : (a b : Bool) → a ≡ true → (not a || b) ≡ true → b ≡ true
 or-right true b e h = h
 or-right false b e h = absurd (false≢true e)
 
-module _ (names : ℕ) (c : LineLists) (up : Ascending names c) where
+module _ (names : ℕ) (c : LineLists) (up : Accepted names c) where
   abbrev L : ℕ → ℕ
   L j = getD (c .lines) j 0
 
@@ -92,14 +92,14 @@ module _ (names : ℕ) (c : LineLists) (up : Ascending names c) where
 
   -- of one line: what stands later lies no earlier
   lines-rise : (j k : ℕ) → j ≤ k → k < length (c .lines) → L j ≤ L k
-  lines-rise j k lo hi = by (yes-leK (L j) (P j) (L k) (P k) (up .rises j k lo hi))
+  lines-rise j k lo hi = by (yes-leK (L j) (P j) (L k) (P k) (accepted-rises up j k lo hi))
     where
       by : (L j < L k) ⊎ ((L j ≡ L k) × (leZ (P j) (P k) ≡ true)) → L j ≤ L k
       by (inl h) = omega arith
       by (inr h) = omega arith
 
   places-rise : (j k : ℕ) → j ≤ k → k < length (c .lines) → L k ≤ L j → leZ (P j) (P k) ≡ true
-  places-rise j k lo hi same = by (yes-leK (L j) (P j) (L k) (P k) (up .rises j k lo hi))
+  places-rise j k lo hi same = by (yes-leK (L j) (P j) (L k) (P k) (accepted-rises up j k lo hi))
     where
       by : (L j < L k) ⊎ ((L j ≡ L k) × (leZ (P j) (P k) ≡ true)) → leZ (P j) (P k) ≡ true
       by (inl h) = absurd (omega arith)
@@ -158,11 +158,11 @@ beq-not true false = refl
 beq-not false true = refl
 beq-not false false = refl
 
--- whether a state differs from what it was hangs on the shapes turned alone
-turned-alike : (ss : List ℕ) (p q : State) (t : ℕ) (a b : Bool) → Bool·beq a (p t) ≡ Bool·beq b (q t) → Bool·beq a (after p ss t) ≡ Bool·beq b (after q ss t)
+-- whether a state differs from what it was hangs on the shapes flipped alone
+flipped-alike : (ss : List ℕ) (p q : State) (t : ℕ) (a b : Bool) → Bool·beq a (p t) ≡ Bool·beq b (q t) → Bool·beq a (after p ss t) ≡ Bool·beq b (after q ss t)
 unfolding after
-turned-alike [] p q t a b e = e
-turned-alike (s ∷ ss) p q t a b e = turned-alike ss (flipped s p) (flipped s q) t a b (by (eqb t s))
+flipped-alike [] p q t a b e = e
+flipped-alike (s ∷ ss) p q t a b e = flipped-alike ss (flipped s p) (flipped s q) t a b (by (eqb t s))
   where
     by : (u : Bool) → Bool·beq a (cond u (not (p t)) (p t)) ≡ Bool·beq b (cond u (not (q t)) (q t))
     by true = beq-not a (p t) ∙ ap not e ∙ sym (beq-not b (q t))
@@ -184,15 +184,27 @@ lowest-same (suc k) n a b p q h = by (Bool·beq (a n) (b n)) (Bool·beq (p n) (q
     by false true e ih = absurd (false≢true e)
     by false false e ih = refl
 
-pub group-end : (names : ℕ) (rows ls : List ℕ) (ps : List ℤ) (ss : List ℕ) (i : ℕ) → Ascending names (lineLists rows ls ps ss) → i < length ls → groupEndsAt ls ps i ≡ true → GroupEnd ls ps ss i
+pub group-end : (names : ℕ) (rows ls : List ℕ) (ps : List ℤ) (ss : List ℕ) (i : ℕ) → Accepted names (lineLists rows ls ps ss) → i < length ls → groupEndsAt ls ps i ≡ true → GroupEnd ls ps ss i
 group-end names rows ls ps ss i up h ends = record { inside = h; ends = ends; names = names; rows = rows; accepted = up }
+
+pub group-positions : {ls : List ℕ} {ps : List ℤ} {ss : List ℕ} {i : ℕ} → GroupEnd ls ps ss i → length ps ≡ length ls
+group-positions end = accepted-positions (end .accepted)
+
+pub group-placed : {ls : List ℕ} {ps : List ℤ} {ss : List ℕ} {i : ℕ} → GroupEnd ls ps ss i → i < length ps
+group-placed end = omega (arith, accepted-positions (end .accepted), end .inside)
+
+pub group-shaped : {ls : List ℕ} {ps : List ℤ} {ss : List ℕ} {i : ℕ} → GroupEnd ls ps ss i → i < length ss
+group-shaped end = omega (arith, accepted-shapes (end .accepted), end .inside)
+
+pub group-within : {ls : List ℕ} {ps : List ℤ} {ss : List ℕ} {i : ℕ} → GroupEnd ls ps ss i → i + 1 ≤ length ss
+group-within end = omega (arith, group-shaped end)
 
 -- there are such lists
 two-at-five : GroupEnd (0 ∷ 0 ∷ []) (pos 5 ∷ pos 5 ∷ []) (1 ∷ 0 ∷ []) 1
 unfolding judged ordered bits
 two-at-five =
     let c : LineLists = lineLists (1 ∷ 0 ∷ []) (0 ∷ 0 ∷ []) (pos 5 ∷ pos 5 ∷ []) (1 ∷ 0 ∷ []) in
-    group-end 2 (c .rows) (c .lines) (c .positions) (c .shapes) 1 (judged-ascending 2 (omega arith) c refl) (omega arith) refl
+    group-end 2 (c .rows) (c .lines) (c .positions) (c .shapes) 1 (record { some = omega arith; few = omega arith; judged-so = refl }) (omega arith) refl
 
 module _ {ls : List ℕ} {ps : List ℤ} {ss : List ℕ} {i g : ℕ} (end : GroupEnd ls ps ss i) (begun : GroupStart ls ps i g) where
   abbrev xs : List Crossing
@@ -207,19 +219,22 @@ module _ {ls : List ℕ} {ps : List ℤ} {ss : List ℕ} {i g : ℕ} (end : Grou
   abbrev group : List ℕ
   group = take (i + 1 - g) (drop g ss)
 
+  group-few : (j : ℕ) → j < length ls → getD ss j 0 < 256
+  group-few j h = omega (arith, accepted-named (end .accepted) j h, end .accepted .few)
+
   crossed-group : crossed (asFarAs l p) xs ≡ crossed (shortOf l p) xs ++ group
   crossed-group =
       let names : ℕ = end .names in
       let c : LineLists = lineLists (end .rows) ls ps ss in
       let up = end .accepted in
       let top : g + (i + 1 - g) ≡ i + 1 = omega (arith, begun .within) in
-      more-pass (asFarAs l p) (shortOf l p) g (i + 1 - g) ls ps ss (up .positions) (up .shapes) (omega (arith, end .inside))
+      more-pass (asFarAs l p) (shortOf l p) g (i + 1 - g) ls ps ss (accepted-positions up) (accepted-shapes up) (omega (arith, end .inside))
       (early names c up i (end .inside) g begun) (λ j lo hi. here names c up i (end .inside) g begun j lo (omega arith)) (λ j lo hi. late names c up i (end .inside) (end .ends) j (omega arith) hi)
 
   -- what is inside at the line's start makes no difference
   group-lowest : (start : ℕ → State) → shapeAt start xs l p ≡ lowestFrom 256 0 outside (after outside group)
   unfolding shapeAt
-  group-lowest start = lowest-same 256 0 before beyond outside (after outside group) (λ t. ap (Bool·beq (before t)) (now t) ∙ turned-alike group before outside t (before t) false (beq-self (before t)))
+  group-lowest start = lowest-same 256 0 before beyond outside (after outside group) (λ t. ap (Bool·beq (before t)) (now t) ∙ flipped-alike group before outside t (before t) false (beq-self (before t)))
     where
       before : State
       before = stateBefore start xs l p
@@ -232,11 +247,11 @@ module _ {ls : List ℕ} {ps : List ℤ} {ss : List ℕ} {i g : ℕ} (end : Grou
           ap (λ (u : State). u t) (sym (after-changedBy (crossed (asFarAs l p) xs) (start l))) ∙ ap (λ (us : List ℕ). after (start l) us t) crossed-group
           ∙ after-append (crossed (shortOf l p) xs) group (start l) t ∙ ap (λ (u : State). after u group t) (after-changedBy (crossed (shortOf l p) xs) (start l))
 
-  pub group-one : g ≡ i → GroupShape ls ps ss i (getD ss g 0)
+  group-one : g ≡ i → GroupShape ls ps ss i (getD ss g 0)
   unfolding after
   group-one same = record {
     is = λ start. sym (group-lowest start ∙ ap (λ (us : List ℕ). lowestFrom 256 0 outside (after outside us)) only
-        ∙ lowest-is outside (after outside (s ∷ [])) s (omega (arith, end .accepted .few i (end .inside), ap (λ (k : ℕ). getD ss k 0) same)) alone);
+        ∙ lowest-is outside (after outside (s ∷ [])) s (omega (arith, group-few i (end .inside), ap (λ (k : ℕ). getD ss k 0) same)) alone);
   }
     where
       s : ℕ
@@ -245,7 +260,7 @@ module _ {ls : List ℕ} {ps : List ℤ} {ss : List ℕ} {i g : ℕ} (end : Grou
       only : group ≡ s ∷ []
       only =
           let one : i + 1 - g ≡ 1 = omega arith in
-          rw (one, drop-cons ss g 0 (omega (arith, end .accepted .shapes, end .inside)))
+          rw (one, drop-cons ss g 0 (omega (arith, accepted-shapes (end .accepted), end .inside)))
 
       alone : LowestChanged outside (after outside (s ∷ [])) s
       alone = record { changed = λ q. false≢true (q ∙ ap (λ (b : Bool). cond b true false) (eq-eqb s s refl)); lowest = λ t h. rw (ne-eqb t s (omega arith)) }
@@ -254,7 +269,7 @@ module _ {ls : List ℕ} {ps : List ℤ} {ss : List ℕ} {i g : ℕ} (end : Grou
   few-group = record { few = λ j h. by j (omega (arith, length-take (i + 1 - g) (drop g ss), h)) }
     where
       by : (j : ℕ) → j < i + 1 - g → getD group j 0 < 256
-      by j h = rw (getD-take (i + 1 - g) (drop g ss) j 0 h, getD-drop g ss j 0) (end .accepted .few (g + j) (omega (arith, end .inside, begun .within)))
+      by j h = rw (getD-take (i + 1 - g) (drop g ss) j 0 h, getD-drop g ss j 0) (group-few (g + j) (omega (arith, end .inside, begun .within)))
 
   pub group-many : {odd : List ℕ} {r : ℕ} → Tallied group (length group) (replicate 256 0) odd → Least group (length group) (stateOf odd) r → GroupShape ls ps ss i r
   group-many {odd} t least = record { is = λ start. sym (group-lowest start ∙ ap (lowestFrom 256 0 outside) (sym states) ∙ least-lowest states few-group least) }

@@ -2,45 +2,45 @@
 use Prim.Native.Nat.{ℕ, _+_, _-_, _<_, _≤_}
 use mathlib.Core.Path.{_≡_, ap, _∙_}
 use mathlib.Core.List.{List, []}
-use borrow.Author.Tests.{eq-eqb, ne-eqb, lt-ltb, le-ltb}
+use borrow.Author.Tests.{lt-ltb, le-ltb, le-leb, lt-leb}
 use lib.IntN.{ℤ}
 use lib.ListN.{length, getD}
 use Rattle.lines.specs.Lines.{low, high}
-use Rattle.line_lists.specs.Block.{columns}
+use Rattle.line_lists.specs.Block.{columns, startLine}
 use Rattle.line_writing.specs.Groups.{GroupEnd}
 use Rattle.line_writing.specs.Finishing.{Held, held, columnLine, columnOf, eventLine}
 use Rattle.line_writing.specs.Spots.{ColumnHeld, ChangeHeld, EventHeld, CrossingSpot, ColumnSpot, EventSpot}
 use Rattle.line_writing.specs.declared.spots.Spot.{Spot}
 
 module _ (ls : List ℕ) (ps : List ℤ) (ss : List ℕ) (a : ℕ) (cols : List ℕ) (j : ℕ) where
-  pub column-inside : ColumnHeld (held ls ps ss a cols) j → (getD cols j 0 ≡ 65535 → ⊥) → a + getD cols j 0 < length ls
+  pub column-inside : ColumnHeld (held ls ps ss a cols) j → getD cols j 0 < columns → a + getD cols j 0 < length ls
   column-inside c n = c .inside n
 
-  pub change-inside : ChangeHeld (held ls ps ss a cols) j → (getD cols j 0 ≡ 65535 → ⊥) → a + getD cols j 0 < length ls
+  pub change-inside : ChangeHeld (held ls ps ss a cols) j → getD cols j 0 < columns → a + getD cols j 0 < length ls
   change-inside c n = c .column .inside n
 
-  module _ (n : getD cols j 0 ≡ 65535 → ⊥) (i : ℕ) (is : i ≡ a + getD cols j 0) where
+  module _ (n : getD cols j 0 < columns) (i : ℕ) (is : i ≡ a + getD cols j 0) where
     pub change-group : ChangeHeld (held ls ps ss a cols) j → GroupEnd ls ps ss i
     change-group c = rw is (c .group n)
 
     pub spot-crossing : (p : Spot) → CrossingSpot ls ps ss i p → ColumnSpot (held ls ps ss a cols) j p
-    spot-crossing p s = record { is = λ start. rw (ne-eqb (getD cols j 0) 65535 n, ← is) (λ k. record { at = s .at k; shape = s .shape .is start k }) }
+    spot-crossing p s = record { is = λ start. rw (lt-leb columns (getD cols j 0) n, ← is) (λ k. record { at = s .at k; shape = s .shape .is start k }) }
 
-    pub line-crossing : (starts : List ℕ) → getD ls i 0 ≡ columnLine (held ls ps ss a cols) starts j
-    line-crossing starts = rw (ne-eqb (getD cols j 0) 65535 n, is)
+    line-crossing : getD ls i 0 ≡ columnLine (held ls ps ss a cols) j
+    line-crossing = rw (lt-leb columns (getD cols j 0) n, is)
 
-  module _ (e : getD cols j 0 ≡ 65535) where
+  module _ (e : columns ≤ getD cols j 0) where
     pub spot-start : ColumnSpot (held ls ps ss a cols) j (record { at = low; shape = 65535 })
-    spot-start = record { is = λ start. rw (eq-eqb (getD cols j 0) 65535 e) }
+    spot-start = record { is = λ start. rw (le-leb columns (getD cols j 0) e) }
 
-    pub line-start : (starts : List ℕ) → getD starts j 0 ≡ columnLine (held ls ps ss a cols) starts j
-    line-start starts = rw (eq-eqb (getD cols j 0) 65535 e)
+    line-start : startLine cols j ≡ columnLine (held ls ps ss a cols) j
+    line-start = rw (le-leb columns (getD cols j 0) e)
 
-pub line-start-held : (ls : List ℕ) (a : ℕ) (cols : List ℕ) (j : ℕ) → getD cols j 0 ≡ 65535 → (starts : List ℕ) → getD starts j 0 ≡ columnLine (held ls [] [] a cols) starts j
-line-start-held ls a cols j e starts = line-start ls [] [] a cols j e starts
+pub line-start-held : (ls : List ℕ) (a : ℕ) (cols : List ℕ) (j : ℕ) → columns ≤ getD cols j 0 → startLine cols j ≡ columnLine (held ls [] [] a cols) j
+line-start-held ls a cols j e = line-start ls [] [] a cols j e
 
-pub line-crossing-held : (ls : List ℕ) (a : ℕ) (cols : List ℕ) (j : ℕ) → (getD cols j 0 ≡ 65535 → ⊥) → (i : ℕ) → i ≡ a + getD cols j 0 → (starts : List ℕ) → getD ls i 0 ≡ columnLine (held ls [] [] a cols) starts j
-line-crossing-held ls a cols j n i is starts = line-crossing ls [] [] a cols j n i is starts
+pub line-crossing-held : (ls : List ℕ) (a : ℕ) (cols : List ℕ) (j : ℕ) → getD cols j 0 < columns → (i : ℕ) → i ≡ a + getD cols j 0 → getD ls i 0 ≡ columnLine (held ls [] [] a cols) j
+line-crossing-held ls a cols j n i is = line-crossing ls [] [] a cols j n i is
 
 pub event-change : {b : Held} {e : ℕ} → EventHeld b e → e < columns → ChangeHeld b e
 event-change h l = h .change l
@@ -62,5 +62,5 @@ column-high e l = rw (le-ltb e columns l)
 pub column-at : (ls : List ℕ) (a : ℕ) (cols : List ℕ) (e j : ℕ) → j ≡ columnOf e → ColumnHeld (held ls [] [] a cols) (columnOf e) → ColumnHeld (held ls [] [] a cols) j
 column-at ls a cols e j is c = rw is c
 
-pub event-line-at : (ls : List ℕ) (a : ℕ) (cols starts : List ℕ) (e j l : ℕ) → j ≡ columnOf e → l ≡ columnLine (held ls [] [] a cols) starts j → l ≡ eventLine (held ls [] [] a cols) starts e
-event-line-at ls a cols starts e j l is at = at ∙ ap (columnLine (held ls [] [] a cols) starts) is
+pub event-line-at : (ls : List ℕ) (a : ℕ) (cols : List ℕ) (e j l : ℕ) → j ≡ columnOf e → l ≡ columnLine (held ls [] [] a cols) j → l ≡ eventLine (held ls [] [] a cols) e
+event-line-at ls a cols e j l is at = at ∙ ap (columnLine (held ls [] [] a cols)) is

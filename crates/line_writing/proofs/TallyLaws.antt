@@ -1,4 +1,4 @@
--- A byte a shape turned at each crossing, and the least that is on.
+-- A byte a shape flipped at each crossing, and the least that is on.
 use Prim.Native.Nat.{ℕ, zero, suc, _+_, _≤_, _<_}
 use native.Mathlib.Decide.{decLt}
 use native.Mathlib.Numerals.{add-one}
@@ -36,11 +36,11 @@ zero-at (suc n) (suc s) = zero-at n s
 pub none-inside : (n : ℕ) → stateOf (replicate n 0) ≡ outside
 none-inside n = fun-ext (λ s. ap (λ (k : ℕ). not (eqb k 0)) (zero-at n s))
 
-pub turned-on : {odd : List ℕ} {s : ℕ} → s < 256 → length odd ≡ 256 → getD odd s 0 ≡ 0 → Flipped s odd (set odd s 1)
-turned-on {odd} {s} h long off = record { sized = simp length-set long; states = flipped-set odd s 1 (omega arith) (rw (eq-eqb _ _ off)) }
+pub flipped-on : {odd : List ℕ} {s : ℕ} → s < 256 → length odd ≡ 256 → getD odd s 0 ≡ 0 → Flipped s odd (set odd s 1)
+flipped-on {odd} {s} h long off = record { sized = simp length-set long; states = flipped-set odd s 1 (omega arith) (rw (eq-eqb _ _ off)) }
 
-pub turned-off : {odd : List ℕ} {s : ℕ} → s < 256 → length odd ≡ 256 → (getD odd s 0 ≡ 0 → ⊥) → Flipped s odd (set odd s 0)
-turned-off {odd} {s} h long on = record { sized = simp length-set long; states = flipped-set odd s 0 (omega arith) (rw (ne-eqb _ _ on)) }
+pub flipped-off : {odd : List ℕ} {s : ℕ} → s < 256 → length odd ≡ 256 → (getD odd s 0 ≡ 0 → ⊥) → Flipped s odd (set odd s 0)
+flipped-off {odd} {s} h long on = record { sized = simp length-set long; states = flipped-set odd s 0 (omega arith) (rw (ne-eqb _ _ on)) }
 
 pub tally-start : {shapes odd : List ℕ} → length odd ≡ 256 → Tallied shapes 0 odd odd
 unfolding after
@@ -92,7 +92,7 @@ least-more {shapes} {state} {j} {r} {q} {s} l at is = by (state s) refl (ltb s r
 pub least-end : {shapes : List ℕ} {state : State} {j r : ℕ} → Least shapes j state r → length shapes ≤ j → Least shapes (length shapes) state r
 least-end l h = record { among = λ k lt on. l .among k (omega arith) on; on = l .on }
 
--- a shape whose state is turned stands among those crossed
+-- a shape whose state is flipped stands among those crossed
 crossed-some : (shapes : List ℕ) (state : State) (s : ℕ) → ((k : ℕ) × (k < length shapes) × (getD shapes k 0 ≡ s)) ⊎ (after state shapes s ≡ state s)
 unfolding after
 crossed-some [] state s = inr refl

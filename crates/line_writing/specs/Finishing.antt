@@ -3,12 +3,12 @@ use Prim.Native.Nat.{ℕ, _+_, _-_}
 use mathlib.Core.Bool.{Bool, true, false, cond}
 use mathlib.Core.List.{List, [], _∷_, _++_}
 use mathlib.Core.Option.{Option, none, some}
-use lib.Dec.{eqb, ltb}
+use lib.Dec.{ltb}
 use lib.IntN.{ℤ, pos}
 use lib.ListN.{getD}
 use Rattle.formula.specs.States.{State}
 use Rattle.lines.specs.Lines.{crossings, low, high, shapeAt, Wall, Edge, edgeAt, openEnd, closed}
-use Rattle.line_lists.specs.Block.{columns}
+use Rattle.line_lists.specs.Block.{columns, isStart, startLine}
 
 -- The crossings, and the columns of a block whose first crossing is `first`.
 pub record Held : Type 0 where
@@ -22,15 +22,14 @@ abbrev pub held : List ℕ → List ℤ → List ℕ → ℕ → List ℕ → He
 held ls ps ss a cols = record { lines = ls; positions = ps; shapes = ss; first = a; cols = cols }
 
 -- Column j is a line's start; or else this crossing.
-abbrev pub starting : Held → ℕ → Bool
-starting b j = eqb (getD (b .cols) j 0) 65535
+abbrev starting : Held → ℕ → Bool
+starting b j = isStart (b .cols) j
 
 abbrev pub crossingOf : Held → ℕ → ℕ
 crossingOf b j = b .first + getD (b .cols) j 0
 
--- `starts` has the line of a start.
-abbrev pub columnLine : Held → List ℕ → ℕ → ℕ
-columnLine b starts j = cond (starting b j) (getD starts j 0) (getD (b .lines) (crossingOf b j) 0)
+abbrev pub columnLine : Held → ℕ → ℕ
+columnLine b j = cond (starting b j) (startLine (b .cols) j) (getD (b .lines) (crossingOf b j) 0)
 
 -- The edge of a wall that begins or ends at column j, where the lines start in these states.
 abbrev pub edgeThere : (ℕ → State) → Held → ℕ → Edge
@@ -40,8 +39,8 @@ edgeThere start b j = cond (starting b j) (openEnd low) (edgeAt (shapeAt start (
 abbrev pub columnOf : ℕ → ℕ
 columnOf e = cond (ltb e columns) e (e - columns)
 
-abbrev pub eventLine : Held → List ℕ → ℕ → ℕ
-eventLine b starts e = columnLine b starts (columnOf e)
+abbrev pub eventLine : Held → ℕ → ℕ
+eventLine b e = columnLine b (columnOf e)
 
 abbrev pub eventEdge : (ℕ → State) → Held → ℕ → Edge
 eventEdge start b e = cond (ltb e columns) (edgeThere start b e) (openEnd high)

@@ -11,7 +11,7 @@ use lib.Signed.{ltZ}
 use Rattle.formula.specs.States.{State, flipped}
 use Rattle.formula.specs.Flips.{after}
 use Rattle.lines.specs.Lines.{lineLists, crossings, shapeAt}
-use Rattle.lines.specs.AtIndex.{groupEndsAt, Ascending}
+use Rattle.lines.specs.AtIndex.{groupEndsAt, Accepted}
 
 -- a byte a shape: 0 is outside
 abbrev pub stateOf : List ℕ → State
@@ -37,7 +37,7 @@ pub record GroupEnd (ls : List ℕ) (ps : List ℤ) (ss : List ℕ) (i : ℕ) : 
   pub ends : groupEndsAt ls ps i ≡ true
   pub names : ℕ
   pub rows : List ℕ
-  pub accepted : Ascending names (lineLists rows ls ps ss)
+  pub accepted : Accepted names (lineLists rows ls ps ss)
 
 -- r is the shape at the position of crossing i, whatever is inside at the lines' starts
 pub record GroupShape (ls : List ℕ) (ps : List ℤ) (ss : List ℕ) (i r : ℕ) : Type 0 where
@@ -46,12 +46,12 @@ pub record GroupShape (ls : List ℕ) (ps : List ℤ) (ss : List ℕ) (i r : ℕ
 pub record FewShapes (shapes : List ℕ) : Type 0 where
   pub few : (j : ℕ) → j < length shapes → getD shapes j 0 < 256
 
--- a byte a shape, one of them turned
+-- a byte a shape, one of them flipped
 pub record Flipped (s : ℕ) (odd odd′ : List ℕ) : Type 0 where
   pub sized : length odd′ ≡ 256
   pub states : stateOf odd′ ≡ flipped s (stateOf odd)
 
--- turned at each of the first j shapes
+-- flipped at each of the first j shapes
 pub record Tallied (shapes : List ℕ) (j : ℕ) (odd odd′ : List ℕ) : Type 0 where
   pub sized : length odd′ ≡ 256
   pub states : stateOf odd′ ≡ after (stateOf odd) (take j shapes)

@@ -11,13 +11,14 @@ use Rattle.formula.specs.States.{State}
 use Rattle.lines.specs.Lines.{AnswerLists, Wall, Edge}
 use Rattle.line_lists.specs.Block.{columns}
 use Rattle.line_writing.specs.Finishing.{Held, eventLine, eventEdge, ending, beginning, wallsBy, openBy}
-use Rattle.line_writing.specs.Spots.{openFrom, EventHeld}
+use Rattle.line_writing.specs.Spots.{edgeOf, openFrom, EventHeld}
+use Rattle.line_writing.specs.declared.spots.Bound.{Bound}
 use Rattle.line_writing.specs.declared.writing.Finished.{Finished}
 use Rattle.line_writing.specs.declared.writing.Course.{Course}
 
 -- ---- what the numbers stand for
 
-abbrev pub wallOf : Finished → List Wall
+abbrev wallOf : Finished → List Wall
 wallOf w = record { line = w .line; start = w .from .at; end = w .to .at; startShape = w .from .shape; endShape = w .to .shape } ∷ []
 
 -- where the open wall began
@@ -68,24 +69,13 @@ pub record Finishes (w : Finished) (k : ℕ) (lent after : AnswerLists) (count :
 
 -- ---- one event
 
--- event k of those listed
-pub record Turning (b : Held) (starts events : List ℕ) (k : ℕ) (r : Course) (lent : AnswerLists) : Type 0 where
-  pub index : k < 2 * columns
-  pub sized : length events ≡ 2 * columns
-  pub event : EventHeld b (getD events k 0)
-  pub starts-sized : length starts ≡ columns
-  pub room : HasRoom (r .count + openCount r) lent
-
--- a wall begins at this edge, or the open one ends there
-pub record Changed (l : ℕ) (here : Edge) (r : Course) (lent : AnswerLists) (r′ : Course) (after : AnswerLists) : Type 0 where
-  pub put : Put (ending l here (openOf r)) (r .count) lent after
-  pub opens : openOf r′ ≡ beginning here (openOf r)
-
-pub record Turned (b : Held) (starts events : List ℕ) (k : ℕ) (r : Course) (lent : AnswerLists) (r′ : Course) (after : AnswerLists) : Type 0 where
+-- a wall begins at a bound, or the open one ends there
+pub record Switched (b : Bound) (r : Course) (lent : AnswerLists) (r′ : Course) (after : AnswerLists) : Type 0 where
   pub count : r′ .count ≡ r .count + openCount r
-  pub turns : r′ .count + openCount r′ ≡ r .count + 1
+  pub switches : r′ .count + openCount r′ ≡ r .count + 1
   pub same : SameLengths lent after
-  pub changed : (start : ℕ → State) → Changed (eventLine b starts (getD events k 0)) (eventEdge start b (getD events k 0)) r lent r′ after
+  pub put : Put (ending (b .line) (edgeOf (b .here)) (openOf r)) (r .count) lent after
+  pub opens : openOf r′ ≡ beginning (edgeOf (b .here)) (openOf r)
 
 -- ---- the first m events listed
 
@@ -93,19 +83,18 @@ pub record Turned (b : Held) (starts events : List ℕ) (k : ℕ) (r : Course) (
 abbrev pub wallCount : Course → ℕ → ℕ
 wallCount r m = r .count + (m + openCount r) / 2
 
-pub record Delivering (b : Held) (starts events : List ℕ) (m : ℕ) (r : Course) (lent : AnswerLists) : Type 0 where
-  pub starts-sized : length starts ≡ columns
+pub record Delivering (b : Held) (events : List ℕ) (m : ℕ) (r : Course) (lent : AnswerLists) : Type 0 where
   pub sized : length events ≡ 2 * columns
   pub few : m ≤ 2 * columns
   pub each : (k : ℕ) → k < m → EventHeld b (getD events k 0)
   pub room : HasRoom (wallCount r m) lent
 
-pub record Made (start : ℕ → State) (b : Held) (starts es : List ℕ) (r : Course) (lent : AnswerLists) (r′ : Course) (after : AnswerLists) : Type 0 where
-  pub put : Put (wallsBy (eventEdge start b) (eventLine b starts) (openOf r) es) (r .count) lent after
-  pub count : r′ .count ≡ r .count + length (wallsBy (eventEdge start b) (eventLine b starts) (openOf r) es)
+pub record Made (start : ℕ → State) (b : Held) (es : List ℕ) (r : Course) (lent : AnswerLists) (r′ : Course) (after : AnswerLists) : Type 0 where
+  pub put : Put (wallsBy (eventEdge start b) (eventLine b) (openOf r) es) (r .count) lent after
+  pub count : r′ .count ≡ r .count + length (wallsBy (eventEdge start b) (eventLine b) (openOf r) es)
   pub opens : openOf r′ ≡ openBy (eventEdge start b) (openOf r) es
 
-pub record Delivered (b : Held) (starts events : List ℕ) (m : ℕ) (r : Course) (lent : AnswerLists) (r′ : Course) (after : AnswerLists) : Type 0 where
+pub record Delivered (b : Held) (events : List ℕ) (m : ℕ) (r : Course) (lent : AnswerLists) (r′ : Course) (after : AnswerLists) : Type 0 where
   pub same : SameLengths lent after
   pub room : HasRoom (r′ .count) lent
-  pub made : (start : ℕ → State) → Made start b starts (take m events) r lent r′ after
+  pub made : (start : ℕ → State) → Made start b (take m events) r lent r′ after

@@ -26,7 +26,7 @@ fn group_start(line: &[u32], at: &[i32], i: usize) -> usize
 }
 
 // Shape s crossed once more.
-fn turn_byte(odd: &mut [u8; 256], s: usize)
+fn flip_byte(odd: &mut [u8; 256], s: usize)
     requires { ⌜ (s < 256) × (length (now odd) ≡ 256) ⌝ }
     ensures { λ _. ⌜ Flipped s (now (odd .entry)) (now (odd .exit)) ⌝ }
 {
@@ -45,7 +45,7 @@ fn tally(shapes: &[u16], odd: &mut [u8; 256])
     let mut j: usize = 0;
     while j < shapes.len() {
         let s = basics::wide(shapes[j]);
-        turn_byte(odd, s);
+        flip_byte(odd, s);
         j += 1;
     }
 }
@@ -95,8 +95,8 @@ fn stands_first(line: &[u32], at: &[i32], i: usize) -> bool
     line_lists::below(at, h, i)
 }
 
-// Of the shapes crossed at the position of the crossing at i, the lowest that is turned.
-fn lowest_turned(line: &[u32], at: &[i32], shape: &[u16], i: usize) -> u16
+// Of the shapes crossed at the position of the crossing at i, the lowest that is flipped.
+fn lowest_flipped(line: &[u32], at: &[i32], shape: &[u16], i: usize) -> u16
     requires { ⌜ GroupEnd (now line) (now at) (now shape) i ⌝ }
     ensures { λ r. ⌜ GroupShape (now (line .entry)) (now (at .entry)) (now (shape .entry)) i r ⌝ }
 {
@@ -116,5 +116,5 @@ pub fn group_shape(line: &[u32], at: &[i32], shape: &[u16], i: usize) -> u16
     if stands_first(line, at, i) {
         return shape[i];
     }
-    lowest_turned(line, at, shape, i)
+    lowest_flipped(line, at, shape, i)
 }

@@ -2,7 +2,6 @@
 use crate::shapes::group_shape;
 use line_lists::COLUMNS;
 use line_lists::EVENTS;
-use line_lists::START;
 ghost use mathlib.Core.Path.{_≡_};
 ghost use mathlib.Core.List.{[]};
 ghost use Prim.Native.Nat.{_*_, _<_};
@@ -10,7 +9,7 @@ ghost use lib.ListN.{length, getD};
 ghost use Rattle.line_lists.specs.Block.{columns};
 ghost use Rattle.line_writing.specs.Groups.{GroupEnd};
 ghost use Rattle.line_writing.specs.Finishing.{held, columnOf, columnLine, eventLine};
-ghost use Rattle.line_writing.specs.Spots.{ColumnHeld, ChangeHeld, EventHeld, CrossingSpot, ColumnSpot, EventSpot};
+ghost use Rattle.line_writing.specs.Spots.{ColumnHeld, ChangeHeld, EventHeld, CrossingSpot, ColumnSpot, EventSpot, EventListed, EventBound};
 
 // Where a wall begins or ends, and the shape there.
 pub struct Spot {
@@ -18,7 +17,13 @@ pub struct Spot {
     pub shape: u16,
 }
 
-pub fn event_at(events: &[u16; EVENTS], k: usize) -> usize
+// What bounds a wall: an edge, and its line.
+pub struct Bound {
+    pub line: u32,
+    pub here: Spot,
+}
+
+fn event_at(events: &[u16; EVENTS], k: usize) -> usize
     requires { ⌜ (k < 2 * columns) × (length (now events) ≡ 2 * columns) ⌝ }
     ensures { λ r. ⌜ r ≡ getD (now (events .entry)) k 0 ⌝ }
 {
@@ -40,14 +45,14 @@ fn column_spot(
     at: &[i32],
     shape: &[u16],
     a: usize,
-    cols: &[u16; COLUMNS],
+    cols: &[usize; COLUMNS],
     j: usize,
 ) -> Spot
     requires { ⌜ ChangeHeld (held (now line) (now at) (now shape) a (now cols)) j ⌝ }
     ensures { λ r. ⌜ ColumnSpot (held (now (line .entry)) (now (at .entry)) (now (shape .entry)) a (now (cols .entry))) j r ⌝ }
 {
     let o = cols[j];
-    if o == START {
+    if COLUMNS <= o {
         return Spot {
             at: -2147483648,
             shape: 65535,
@@ -58,12 +63,12 @@ fn column_spot(
 }
 
 // The edge at event e of such a block.
-pub fn event_spot(
+fn event_spot(
     line: &[u32],
     at: &[i32],
     shape: &[u16],
     a: usize,
-    cols: &[u16; COLUMNS],
+    cols: &[usize; COLUMNS],
     e: usize,
 ) -> Spot
     requires { ⌜ EventHeld (held (now line) (now at) (now shape) a (now cols)) e ⌝ }
@@ -87,34 +92,41 @@ fn column_of(e: usize) -> usize
     e - COLUMNS
 }
 
-fn column_line(
-    line: &[u32],
-    a: usize,
-    cols: &[u16; COLUMNS],
-    starts: &[u32; COLUMNS],
-    j: usize,
-) -> u32
-    requires { ⌜ ColumnHeld (held (now line) [] [] a (now cols)) j × (length (now starts) ≡ columns) ⌝ }
-    ensures { λ r. ⌜ r ≡ columnLine (held (now (line .entry)) [] [] a (now (cols .entry))) (now (starts .entry)) j ⌝ }
+fn column_line(line: &[u32], a: usize, cols: &[usize; COLUMNS], j: usize) -> u32
+    requires { ⌜ ColumnHeld (held (now line) [] [] a (now cols)) j ⌝ }
+    ensures { λ r. ⌜ r ≡ columnLine (held (now (line .entry)) [] [] a (now (cols .entry))) j ⌝ }
 {
     let o = cols[j];
-    if o == START {
-        return starts[j];
+    if COLUMNS <= o {
+        return (o - COLUMNS) as u32;
     }
     let i = line_lists::crossing_at(a, o, line.len());
     line[i]
 }
 
 // The line on which event e stands.
-pub fn event_line(
-    line: &[u32],
-    a: usize,
-    cols: &[u16; COLUMNS],
-    starts: &[u32; COLUMNS],
-    e: usize,
-) -> u32
-    requires { ⌜ ColumnHeld (held (now line) [] [] a (now cols)) (columnOf e) × (length (now starts) ≡ columns) ⌝ }
-    ensures { λ r. ⌜ r ≡ eventLine (held (now (line .entry)) [] [] a (now (cols .entry))) (now (starts .entry)) e ⌝ }
+fn event_line(line: &[u32], a: usize, cols: &[usize; COLUMNS], e: usize) -> u32
+    requires { ⌜ ColumnHeld (held (now line) [] [] a (now cols)) (columnOf e) ⌝ }
+    ensures { λ r. ⌜ r ≡ eventLine (held (now (line .entry)) [] [] a (now (cols .entry))) e ⌝ }
 {
-    column_line(line, a, cols, starts, column_of(e))
+    column_line(line, a, cols, column_of(e))
+}
+
+// Where event k of those listed stands.
+pub fn bound_at(
+    events: &[u16; EVENTS],
+    k: usize,
+    line: &[u32],
+    at: &[i32],
+    shape: &[u16],
+    a: usize,
+    cols: &[usize; COLUMNS],
+) -> Bound
+    requires { ⌜ EventListed (held (now line) (now at) (now shape) a (now cols)) (now events) k ⌝ }
+    ensures { λ r. ⌜ EventBound (held (now (line .entry)) (now (at .entry)) (now (shape .entry)) a (now (cols .entry))) (getD (now (events .entry)) k 0) r ⌝ }
+{
+    let e = event_at(events, k);
+    let here = event_spot(line, at, shape, a, cols, e);
+    let l = event_line(line, a, cols, e);
+    Bound { line: l, here }
 }

@@ -1,14 +1,13 @@
 // Events become walls: one function, handed a finished wall, puts it into five lists. Whose lists they are is the caller's.
+use crate::spots::Bound;
 use crate::spots::Spot;
-use crate::spots::event_at;
-use crate::spots::event_line;
-use crate::spots::event_spot;
+use crate::spots::bound_at;
 use line_lists::COLUMNS;
 use line_lists::EVENTS;
 ghost use Prim.Native.Nat.{_+_};
 ghost use Rattle.lines.specs.Lines.{answerLists};
 ghost use Rattle.line_writing.specs.Finishing.{held};
-ghost use Rattle.line_writing.specs.Writing.{HasRoom, Finishes, Turning, Turned, Delivering, Delivered};
+ghost use Rattle.line_writing.specs.Writing.{openCount, HasRoom, Finishes, Switched, Delivering, Delivered};
 
 struct Finished {
     line: u32,
@@ -48,16 +47,9 @@ fn finish(
     k + 1
 }
 
-// A wall begins at event k of those listed, or the open one ends there.
-fn turn(
-    events: &[u16; EVENTS],
-    k: usize,
-    line: &[u32],
-    at: &[i32],
-    shape: &[u16],
-    a: usize,
-    cols: &[u16; COLUMNS],
-    starts: &[u32; COLUMNS],
+// A wall begins at a bound, or the open one ends there.
+fn switch(
+    b: Bound,
     r: Course,
     wl: &mut [u32],
     ws: &mut [i32],
@@ -65,16 +57,14 @@ fn turn(
     wf: &mut [u16],
     wt: &mut [u16],
 ) -> Course
-    requires { ⌜ Turning (held (now line) (now at) (now shape) a (now cols)) (now starts) (now events) k r (answerLists (now wl) (now ws) (now we) (now wf) (now wt)) ⌝ }
-    ensures { λ r′. ⌜ Turned (held (now (line .entry)) (now (at .entry)) (now (shape .entry)) a (now (cols .entry))) (now (starts .entry)) (now (events .entry)) k r (answerLists (now (wl .entry)) (now (ws .entry)) (now (we .entry)) (now (wf .entry)) (now (wt .entry))) r′ (answerLists (now (wl .exit)) (now (ws .exit)) (now (we .exit)) (now (wf .exit)) (now (wt .exit))) ⌝ }
+    requires { ⌜ HasRoom (r .count + openCount r) (answerLists (now wl) (now ws) (now we) (now wf) (now wt)) ⌝ }
+    ensures { λ r′. ⌜ Switched b r (answerLists (now (wl .entry)) (now (ws .entry)) (now (we .entry)) (now (wf .entry)) (now (wt .entry))) r′ (answerLists (now (wl .exit)) (now (ws .exit)) (now (we .exit)) (now (wf .exit)) (now (wt .exit))) ⌝ }
 {
-    let e = event_at(events, k);
-    let here = event_spot(line, at, shape, a, cols, e);
+    let here = b.here;
     if r.metal {
-        let l = event_line(line, a, cols, starts, e);
         let from = r.from;
         let w = Finished {
-            line: l,
+            line: b.line,
             from,
             to: here,
         };
@@ -100,8 +90,7 @@ pub fn deliver(
     at: &[i32],
     shape: &[u16],
     a: usize,
-    cols: &[u16; COLUMNS],
-    starts: &[u32; COLUMNS],
+    cols: &[usize; COLUMNS],
     run: Course,
     wl: &mut [u32],
     ws: &mut [i32],
@@ -109,28 +98,14 @@ pub fn deliver(
     wf: &mut [u16],
     wt: &mut [u16],
 ) -> Course
-    requires { ⌜ Delivering (held (now line) (now at) (now shape) a (now cols)) (now starts) (now events) m run (answerLists (now wl) (now ws) (now we) (now wf) (now wt)) ⌝ }
-    ensures { λ r. ⌜ Delivered (held (now (line .entry)) (now (at .entry)) (now (shape .entry)) a (now (cols .entry))) (now (starts .entry)) (now (events .entry)) m run (answerLists (now (wl .entry)) (now (ws .entry)) (now (we .entry)) (now (wf .entry)) (now (wt .entry))) r (answerLists (now (wl .exit)) (now (ws .exit)) (now (we .exit)) (now (wf .exit)) (now (wt .exit))) ⌝ }
+    requires { ⌜ Delivering (held (now line) (now at) (now shape) a (now cols)) (now events) m run (answerLists (now wl) (now ws) (now we) (now wf) (now wt)) ⌝ }
+    ensures { λ r. ⌜ Delivered (held (now (line .entry)) (now (at .entry)) (now (shape .entry)) a (now (cols .entry))) (now (events .entry)) m run (answerLists (now (wl .entry)) (now (ws .entry)) (now (we .entry)) (now (wf .entry)) (now (wt .entry))) r (answerLists (now (wl .exit)) (now (ws .exit)) (now (we .exit)) (now (wf .exit)) (now (wt .exit))) ⌝ }
 {
     let mut r = run;
     let mut k: usize = 0;
     while k < m {
-        r = turn(
-            events,
-            k,
-            line,
-            at,
-            shape,
-            a,
-            cols,
-            starts,
-            r,
-            wl,
-            ws,
-            we,
-            wf,
-            wt,
-        );
+        let b = bound_at(events, k, line, at, shape, a, cols);
+        r = switch(b, r, wl, ws, we, wf, wt);
         k += 1;
     }
     r

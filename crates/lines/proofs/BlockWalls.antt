@@ -4,24 +4,24 @@ use native.Mathlib.Omega.{arith}
 use mathlib.Core.Path.{_≡_, refl, sym, ap, _∙_}
 use mathlib.Core.Bool.{Bool, true, false}
 use mathlib.Core.List.{List, [], _∷_, _++_, append-assoc, append-nil}
-use mathlib.Core.Option.{Option, none, some}
-use lib.ListN.{length, drop, length-append, length-drop}
+use mathlib.Core.Option.{Option, none}
+use lib.ListN.{length, drop, length-drop}
 use lib.Seq.{drop-drop}
 use Rattle.formula.specs.States.{State, outside}
 use Rattle.lines.specs.Lines.{high, Wall, Edge, openEnd, opened, closed}
-use Rattle.lines.specs.Columns.{Column, turned, lastColumn, endsColumns, columnWalls}
-use Rattle.lines.specs.Marked.{Marked, mark, markAt, columnEdge, stateNext, openNext, finished, stateAfter, openAfter, wallsAfter, metalAt}
+use Rattle.lines.specs.Columns.{Column, flippedBy, lastColumn, endsColumns, columnWalls}
+use Rattle.lines.specs.Views.{View, viewOf, viewAt, columnEdge, stateNext, openNext, finished, stateAfter, openAfter, wallsAfter, metalAt}
 use Rattle.lines.proofs.ColumnLines.{column-last, column-on}
 
 -- ---- one column
 
 column-step : (solid : State → Bool) (state : State) (from : Option Edge) (x : Column) (xs : List Column)
     → columnWalls solid state from (x ∷ xs)
-    ≡ finished (solid (turned (x .turns) state)) from (mark (x ∷ xs)) ++ columnWalls solid (stateNext state (mark (x ∷ xs))) (openNext (solid (turned (x .turns) state)) from (mark (x ∷ xs))) xs
+    ≡ finished (solid (flippedBy (x .flips) state)) from (viewOf (x ∷ xs)) ++ columnWalls solid (stateNext state (viewOf (x ∷ xs))) (openNext (solid (flippedBy (x .flips) state)) from (viewOf (x ∷ xs))) xs
 column-step solid state from x xs = by (lastColumn x xs) refl
   where
     metal : Bool
-    metal = solid (turned (x .turns) state)
+    metal = solid (flippedBy (x .flips) state)
 
     ended : List Wall
     ended = closed (endsColumns x xs) metal from (x .line) (columnEdge x)
@@ -30,33 +30,13 @@ column-step solid state from x xs = by (lastColumn x xs) refl
     left = closed true false (opened (endsColumns x xs) metal from (columnEdge x)) (x .line) (openEnd high)
 
     by : (b : Bool) → lastColumn x xs ≡ b
-        → columnWalls solid state from (x ∷ xs) ≡ finished metal from (mark (x ∷ xs)) ++ columnWalls solid (stateNext state (mark (x ∷ xs))) (openNext metal from (mark (x ∷ xs))) xs
+        → columnWalls solid state from (x ∷ xs) ≡ finished metal from (viewOf (x ∷ xs)) ++ columnWalls solid (stateNext state (viewOf (x ∷ xs))) (openNext metal from (viewOf (x ∷ xs))) xs
     by true e = column-last solid state from x xs e ∙ rw e (sym (append-assoc ended left (columnWalls solid outside none xs)))
     by false e = column-on solid state from x xs e ∙ rw (e, append-nil ended)
 
--- at most one wall is finished by each column
-finished-one : (metal : Bool) (from : Option Edge) (m : Marked) → length (finished metal from m) ≤ 1
-finished-one metal from m = by (m .ends) metal from (m .last)
-  where
-    by : (ends metal : Bool) (from : Option Edge) (last : Bool)
-        → length (closed ends metal from (m .column .line) (columnEdge (m .column)) ++ elim last [
-          | true ↦ closed true false (opened ends metal from (columnEdge (m .column))) (m .column .line) (openEnd high)
-          | false ↦ []
-        ]) ≤ 1
-    by false metal none true = omega arith
-    by false metal (some a) true = omega arith
-    by false metal from false = omega arith
-    by true true none true = omega arith
-    by true true (some a) true = omega arith
-    by true true from false = omega arith
-    by true false none true = omega arith
-    by true false (some a) true = omega arith
-    by true false none false = omega arith
-    by true false (some a) false = omega arith
-
 -- ---- a block
 
-module _ (at : ℕ → Marked) (state : State) where
+module _ (at : ℕ → View) (state : State) where
   pub state-zero : stateAfter at state 0 ≡ state
   unfolding stateAfter
   state-zero = refl
@@ -65,7 +45,7 @@ module _ (at : ℕ → Marked) (state : State) where
   unfolding stateAfter
   state-more n = refl
 
-module _ (at : ℕ → Marked) (metal : ℕ → Bool) (from : Option Edge) where
+module _ (at : ℕ → View) (metal : ℕ → Bool) (from : Option Edge) where
   pub open-zero : openAfter at metal from 0 ≡ from
   unfolding openAfter
   open-zero = refl
@@ -82,16 +62,9 @@ module _ (at : ℕ → Marked) (metal : ℕ → Bool) (from : Option Edge) where
   unfolding wallsAfter
   walls-more n = refl
 
-  -- a block of n columns finishes at most n walls
-  block-few : (n : ℕ) → length (wallsAfter at metal from n) ≤ n
-  block-few zero = rw walls-zero (omega arith)
-  block-few (suc n) =
-      rw (walls-more n)
-      (omega (arith, length-append (wallsAfter at metal from n) (finished (metal n) (openAfter at metal from n) (at n)), block-few n, finished-one (metal n) (openAfter at metal from n) (at n)))
-
 -- the walls of the columns that are left, of which the first n are a block
-module _ (solid : State → Bool) (state : State) (from : Option Edge) (xs : List Column) (at : ℕ → Marked) (metal : ℕ → Bool) where
-  pub block-walls : (n : ℕ) → n ≤ length xs → ((j : ℕ) → j < n → at j ≡ markAt xs j) → ((j : ℕ) → j < n → metal j ≡ metalAt solid at state j)
+module _ (solid : State → Bool) (state : State) (from : Option Edge) (xs : List Column) (at : ℕ → View) (metal : ℕ → Bool) where
+  pub block-walls : (n : ℕ) → n ≤ length xs → ((j : ℕ) → j < n → at j ≡ viewAt xs j) → ((j : ℕ) → j < n → metal j ≡ metalAt solid at state j)
       → columnWalls solid state from xs ≡ wallsAfter at metal from n ++ columnWalls solid (stateAfter at state n) (openAfter at metal from n) (drop n xs)
   block-walls zero h are is = rw (walls-zero at metal from, state-zero at state, open-zero at metal from)
   block-walls (suc n) h are is = block-walls n (omega arith) (λ j k. are j (omega arith)) (λ j k. is j (omega arith)) ∙ step (drop n xs) refl
@@ -106,23 +79,23 @@ module _ (solid : State → Bool) (state : State) (from : Option Edge) (xs : Lis
       op = openAfter at metal from n
 
       -- once column n has acted, with m for it and b for its metal
-      beyond : Marked → Bool → List Wall
+      beyond : View → Bool → List Wall
       beyond m b = (done ++ finished b op m) ++ columnWalls solid (stateNext st m) (openNext b op m) (drop (suc n) xs)
 
       step : (ys : List Column) → drop n xs ≡ ys
           → done ++ columnWalls solid st op (drop n xs) ≡ wallsAfter at metal from (suc n) ++ columnWalls solid (stateAfter at state (suc n)) (openAfter at metal from (suc n)) (drop (suc n) xs)
       step [] e = let z : ⊥ = omega (arith, ap length e, length-drop n xs) in absurd z
       step (y ∷ ys) e =
-          let m : Marked = mark (y ∷ ys) in
-          let b : Bool = solid (turned (y .turns) st) in
-          let here : m ≡ at n = sym (are n (omega arith) ∙ ap mark e) in
-          let lit : b ≡ metal n = ap (λ (k : Marked). solid (turned (k .column .turns) st)) here ∙ sym (is n (omega arith)) in
+          let m : View = viewOf (y ∷ ys) in
+          let b : Bool = solid (flippedBy (y .flips) st) in
+          let here : m ≡ at n = sym (are n (omega arith) ∙ ap viewOf e) in
+          let lit : b ≡ metal n = ap (λ (k : View). solid (flippedBy (k .column .flips) st)) here ∙ sym (is n (omega arith)) in
           let one-on : n + 1 ≡ suc n = omega arith in
           let rest : ys ≡ drop (suc n) xs = sym (ap (λ (k : ℕ). drop k xs) (sym one-on) ∙ sym (drop-drop 1 n xs) ∙ ap (drop 1) e) in
           ap (λ (zs : List Column). done ++ columnWalls solid st op zs) e
           ∙ ap (λ (ws : List Wall). done ++ ws) (column-step solid st op y ys)
           ∙ sym (append-assoc done (finished b op m) (columnWalls solid (stateNext st m) (openNext b op m) ys))
           ∙ ap (λ (zs : List Column). (done ++ finished b op m) ++ columnWalls solid (stateNext st m) (openNext b op m) zs) rest
-          ∙ ap (λ (k : Marked). beyond k b) here
+          ∙ ap (λ (k : View). beyond k b) here
           ∙ ap (beyond (at n)) lit
           ∙ sym (rw (walls-more at metal from n, state-more at state n, open-more at metal from n))

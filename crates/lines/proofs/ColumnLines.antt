@@ -9,8 +9,8 @@ use lib.IntN.{ℤ}
 use lib.Signed.{ltZ}
 use Rattle.formula.specs.States.{State, outside, flipped}
 use Rattle.lines.specs.Lines.{Crossing, low, high, Edge, edgeAt, openEnd, endsGroup, opened, closed, wallsOn}
-use Rattle.lines.specs.Columns.{Column, turned, startColumn, crossingColumn, lastColumn, endsColumns, columnWalls}
-use Rattle.lines.specs.Marked.{columnEdge}
+use Rattle.lines.specs.Columns.{Column, flippedBy, startColumn, crossingColumn, lastColumn, endsColumns, columnWalls}
+use Rattle.lines.specs.Views.{columnEdge}
 use Rattle.lines.proofs.Crossings.{Each}
 use Rattle.lines.proofs.LinesBy.{wallsOn-nil, wallsOn-cons}
 use Rattle.lines.proofs.ColumnLists.{Leaves}
@@ -23,15 +23,15 @@ module _ (solid : State → Bool) where
   -- a line's last column, and one that its line goes on after
   pub column-last : (state : State) (from : Option Edge) (x : Column) (xs : List Column) → lastColumn x xs ≡ true
       → columnWalls solid state from (x ∷ xs)
-      ≡ closed (endsColumns x xs) (solid (turned (x .turns) state)) from (x .line) (columnEdge x)
-      ++ (closed true false (opened (endsColumns x xs) (solid (turned (x .turns) state)) from (columnEdge x)) (x .line) (openEnd high) ++ columnWalls solid outside none xs)
+      ≡ closed (endsColumns x xs) (solid (flippedBy (x .flips) state)) from (x .line) (columnEdge x)
+      ++ (closed true false (opened (endsColumns x xs) (solid (flippedBy (x .flips) state)) from (columnEdge x)) (x .line) (openEnd high) ++ columnWalls solid outside none xs)
   unfolding columnWalls
   column-last state from x xs e = rw (e, columnWalls)
 
   pub column-on : (state : State) (from : Option Edge) (x : Column) (xs : List Column) → lastColumn x xs ≡ false
       → columnWalls solid state from (x ∷ xs)
-      ≡ closed (endsColumns x xs) (solid (turned (x .turns) state)) from (x .line) (columnEdge x)
-      ++ columnWalls solid (turned (x .turns) state) (opened (endsColumns x xs) (solid (turned (x .turns) state)) from (columnEdge x)) xs
+      ≡ closed (endsColumns x xs) (solid (flippedBy (x .flips) state)) from (x .line) (columnEdge x)
+      ++ columnWalls solid (flippedBy (x .flips) state) (opened (endsColumns x xs) (solid (flippedBy (x .flips) state)) from (columnEdge x)) xs
   unfolding columnWalls
   column-on state from x xs e = rw (e, columnWalls)
 
@@ -49,8 +49,8 @@ same-on x y ys e = rw (eq-eqb (y .line) (x .line) e)
 same-ends : (x y : Column) (ys : List Column) → y .line ≡ x .line → endsColumns x (y ∷ ys) ≡ ltZ (x .at) (y .at)
 same-ends x y ys e = rw (eq-eqb (y .line) (x .line) e)
 
-turned-outside : (turns : State) → turned turns outside ≡ turns
-turned-outside turns = fun-ext (λ s. by (turns s))
+flipped-outside : (flips : State) → flippedBy flips outside ≡ flips
+flipped-outside flips = fun-ext (λ s. by (flips s))
   where
     by : (b : Bool) → cond b (not false) false ≡ b
     by true = refl
@@ -113,10 +113,10 @@ module _ (solid : State → Bool) (shape : ℕ → ℤ → ℕ) where
   start-line start l [] cs h up out =
       let from : Option Edge = opened true (solid (start l)) none (openEnd low) in
       column-last solid outside none (startColumn start l) cs (leaves-last (startColumn start l) cs out)
-      ∙ rw (leaves-ends (startColumn start l) cs out, turned-outside (start l), wallsOn-nil solid shape l (start l) from, closed-none true (solid (start l)) l (openEnd low))
+      ∙ rw (leaves-ends (startColumn start l) cs out, flipped-outside (start l), wallsOn-nil solid shape l (start l) from, closed-none true (solid (start l)) l (openEnd low))
   start-line start l (x ∷ xs) cs h up out =
       let from : Option Edge = opened true (solid (start l)) none (openEnd low) in
       let rest : List Column = columns xs ++ cs in
       column-on solid outside none (startColumn start l) (crossingColumn shape x ∷ rest) (same-on (startColumn start l) (crossingColumn shape x) rest (h .0))
-      ∙ rw (same-ends (startColumn start l) (crossingColumn shape x) rest (h .0), up .0, turned-outside (start l), closed-none true (solid (start l)) l (openEnd low))
+      ∙ rw (same-ends (startColumn start l) (crossingColumn shape x) rest (h .0), up .0, flipped-outside (start l), closed-none true (solid (start l)) l (openEnd low))
       (line-columns l (start l) from x xs cs h out)

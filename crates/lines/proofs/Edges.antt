@@ -17,7 +17,7 @@ use Rattle.lines.proofs.Keys.{leK, eq-leK, lt-leK, le, le-total, le-tra
 use Rattle.lines.proofs.Stretches.{inStretch, beyond}
 use Rattle.lines.proofs.RisingOnly.{stretch, stretches, in-wall, covers-is, rises-is}
 use Rattle.lines.proofs.Crossings.{crossed-in, crossed-out, crossed-nil, Each, each-map, Named, Kept, kept-low, kept-high}
-use Rattle.lines.proofs.Judgement.{Accepted}
+use Rattle.lines.proofs.Judgement.{InOrder}
 use Rattle.lines.proofs.Lowest.{lowest-found, lowest-none}
 
 -- ---- the cell before a position
@@ -133,8 +133,8 @@ crossed-alike test other (x ∷ xs) h = by (other x) refl (crossed-alike test ot
 abbrev atMark : ℤ → Bool
 atMark p = leZ p low || leZ high p
 
-mark-apart : (rows : ℕ) (p : ℤ) → atMark p ≡ true → (x : Crossing) → strays rows x ≡ false → ltZ (x .at) p ≡ leZ (x .at) p
-mark-apart rows p e x k = by (leZ p low) refl (leZ high p) refl
+view-apart : (rows : ℕ) (p : ℤ) → atMark p ≡ true → (x : Crossing) → strays rows x ≡ false → ltZ (x .at) p ≡ leZ (x .at) p
+view-apart rows p e x k = by (leZ p low) refl (leZ high p) refl
   where
     by : (a : Bool) → leZ p low ≡ a → (b : Bool) → leZ high p ≡ b → ltZ (x .at) p ≡ leZ (x .at) p
     by true a b c = ltZ-not (x .at) p ∙ rw (lt→le p (x .at) (le-lt p low (x .at) a (kept-low rows x k)), lt→no p (x .at) (le-lt p low (x .at) a (kept-low rows x k)))
@@ -156,11 +156,11 @@ or-no false b e = (refl, e)
 
 module _ (start : ℕ → State) (xs : List Crossing) where
   -- so an end mark's shape is 65535
-  pub mark-shape : (rows l : ℕ) (p : ℤ) → Kept rows xs → atMark p ≡ true → shapeAt start xs l p ≡ 65535
+  pub view-shape : (rows l : ℕ) (p : ℤ) → Kept rows xs → atMark p ≡ true → shapeAt start xs l p ≡ 65535
   unfolding shapeAt
-  mark-shape rows l p ke e =
+  view-shape rows l p ke e =
       let alike : crossed (shortOf l p) xs ≡ crossed (asFarAs l p) xs =
-      crossed-alike (shortOf l p) (asFarAs l p) xs (each-map (λ x. strays rows x ≡ false) (λ x. shortOf l p x ≡ asFarAs l p x) (λ x k. ap (λ (b : Bool). eqb (x .line) l && b) (mark-apart rows p e x k)) xs ke) in
+      crossed-alike (shortOf l p) (asFarAs l p) xs (each-map (λ x. strays rows x ≡ false) (λ x. shortOf l p x ≡ asFarAs l p x) (λ x k. ap (λ (b : Bool). eqb (x .line) l && b) (view-apart rows p e x k)) xs ke) in
       lowest-none (stateBefore start xs l p) (stateAt start xs l p) (λ t h. ap (λ (ss : List ℕ). changedBy (start l) ss t) alike)
 
   far-same : (names l : ℕ) (p : ℤ) → Named names xs → names ≤ 256 → (t : ℕ) → 256 ≤ t → stateBefore start xs l p t ≡ stateAt start xs l p t
@@ -168,11 +168,11 @@ module _ (start : ℕ → State) (xs : List Crossing) where
 
   -- ---- so a shape bounds each wall at both ends, and the search finds it
 
-  module _ (f : Formula) (names rows : ℕ) (few : names ≤ 256) (all : Accepted names rows xs) where
+  module _ (f : Formula) (names rows : ℕ) (few : names ≤ 256) (all : InOrder names rows xs) where
     abbrev metal : ℕ → ℤ → Bool
     metal l p = ltb l rows && (leZ low p && (ltZ p high && inside f (stateAt start xs l p)))
 
-    -- between the marks the states alone decide
+    -- between the views the states alone decide
     decided : (l : ℕ) (p : ℤ) → leZ low p ≡ true → ltZ p high ≡ true → metal l p ≡ (ltb l rows && inside f (stateAt start xs l p))
     decided l p a b = rw (a, b)
 
@@ -185,7 +185,7 @@ module _ (start : ℕ → State) (xs : List Crossing) where
 
     bounded-at : (l : ℕ) (p : ℤ) → (metal l (predℤ p) ≡ metal l p → ⊥) → Bounds start xs l p (shapeAt start xs l p)
     unfolding shapeAt
-    bounded-at l p h = record { open-end = mark-shape rows l p (all .kept); crossed-there = λ e. there (or-no (leZ p low) (leZ high p) e) }
+    bounded-at l p h = record { open-end = view-shape rows l p (all .kept); crossed-there = λ e. there (or-no (leZ p low) (leZ high p) e) }
       where
         there : (leZ p low ≡ false) × (leZ high p ≡ false) → LowestChanged (stateBefore start xs l p) (stateAt start xs l p) (lowestFrom 256 0 (stateBefore start xs l p) (stateAt start xs l p))
         there e =

@@ -50,7 +50,7 @@ open-walls : (walls A 1 (line (0 ∷ []) ((pos 5, 0) ∷ [])) ≡ wall 0 (pos 5)
 unfolding wallsFrom wallsOn crossingsOn shapeAt lowestFrom crossed times
 open-walls = (refl, refl, refl, refl, refl, refl)
 
--- Three lines: what is open at a line's end runs into no other line, and each begins with its own row. The first position past the low mark and the last before the high one.
+-- Three lines: what is open at a line's end runs into no other line, and each begins with its own row. The first position past the low viewOf and the last before the high one.
 abbrev three : LineLists
 three = lineLists (1 ∷ 0 ∷ 0 ∷ 0 ∷ 1 ∷ 1 ∷ []) (0 ∷ 0 ∷ 1 ∷ []) (pos 5 ∷ pos 7 ∷ pos 2 ∷ []) (0 ∷ 0 ∷ 0 ∷ [])
 

@@ -1,5 +1,5 @@
 -- The three lists read as one, at an index.
-use Prim.Native.Nat.{ℕ, zero, suc, _+_, _<_, _≤_}
+use Prim.Native.Nat.{ℕ, zero, suc, _+_, _*_, _<_, _≤_}
 use native.Mathlib.Nat.{not-suc-le-zero, le-of-suc-le-suc}
 use native.Mathlib.Numerals.{add-one}
 use native.Mathlib.Omega.{arith}
@@ -10,12 +10,11 @@ use borrow.Author.Tests.{eqb-true, eqb-false}
 use lib.Dec.{eqb}
 use lib.IntN.{ℤ, pos}
 use lib.ListN.{length, drop, getD, drop-of-length-le}
-use Rattle.outcome.specs.Outcome.{given}
-use Rattle.lines.specs.Lines.{LineLists, rowCount, Crossing, crossings, strays, judged}
-use Rattle.lines.specs.AtIndex.{item, Ascending}
+use Rattle.lines.specs.Lines.{LineLists, rowCount, Crossing, crossings, strays}
+use Rattle.lines.specs.AtIndex.{item, Accepted}
 use Rattle.lines.proofs.Keys.{leK, eq-leK, le-trans, leZ-self}
 use Rattle.lines.proofs.Crossings.{Each, Sorted}
-use Rattle.lines.proofs.Judgement.{judged-positions, judged-shapes, judged-accepted}
+use Rattle.lines.proofs.Judgement.{judged-positions, judged-shapes, judged-in-order, judged-whole, judged-few, judged-bytes}
 
 pub length-crossings : (ls : List ℕ) (ps : List ℤ) (ss : List ℕ) → length ps ≡ length ls → length ss ≡ length ls → length (crossings ls ps ss) ≡ length ls
 length-crossings [] ps ss e f = refl
@@ -59,18 +58,29 @@ sorted-items (l ∷ m ∷ ls) (p ∷ q ∷ ps) (s ∷ t ∷ ss) e f so zero (suc
 sorted-items (l ∷ ls) (p ∷ ps) (s ∷ ss) e f so (suc i) zero h k = absurd (not-suc-le-zero h)
 sorted-items (l ∷ ls) (p ∷ ps) (s ∷ ss) e f so (suc i) (suc j) h k = sorted-items ls ps ss (omega arith) (omega arith) (so .1) i j (le-of-suc-le-suc h) (le-of-suc-le-suc k)
 
--- accepted lists, at an index
-pub judged-ascending : (names : ℕ) → names ≤ 256 → (c : LineLists) → judged names c ≡ given tt → Ascending names c
-judged-ascending names few c e =
-    let ps = judged-positions names c e in
-    let ss = judged-shapes names c e in
-    let all = judged-accepted names c e in
-    let shape = each-item (λ x. x .shape < names) (c .lines) (c .positions) (c .shapes) ps ss (all .named) in
-    record {
-      positions = ps;
-      shapes = ss;
-      few = λ i h. omega (arith, shape i h);
-      named = shape;
-      kept = each-item (λ x. strays (rowCount names (c .rows)) x ≡ false) (c .lines) (c .positions) (c .shapes) ps ss (all .kept);
-      rises = sorted-items (c .lines) (c .positions) (c .shapes) ps ss (all .sorted);
-    }
+-- accepted lists: of one length, rising by line and then by position, every shape one of the names, every line one that has a row, and no position at an end mark
+module _ {names : ℕ} {c : LineLists} (ok : Accepted names c) where
+  pub accepted-positions : length (c .positions) ≡ length (c .lines)
+  accepted-positions = judged-positions names c (ok .judged-so)
+
+  pub accepted-shapes : length (c .shapes) ≡ length (c .lines)
+  accepted-shapes = judged-shapes names c (ok .judged-so)
+
+  pub accepted-named : (i : ℕ) → i < length (c .lines) → getD (c .shapes) i 0 < names
+  accepted-named = each-item (λ x. x .shape < names) (c .lines) (c .positions) (c .shapes) accepted-positions accepted-shapes (judged-in-order names c (ok .judged-so) .named)
+
+  pub accepted-kept : (i : ℕ) → i < length (c .lines) → strays (rowCount names (c .rows)) (item (c .lines) (c .positions) (c .shapes) i) ≡ false
+  accepted-kept = each-item (λ x. strays (rowCount names (c .rows)) x ≡ false) (c .lines) (c .positions) (c .shapes) accepted-positions accepted-shapes (judged-in-order names c (ok .judged-so) .kept)
+
+  pub accepted-rises : (i j : ℕ) → i ≤ j → j < length (c .lines) → leK (getD (c .lines) i 0) (getD (c .positions) i (pos 0)) (getD (c .lines) j 0) (getD (c .positions) j (pos 0)) ≡ true
+  accepted-rises = sorted-items (c .lines) (c .positions) (c .shapes) accepted-positions accepted-shapes (judged-in-order names c (ok .judged-so) .sorted)
+
+  -- and their rows: whole, as many as have a number, and of zeros and ones
+  pub accepted-whole : length (c .rows) ≡ rowCount names (c .rows) * names
+  accepted-whole = judged-whole names c (ok .judged-so)
+
+  pub accepted-few : rowCount names (c .rows) ≤ 4294967296
+  accepted-few = judged-few names c (ok .judged-so)
+
+  pub accepted-bytes : (j : ℕ) → getD (c .rows) j 0 ≤ 1
+  accepted-bytes = judged-bytes names c (ok .judged-so)

@@ -46,13 +46,13 @@ abbrev From : Option Crossing → List Crossing → Type 0
 From none xs = Unit {0}
 From (some x) xs = Follows x xs
 
-pub record Accepted (names rows : ℕ) (xs : List Crossing) : Type 0 where
+pub record InOrder (names rows : ℕ) (xs : List Crossing) : Type 0 where
   pub sorted : Sorted xs
   pub named : Named names xs
   pub kept : Kept rows xs
 
 module _ (names rows : ℕ) where
-  ordered-from : (x : Option Crossing) (i : ℕ) (ys : List Crossing) → ordered names rows x i ys ≡ given tt → From x ys × Accepted names rows ys
+  ordered-from : (x : Option Crossing) (i : ℕ) (ys : List Crossing) → ordered names rows x i ys ≡ given tt → From x ys × InOrder names rows ys
   unfolding ordered
   ordered-from none i [] e = (tt, record { sorted = tt; named = tt; kept = tt })
   ordered-from (some x) i [] e = (tt, record { sorted = tt; named = tt; kept = tt })
@@ -74,7 +74,7 @@ module _ (names rows : ℕ) where
       follows none f = tt
       follows (some x) f = rises-to x y f
 
-  ordered-gives : (xs : List Crossing) → ordered names rows none 0 xs ≡ given tt → Accepted names rows xs
+  ordered-gives : (xs : List Crossing) → ordered names rows none 0 xs ≡ given tt → InOrder names rows xs
   ordered-gives xs e = ordered-from none 0 xs e .1
 
 -- ---- the rows
@@ -85,16 +85,11 @@ bits-at [] e j = omega arith
 bits-at (b ∷ bs) e zero = leb-true b 1 (and-yes (leb b 1) (bits bs) e .0)
 bits-at (b ∷ bs) e (suc j) = bits-at bs (and-yes (leb b 1) (bits bs) e .1) j
 
-record WholeRows (names : ℕ) (rows : List ℕ) : Type 0 where
-  pub whole : length rows % names ≡ 0
-  pub few : rowCount names rows ≤ 4294967296
-  pub bytes : (j : ℕ) → getD rows j 0 ≤ 1
-
-rowed-gives : (names : ℕ) (rows : List ℕ) → rowed names rows ≡ given tt → WholeRows names rows
+rowed-gives : (names : ℕ) (rows : List ℕ) → rowed names rows ≡ given tt → (length rows % names ≡ 0) × (rowCount names rows ≤ 4294967296) × ((j : ℕ) → getD rows j 0 ≤ 1)
 rowed-gives names rows e =
     let a = and-yes (eqb (length rows % names) 0) (leb (rowCount names rows) 4294967296 && bits rows) (need-yes _ 14 0 e) in
     let b = and-yes (leb (rowCount names rows) 4294967296) (bits rows) (a .1) in
-    record { whole = eqb-true (length rows % names) 0 (a .0); few = leb-true (rowCount names rows) 4294967296 (b .0); bytes = bits-at rows (b .1) }
+    (eqb-true (length rows % names) 0 (a .0), leb-true (rowCount names rows) 4294967296 (b .0), bits-at rows (b .1))
 
 -- ---- the whole judgement
 
@@ -118,18 +113,18 @@ module _ (names : ℕ) (c : LineLists) (e : judged names c ≡ given tt) where
   pub judged-shapes : length (c .shapes) ≡ length (c .lines)
   judged-shapes = eqb-true (length (c .shapes)) (length (c .lines)) (lengths .1)
 
-  pub judged-accepted : Accepted names (rowCount names (c .rows)) (entries c)
-  judged-accepted = ordered-gives names (rowCount names (c .rows)) (entries c) (parts .1 .1)
+  pub judged-in-order : InOrder names (rowCount names (c .rows)) (entries c)
+  judged-in-order = ordered-gives names (rowCount names (c .rows)) (entries c) (parts .1 .1)
 
-  judged-rows : WholeRows names (c .rows)
+  judged-rows : (length (c .rows) % names ≡ 0) × (rowCount names (c .rows) ≤ 4294967296) × ((j : ℕ) → getD (c .rows) j 0 ≤ 1)
   judged-rows = rowed-gives names (c .rows) (parts .1 .0)
 
   -- as many bytes as rows and names give
   pub judged-whole : length (c .rows) ≡ rowCount names (c .rows) * names
-  judged-whole = omega (arith, div-add-mod' (length (c .rows)) names, judged-rows .whole)
+  judged-whole = omega (arith, div-add-mod' (length (c .rows)) names, judged-rows .0)
 
   pub judged-few : rowCount names (c .rows) ≤ 4294967296
-  judged-few = judged-rows .few
+  judged-few = judged-rows .1
 
   pub judged-bytes : (j : ℕ) → getD (c .rows) j 0 ≤ 1
-  judged-bytes = judged-rows .bytes
+  judged-bytes = judged-rows .2

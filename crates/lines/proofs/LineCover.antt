@@ -107,7 +107,7 @@ module _ (solid : State → Bool) (shape : ℕ → ℤ → ℕ) (l : ℕ) (p : �
       ∙ ap (λ (b : Bool). covers l p done || b) (cells xs state′ from′ (h .1 .1) (opened-on x xs (shape l (x .at)) (solid state′) from h op))
       ∙ one x xs state from h op
 
-  -- a line that starts in metal has a wall open from the low mark
+  -- a line that starts in metal has a wall open from the low viewOf
   abbrev entered : Bool → Option Edge
   entered metal = opened true metal none (openEnd low)
 
@@ -115,7 +115,7 @@ module _ (solid : State → Bool) (shape : ℕ → ℤ → ℕ) (l : ℕ) (p : �
   swap true = sym (and-true (leZ low p))
   swap false = sym (and-false (leZ low p))
 
-  -- from the line's start: between the marks, where there is metal
+  -- from the line's start: between the views, where there is metal
   pub line-cells : (xs : List Crossing) (state : State) → Placed xs
       → covers l p (wallsOn solid shape l state (opened true (solid state) none (openEnd low)) xs) ≡ (leZ low p && (ltZ p high && solid (along p state xs)))
   line-cells xs state h = cells xs state (entered (solid state)) h (entered-below (solid state) (next xs) (above-low xs h)) ∙ by xs h (leZ (next xs) p) refl

@@ -10,7 +10,7 @@ use Rattle.formula.specs.Formula.{Formula, inside}
 use Rattle.formula.specs.States.{State, outside}
 use Rattle.lines.specs.Lines.{LineLists, rowCount, judged, Wall, Edge, walls}
 use Rattle.lines.specs.Columns.{Column, allColumns, columnWalls}
-use Rattle.lines.specs.Marked.{Marked, stateAfter, openAfter, wallsAfter, Passed, Lit}
+use Rattle.lines.specs.Views.{View, stateAfter, openAfter, wallsAfter, Passed, Lit}
 use Rattle.lines.proofs.ColumnLines.{column-nil}
 use Rattle.lines.proofs.WallsColumns.{walls-columns}
 use Rattle.lines.proofs.BlockWalls.{block-walls}
@@ -21,7 +21,7 @@ module _ (f : Formula) (names : ℕ) (c : LineLists) where
   pass-start e = record { all = walls-columns f names c e }
 
   module _ (done : List Wall) (state : State) (from : Option Edge) (left : List Column) (p : Passed f names c done state from left) where
-    pub pass-block : (at : ℕ → Marked) (metal : ℕ → Bool) (n : ℕ) → Lit f state left at metal n
+    pub pass-block : (at : ℕ → View) (metal : ℕ → Bool) (n : ℕ) → Lit f state left at metal n
         → Passed f names c (done ++ wallsAfter at metal from n) (stateAfter at state n) (openAfter at metal from n) (drop n left)
     pass-block at metal n b = record {
       all = p .all ∙ ap (λ (ws : List Wall). done ++ ws) (block-walls (inside f) state from left at metal n (b .enough) (b .are) (b .lit))

@@ -14,7 +14,7 @@ use Rattle.lines.specs.Lines.{Crossing, crossed, low, high, onLine, stat
 use Rattle.lines.proofs.Keys.{antisym, not-lt→, lt→le, lt-trans, leZ-off}
 use Rattle.lines.proofs.Crossings.{crossed-in, crossed-out, crossed-nil, on-nil, on-in, on-out, crossed-on, Each, each-on, each-its-line, Sorted, Kept, kept-low, kept-high, Later, all-later, later-at}
 
--- where the next crossing is; after the last, the high mark
+-- where the next crossing is; after the last, the high viewOf
 abbrev pub next : List Crossing → ℤ
 next [] = high
 next (x ∷ xs) = x .at

@@ -15,7 +15,7 @@ module _ {K : Type 0} (le : K → K → Bool) where
   covered k [] = false
   covered k (w ∷ ws) = inStretch k w || covered k ws
 
-  abbrev pub Then : Stretch K → List (Stretch K) → Type 0
+  abbrev Then : Stretch K → List (Stretch K) → Type 0
   Then w [] = Unit {0}
   Then w (v ∷ vs) = le (v .lo) (w .hi) ≡ false
 

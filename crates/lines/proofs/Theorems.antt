@@ -17,9 +17,9 @@ use Rattle.lines.specs.Edges.{Bound}
 use Rattle.lines.proofs.LinesBy.{linesBy, from-by}
 use Rattle.lines.proofs.LinesRight.{lines-rise, lines-cells}
 use Rattle.lines.proofs.RisingOnly.{rising-only}
-use Rattle.lines.proofs.Edges.{mark-shape, ends-bounded}
+use Rattle.lines.proofs.Edges.{view-shape, ends-bounded}
 use Rattle.lines.proofs.WallShapes.{Shaped, lines-shaped}
-use Rattle.lines.proofs.Judgement.{Accepted, both, judged-accepted}
+use Rattle.lines.proofs.Judgement.{InOrder, both, judged-in-order}
 
 module _ (start : ℕ → State) (xs : List Crossing) where
   -- the walls name the shapes that bound them
@@ -27,7 +27,7 @@ module _ (start : ℕ → State) (xs : List Crossing) where
   named [] s b = tt
   named (w ∷ ws) s b = ((rw (s .0 .0) (b .0 .0), rw (s .0 .1) (b .0 .1)), named ws (s .1) (b .1))
 
-  found-right : (f : Formula) (names rows : ℕ) → names ≤ 256 → Accepted names rows xs → Right f rows start xs (linesBy (inside f) start (shapeAt start xs) rows 0 xs)
+  found-right : (f : Formula) (names rows : ℕ) → names ≤ 256 → InOrder names rows xs → Right f rows start xs (linesBy (inside f) start (shapeAt start xs) rows 0 xs)
   found-right f names rows few all = record { cells = covered; rising = risen; shapes = named ws shaped (ends-bounded start xs f names rows few all ws risen covered) }
     where
       ws : List Wall
@@ -43,14 +43,14 @@ module _ (start : ℕ → State) (xs : List Crossing) where
       risen = lines-rise (inside f) start (shapeAt start xs) xs rows (all .sorted) (all .kept) rows 0
 
       shaped : Shaped (shapeAt start xs) ws
-      shaped = lines-shaped (shapeAt start xs) (inside f) start (λ l. mark-shape start xs rows l low (all .kept) refl) (λ l. mark-shape start xs rows l high (all .kept) refl) rows 0 xs
+      shaped = lines-shaped (shapeAt start xs) (inside f) start (λ l. view-shape start xs rows l low (all .kept) refl) (λ l. view-shape start xs rows l high (all .kept) refl) rows 0 xs
 
 -- The walls of accepted lists are right.
 pub walls-right : (f : Formula) (names : ℕ) → names ≤ 256 → (c : LineLists) → judged names c ≡ given tt → Right f (rowCount names (c .rows)) (startState names (c .rows)) (entries c) (walls f names c)
 walls-right f names few c e =
     let start : ℕ → State = startState names (c .rows) in
     let rows : ℕ = rowCount names (c .rows) in
-    rw (from-by (inside f) start (entries c) rows 0) (found-right start (entries c) f names rows few (judged-accepted names c e))
+    rw (from-by (inside f) start (entries c) rows 0) (found-right start (entries c) f names rows few (judged-in-order names c e))
 
 -- No other list is.
 pub right-only : (f : Formula) (rows : ℕ) (start : ℕ → State) (xs : List Crossing) (vs ws : List Wall) → Right f rows start xs vs → Right f rows start xs ws → vs ≡ ws
@@ -60,7 +60,7 @@ right-only f rows start xs vs ws a b = rising-only start xs vs ws (a .rising) (b
 pub edge-bounded : (f : Formula) (names : ℕ) → names ≤ 256 → (c : LineLists) → judged names c ≡ given tt → (ws : List Wall) → Rising ws
     → ((l : ℕ) (p : ℤ) → covers l p ws ≡ (ltb l (rowCount names (c .rows)) && (leZ low p && (ltZ p high && inside f (stateAt (startState names (c .rows)) (entries c) l p)))))
     → Bound (startState names (c .rows)) (entries c) ws
-edge-bounded f names few c e = ends-bounded (startState names (c .rows)) (entries c) f names (rowCount names (c .rows)) few (judged-accepted names c e)
+edge-bounded f names few c e = ends-bounded (startState names (c .rows)) (entries c) f names (rowCount names (c .rows)) few (judged-in-order names c e)
 
 -- So what the line job gives is right.
 pub classified-right : (f : Formula) (names : ℕ) → names ≤ 256 → (c : LineLists) (lent : AnswerLists) (ws : List Wall) → classified f names c lent ≡ given ws

@@ -14,7 +14,7 @@ use Rattle.lines.specs.Lines.{LineLists, rowCount, startState, low, high
 use Rattle.lines.proofs.Crossings.{Sorted}
 use Rattle.lines.proofs.OtherLines.{past, OnFrom, past-from, past-sorted, split-line}
 use Rattle.lines.proofs.LinesBy.{wallsOn-nil, wallsOn-cons, wallsOf, linesBy, by-none, by-more, by-past, from-by}
-use Rattle.lines.proofs.Judgement.{judged-accepted, judged-positions, judged-shapes}
+use Rattle.lines.proofs.Judgement.{judged-in-order, judged-positions, judged-shapes}
 use Rattle.lines.proofs.Items.{length-crossings}
 use Rattle.lines.proofs.WallsColumns.{all-from}
 
@@ -75,7 +75,7 @@ walls-room f names c e =
     let rows : ℕ = rowCount names (c .rows) in
     let xs : List Crossing = entries c in
     let long : length xs ≡ length (c .lines) = length-crossings (c .lines) (c .positions) (c .shapes) (judged-positions names c e) (judged-shapes names c e) in
-    let half = lines-room (inside f) start (shapeAt start xs) rows 0 xs (judged-accepted names c e .sorted) (all-from xs) in
+    let half = lines-room (inside f) start (shapeAt start xs) rows 0 xs (judged-in-order names c e .sorted) (all-from xs) in
     rw (from-by (inside f) start xs rows 0) (omega (arith, half, long))
 
 -- so there is room for the walls found so far at every point of a pass

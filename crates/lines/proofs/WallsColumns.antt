@@ -21,7 +21,7 @@ use Rattle.lines.proofs.OtherLines.{past, OnFrom, past-from, past-sorte
 use Rattle.lines.proofs.LinesBy.{wallsOf, linesBy, by-none, by-more, by-past, from-by}
 use Rattle.lines.proofs.ColumnLists.{Leaves, starts-in, starts-out, starts-beyond, columns-nil, columns-start, columns-line, columns-leave}
 use Rattle.lines.proofs.ColumnLines.{column-nil, air-line, start-line}
-use Rattle.lines.proofs.Judgement.{judged-accepted}
+use Rattle.lines.proofs.Judgement.{judged-in-order}
 
 -- no shape below n is inside
 none-inside : (n : ℕ) (state : State) → anyInside n state ≡ false → (s : ℕ) → s < n → state s ≡ false
@@ -97,6 +97,6 @@ pub walls-columns : (f : Formula) (names : ℕ) (c : LineLists) → judged names
 walls-columns f names c e =
     let start : ℕ → State = startState names (c .rows) in
     let rows : ℕ = rowCount names (c .rows) in
-    let all = judged-accepted names c e in
+    let all = judged-in-order names c e in
     from-by (inside f) start (entries c) rows 0
     ∙ sym (columns-lines (inside f) (inside-outside f outside (λ s. refl)) names start (bare-beyond names (c .rows)) (shapeAt start (entries c)) rows 0 rows (entries c) (omega arith) (all .sorted) (all .kept) (all-from (entries c)))

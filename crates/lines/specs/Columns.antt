@@ -10,26 +10,26 @@ use lib.Signed.{ltZ}
 use Rattle.formula.specs.States.{State, outside}
 use Rattle.lines.specs.Lines.{LineLists, Crossing, entries, rowCount, startState, low, high, shapeAt, Wall, Edge, openEnd, opened, closed}
 
--- The shapes that turn there, and the shape of a wall that begins or ends there.
+-- The shapes that flip there, and the shape of a wall that begins or ends there.
 pub record Column : Type 0 where
   pub line : ℕ
   pub at : ℤ
-  pub turns : State
+  pub flips : State
   pub shape : ℕ
 
 -- One shape alone.
 abbrev pub only : ℕ → State
 only s t = eqb t s
 
--- The states after some shapes have turned.
-abbrev pub turned : State → State → State
-turned turns state s = cond (turns s) (not (state s)) (state s)
+-- The states after some shapes have flipped.
+abbrev pub flippedBy : State → State → State
+flippedBy flips state s = cond (flips s) (not (state s)) (state s)
 
 abbrev pub startColumn : (ℕ → State) → ℕ → Column
-startColumn start l = record { line = l; at = low; turns = start l; shape = 65535 }
+startColumn start l = record { line = l; at = low; flips = start l; shape = 65535 }
 
 abbrev pub crossingColumn : (ℕ → ℤ → ℕ) → Crossing → Column
-crossingColumn shape x = record { line = x .line; at = x .at; turns = only (x .shape); shape = shape (x .line) (x .at) }
+crossingColumn shape x = record { line = x .line; at = x .at; flips = only (x .shape); shape = shape (x .line) (x .at) }
 
 -- Some shape below n is inside.
 unfoldable pub anyInside : ℕ → State → Bool
@@ -73,7 +73,7 @@ endsColumns x (y ∷ ys) = not (eqb (y .line) (x .line)) || ltZ (x .at) (y .at)
 unfoldable pub columnWalls : (State → Bool) → State → Option Edge → List Column → List Wall
 columnWalls solid state from [] = []
 columnWalls solid state from (x ∷ xs) =
-    let state′ : State = turned (x .turns) state in
+    let state′ : State = flippedBy (x .flips) state in
     let ends : Bool = endsColumns x xs in
     let metal : Bool = solid state′ in
     let here : Edge = record { at = x .at; shape = x .shape } in

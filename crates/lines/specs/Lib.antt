@@ -4,4 +4,4 @@ pub mod Edges
 pub mod Given
 pub mod AtIndex
 pub mod Columns
-pub mod Marked
+pub mod Views

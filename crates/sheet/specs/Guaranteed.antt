@@ -8,10 +8,10 @@ use Rattle.sheet.specs.Sheet.{Sheets, alone, beside, ownSheet, Sheet, la
 use Rattle.sheet.specs.Walk.{walkEnd, walkNames}
 
 -- So there are at most 1024 leaves, 2047 formula nodes and 13,062 bytes.
-abbrev pub mostLeaves : ℕ
+abbrev mostLeaves : ℕ
 mostLeaves = 1024
 
-abbrev pub mostNodes : ℕ
+abbrev mostNodes : ℕ
 mostNodes = 2047
 
 abbrev pub mostBytes : ℕ
@@ -65,7 +65,7 @@ pub record Fitted (f : List ℕ) (names : List (List ℕ)) : Type 0 where
   pub ends : walkEnd f 5 (length names) ≡ length f
 
 -- The fittings' names of a call's sheets.
-abbrev pub FittingsOf : Sheets → List (List ℕ) → Type 0
+abbrev FittingsOf : Sheets → List (List ℕ) → Type 0
 FittingsOf (alone s) names = names ≡ []
 FittingsOf (beside f s) names = Fitted f names
 

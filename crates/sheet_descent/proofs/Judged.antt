@@ -1,5 +1,5 @@
 -- The whole formula descended: what its end leaves.
-use Prim.Native.Nat.{ℕ, _+_, _-_, _*_, _/_, _%_, _^_, _≤_, _<_}
+use Prim.Native.Nat.{ℕ, _+_, _-_, _*_, _/_, _%_, _≤_, _<_}
 use native.Mathlib.Omega.{arith}
 use native.Mathlib.Nat.{add-zero}
 use mathlib.Core.Path.{_≡_, refl, sym, ap, _∙_}
@@ -23,9 +23,6 @@ use Rattle.sheet_descent.specs.Descent.{IsWhole, shortAt, Descended, Fir
 module _ (n tag first : ℕ) (p : List ℕ) (fits : FirstFits n first p) where
   module _ (old new : List ℕ) (r : ℕ) (said : Descended n p 0 (length p) old new 0 r) where
     module _ (odd : r % 2 ≡ 1) where
-      pub wrong-near : r ≤ length p → first + (r - 1) < 2 ^ 64
-      wrong-near h = omega (arith, fits .near)
-
       wrong-first : r ≤ length p → formulaFirst n tag first (codesOf p) ≡ refused 7 (first + (r - 1))
       unfolding formulaFirst
       wrong-first l =
@@ -55,9 +52,6 @@ module _ (n tag first : ℕ) (p : List ℕ) (fits : FirstFits n first p) where
           let c : codesOf p ≡ prefix f ++ codesOf (drop r p) = it .codes-are in
           rw c (first-prefix n (fits .few-names) tag f first (codesOf (drop r p)) 0 (it .over))
           ∙ ap (λ (i : ℕ). part (λ fs. f ∷ fs) (allFirst n tag i (codesOf (drop r p)) 0)) q
-
-      pub next-near : first + r < 2 ^ 64
-      next-near = omega (arith, fits .near, it .within)
 
       over-first : r < length p → formulaFirst n tag first (codesOf p) ≡ refused 7 (first + r)
       unfolding formulaFirst allFirst

@@ -32,7 +32,7 @@ some-between c l h = (opOf c, rw (operation-yes c l h))
 -- ---- shortAt: one code more
 
 module _ (n tag at c : ℕ) (cs : List ℕ) where
-  pub short-leaf : c < n → shortAt n tag at (c ∷ cs) ≡ shortAt n tag (at + 2) cs
+  short-leaf : c < n → shortAt n tag at (c ∷ cs) ≡ shortAt n tag (at + 2) cs
   unfolding shortAt
   short-leaf h = rw (lt-ltb c n h, shortAt)
 
@@ -40,7 +40,7 @@ module _ (n tag at c : ℕ) (cs : List ℕ) where
   unfolding shortAt
   short-operation o h e = rw (le-ltb c n h, shortAt, e)
 
-  pub short-unknown : n ≤ c → operation c ≡ none → shortAt n tag at (c ∷ cs) ≡ at
+  short-unknown : n ≤ c → operation c ≡ none → shortAt n tag at (c ∷ cs) ≡ at
   unfolding shortAt
   short-unknown h e = rw (le-ltb c n h, shortAt, e)
 

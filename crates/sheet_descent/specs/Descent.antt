@@ -42,7 +42,7 @@ pub record IsWrong (n : ℕ) (bytes : List ℕ) (at place : ℕ) : Type 0 where
 
 -- Where codes are too few for the formulas to come, 7 stands at the first unknown one, or else at the tag; `on` is where it stands after
 -- a code that is known.
-abbrev pub unlessKnown : ℕ → Option Op → ℕ → ℕ
+abbrev unlessKnown : ℕ → Option Op → ℕ → ℕ
 unlessKnown at none on = at
 unlessKnown at (some o) on = on
 

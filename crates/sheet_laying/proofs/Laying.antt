@@ -1,16 +1,19 @@
 -- A formula laid from its end, one code at a time.
-use Prim.Native.Nat.{ℕ, suc, _+_, _-_, _≤_, _<_}
+use Prim.Native.Nat.{ℕ, zero, suc, _+_, _-_, _*_, _/_, _≤_, _<_}
 use native.Mathlib.Omega.{arith}
 use native.Mathlib.Numerals.{add-one}
 use mathlib.Core.Path.{_≡_, refl, sym, ap, _∙_}
 use mathlib.Core.List.{List, [], _∷_, _++_, append-assoc, append-nil}
 use mathlib.Core.Option.{Option, none, some}
 use lib.ListN.{length, getD, take, drop, set, length-set, length-append}
-use lib.Seq.{take-suc, take-suc-set, take-set-le, drop-set-lt, drop-cons, getD-set-same, length-take-le, take-at}
+use lib.Seq.{take-suc, take-suc-set, take-set-le, drop-set-lt, drop-cons, getD-set-same, getD-set-other, length-take-le, take-all, take-at}
 use Rattle.formula.specs.Formula.{Op, union, intersection, difference, exclusive, firstOperation, code, Formula, leaf, node, postfix, prefix}
 use Rattle.formula.proofs.Laws.{length-prefix}
+use Rattle.sheet.specs.Sheet.{twoAt, codesOf}
+use Rattle.sheet_codes.specs.Codes.{CodesFit}
 use Rattle.sheet_laying.specs.Laid.{Wholly, Laid}
-use Rattle.sheet_laying.specs.Waiting.{Wait, forBoth, forLeft, marks, unread, ahead, Stands, Between, Settled, Settles}
+use Rattle.sheet_laying.proofs.CodeBytes.{codes-long, two-code}
+use Rattle.sheet_laying.specs.Waiting.{Wait, forBoth, forLeft, codesHeld, unread, ahead, Stands, Between, Settled, Low, Settles}
 
 -- ---- the last one of a list
 
@@ -46,102 +49,143 @@ code-below intersection = omega arith
 code-below difference = omega arith
 code-below exclusive = omega arith
 
+first-operations : (o : Op) → 0xFFF0 ≤ code o
+first-operations union = omega arith
+first-operations intersection = omega arith
+first-operations difference = omega arith
+first-operations exclusive = omega arith
+
 -- ---- settle
 
-module _ (laid : List ℕ) (at held : ℕ) (sized : length laid ≡ 2048) (fits : at + held ≤ 2048) (codes all : List ℕ) where
-  many-held : (ws : List Wait) → Stands ws none laid at held codes all → length (marks ws) ≡ held
-  many-held ws s = ap length (sym (s .marked)) ∙ length-take-le held laid (omega (arith, fits, sized))
+module _ (laid : List ℕ) (held last at : ℕ) (sized : length laid ≡ 2048) (fits : at + held ≤ 2048) (codes all : List ℕ) where
+  module _ {ws : List Wait} {next : Option Formula} (s : Stands ws next laid held last at codes all) where
+    many-held : length (codesHeld ws) ≡ held
+    many-held =
+        let z : length (take held laid ++ (last ∷ [])) ≡ suc (length (codesHeld ws)) = ap length (s .held-are) in
+        omega (arith, z, length-append (take held laid) (last ∷ []), length-take-le held laid (omega (arith, fits, sized)))
 
-  none-held : (ws : List Wait) → Stands ws none laid at held codes all → held ≡ 0 → Settled laid at held codes all
-  none-held [] s e = record { waits = []; next = none; ends = λ z. refl; stands = s }
-  none-held (forBoth o l ∷ ws) s e = absurd (omega (arith, e, many-held (forBoth o l ∷ ws) s, length-append (marks ws) (code o ∷ [])))
-  none-held (forLeft o ∷ ws) s e = absurd (omega (arith, e, many-held (forLeft o ∷ ws) s, length-append (marks ws) ((code o + 4) ∷ [])))
+    held-last : (xs : List ℕ) (x : ℕ) → codesHeld ws ≡ xs ++ (x ∷ []) → (last ≡ x) × (take held laid ≡ s .nothing ∷ xs)
+    held-last xs x e = snoc-same (take held laid) (s .nothing ∷ xs) last x (s .held-are ∙ ap (λ (ys : List ℕ). s .nothing ∷ ys) e)
 
-  pub nothing-waits : Between laid at held codes all → held ≤ 0 → Settled laid at held codes all
-  nothing-waits b h = none-held (b .waits) (b .stands) (omega arith)
+  -- the right operand was laid, or nothing waits
+  stop-at : (ws : List Wait) → Stands ws none laid held last at codes all → last < 0xFFF4 → Settled laid held (last + 4) at codes all
+  stop-at [] s h =
+      let z : held ≡ 0 = sym (many-held s) in
+      record {
+        waits = [];
+        next = none;
+        ends = λ q. refl;
+        stands =
+            record {
+              over = s .over;
+              over-next = tt;
+              nothing = last + 4;
+              held-are = ap (λ (k : ℕ). take k laid ++ ((last + 4) ∷ [])) z;
+              left = s .left;
+              whole = s .whole;
+            };
+      }
+  stop-at (forLeft o ∷ ws) s h = absurd (omega (arith, h, first-operations o, held-last s (codesHeld ws) (code o + 4) refl .0))
+  stop-at (forBoth o l ∷ ws) s h =
+      let m = held-last s (codesHeld ws) (code o) refl in
+      record {
+        waits = forLeft o ∷ ws;
+        next = some l;
+        ends = λ z. let q : _≡_ {A = ℕ} 0 1 = cc z in absurd (omega (arith, q));
+        stands =
+            record {
+              over = s .over .1;
+              over-next = s .over .0;
+              nothing = s .nothing;
+              held-are = ap (λ (ys : List ℕ). ys ++ ((last + 4) ∷ [])) (m .1) ∙ ap (λ (x : ℕ). s .nothing ∷ (codesHeld ws ++ ((x + 4) ∷ []))) (m .0);
+              left = sym (append-nil (unread ws ++ postfix l)) ∙ s .left;
+              whole = simp append-assoc refl ∙ s .whole;
+            };
+      }
 
+  -- both operands were laid
   module _ (more : 0 < held) (c : ℕ) (is : c ≡ getD laid (held - 1) 0) where
-    held-last : (xs : List ℕ) (x : ℕ) → take held laid ≡ xs ++ (x ∷ []) → (x ≡ c) × (xs ≡ take (held - 1) laid)
-    held-last xs x e = let r = last-of laid held more (omega (arith, fits, sized)) xs x (sym e) in (r .0 ∙ sym is, r .1)
-
-    -- the right operand was laid
-    stop-at : (ws : List Wait) → Stands ws none laid at held codes all → c < 0xFFF4 → Settled (set laid (held - 1) (c + 4)) at held codes all
-    stop-at [] s h = absurd (omega (arith, more, many-held [] s))
-    stop-at (forLeft o ∷ ws) s h = absurd (omega (arith, h, held-last (marks ws) (code o + 4) (s .marked) .0))
-    stop-at (forBoth o l ∷ ws) s h =
-        let m = held-last (marks ws) (code o) (s .marked) in
-        let e : held ≡ suc (held - 1) = omega (arith, more) in
-        record {
-          waits = forLeft o ∷ ws;
-          next = some l;
-          ends = λ z. let q : _≡_ {A = ℕ} 0 1 = cc z in absurd (omega (arith, q));
-          stands =
-              record {
-                over = s .over .1;
-                over-next = s .over .0;
-                marked = ap (λ (k : ℕ). take k (set laid (held - 1) (c + 4))) e
-                    ∙ take-suc-set laid (held - 1) (c + 4) (omega (arith, more, fits, sized))
-                    ∙ rw (← (m .0), ← (m .1));
-                left = sym (append-nil (unread ws ++ postfix l)) ∙ s .left;
-                whole = ap (λ (ys : List ℕ). ((ahead ws ++ (code o ∷ [])) ++ prefix l) ++ ys) (drop-set-lt (at + held) laid (held - 1) (c + 4) (omega (arith, more)))
-                    ∙ simp append-assoc refl
-                    ∙ s .whole;
-              };
-        }
-
-    pub stops : Between laid at held codes all → c < 0xFFF4 → Settled (set laid (held - 1) (c + 4)) at held codes all
-    stops b h = stop-at (b .waits) (b .stands) h
-
-    -- both operands were laid
-    on-at : (ws : List Wait) → Stands ws none laid at held codes all → 0xFFF4 ≤ c → Between (set laid (at + (held - 1)) (c - 4)) at (held - 1) codes all
-    on-at [] s h = absurd (omega (arith, more, many-held [] s))
-    on-at (forBoth o l ∷ ws) s h = absurd (omega (arith, h, code-below o, held-last (marks ws) (code o) (s .marked) .0))
+    on-at : (ws : List Wait) → Stands ws none laid held last at codes all → 0xFFF4 ≤ last → Between (set laid (at + (held - 1)) (last - 4)) (held - 1) c at codes all
+    on-at [] s h = absurd (omega (arith, more, many-held s))
+    on-at (forBoth o l ∷ ws) s h = absurd (omega (arith, h, code-below o, held-last s (codesHeld ws) (code o) refl .0))
     on-at (forLeft o ∷ ws) s h =
-        let m = held-last (marks ws) (code o + 4) (s .marked) in
-        let e : c - 4 ≡ code o = omega (arith, m .0) in
+        let m = held-last s (codesHeld ws) (code o + 4) refl in
+        let e : last - 4 ≡ code o = omega (arith, m .0) in
         let i = at + (held - 1) in
+        let k : suc (held - 1) ≡ held = omega (arith, more) in
+        let t : take (suc (held - 1)) laid ≡ take (held - 1) laid ++ (getD laid (held - 1) 0 ∷ []) = take-suc laid (held - 1) 0 (omega (arith, more, fits, sized)) in
         record {
           waits = ws;
           stands =
               record {
                 over = s .over;
                 over-next = tt;
-                marked = take-set-le (held - 1) laid i (c - 4) (omega arith) ∙ sym (m .1);
+                nothing = s .nothing;
+                held-are = ap (λ (xs : List ℕ). xs ++ (c ∷ [])) (take-set-le (held - 1) laid i (last - 4) (omega arith))
+                    ∙ ap (λ (x : ℕ). take (held - 1) laid ++ (x ∷ [])) is
+                    ∙ sym t
+                    ∙ ap (λ (j : ℕ). take j laid) k
+                    ∙ m .1;
                 left = s .left;
-                whole = ap (λ (ys : List ℕ). (ahead ws ++ []) ++ ys) (stored-before laid i (at + held) (c - 4) (omega (arith, more, fits, sized)) (omega (arith, more)))
+                whole = ap (λ (ys : List ℕ). (ahead ws ++ []) ++ ys) (stored-before laid i (at + held) (last - 4) (omega (arith, more, fits, sized)) (omega (arith, more)))
                     ∙ ap (λ (x : ℕ). (ahead ws ++ []) ++ (x ∷ drop (at + held) laid)) e
                     ∙ simp append-assoc refl
                     ∙ s .whole;
               };
         }
 
-    pub goes-on : Between laid at held codes all → 0xFFF4 ≤ c → Between (set laid (at + (held - 1)) (c - 4)) at (held - 1) codes all
-    goes-on b h = on-at (b .waits) (b .stands) h
+not-none : (k : ℕ) → (k ≡ 0 → ⊥) → 1 ≤ k
+not-none zero f = absurd (f refl)
+not-none (suc k) f = omega arith
 
-pub record Settling (old laid : List ℕ) (at held waiting : ℕ) : Type 0 where
-  pub is : (codes all : List ℕ) → Between old at held codes all → Between laid at waiting codes all
+-- What waits now decides as what waited at first.
+pub record Settling (old : List ℕ) (held last : ℕ) (laid : List ℕ) (waiting waits at : ℕ) : Type 0 where
+  pub low : Low laid waiting waits (2047 - at)
+  pub is : (codes all : List ℕ) → Between old held last at codes all → Between laid waiting waits at codes all
 
-pub settling-begins : (laid : List ℕ) (at held : ℕ) → Settling laid laid at held held
-settling-begins laid at held = record { is = λ codes all b. b }
+pub settling-begins : (laid : List ℕ) (held last at : ℕ) → Low laid held last (2047 - at) → Settling laid held last laid held last at
+settling-begins laid held last at low = record { low = low; is = λ codes all b. b }
 
-module _ (old laid : List ℕ) (at held waiting : ℕ) (sized : length laid ≡ 2048) (fits : at + held ≤ 2048) (fewer : waiting ≤ held) (s : Settling old laid at held waiting) where
+module _ (old : List ℕ) (held last : ℕ) (laid : List ℕ) (waiting waits at : ℕ) (sized : length laid ≡ 2048) (fits : at + held ≤ 2048) (fewer : waiting ≤ held)
+    (s : Settling old held last laid waiting waits at) where
   within : at + waiting ≤ 2048
   within = omega arith
 
-  pub settles-none : waiting ≤ 0 → Settles old laid at held waiting
-  settles-none h = record { long = sized; fewer = fewer; is = λ codes all b. nothing-waits laid at waiting sized within codes all (s .is codes all b) h }
+  none-low : waiting ≡ 0 → 0xFFF4 ≤ waits → ⊥
+  none-low e h = let l = s .low .in-hand e in omega (arith, l, h)
 
-  module _ (more : 0 < waiting) (c : ℕ) (is : c ≡ getD laid (waiting - 1) 0) where
-    pub settles-here : c < 0xFFF4 → Settles old (set laid (waiting - 1) (c + 4)) at held waiting
-    settles-here h =
+  pub some-wait : 0xFFF4 ≤ waits → 1 ≤ waiting
+  some-wait h = not-none waiting (λ e. none-low e h)
+
+  pub fewer-wait : 0xFFF4 ≤ waits → waiting - 1 < waiting
+  fewer-wait h = omega (arith, some-wait h)
+
+  pub settles-here : at < 2048 → waits < 0xFFF4 → Settles old held last laid waiting (waits + 4) at
+  settles-here few h =
+      record {
+        long = sized;
+        fewer = fewer;
+        low =
+            record {
+              small = omega arith;
+              in-hand = λ e. let l = s .low .in-hand e in omega (arith, l);
+              at-front = λ m. let l = s .low .at-front m in omega (arith, l);
+            };
+        is = λ codes all b. let w = s .is codes all b in stop-at laid waiting waits at sized within codes all (w .waits) (w .stands) h;
+      }
+
+  module _ (more : 1 ≤ waiting) (c : ℕ) (is : c ≡ getD laid (waiting - 1) 0) (small : c < 65536) where
+    pub settling-more : 0xFFF4 ≤ waits → Settling old held last (set laid (at + (waiting - 1)) (waits - 4)) (waiting - 1) c at
+    settling-more h =
         record {
-          long = length-set laid (waiting - 1) (c + 4) ∙ sized;
-          fewer = fewer;
-          is = λ codes all b. stops laid at waiting sized within codes all more c is (s .is codes all b) h;
+          low =
+              record {
+                small = small;
+                in-hand = λ e. let l = s .low .at-front (omega arith) in omega (arith, l, is ∙ ap (λ (i : ℕ). getD laid i 0) e);
+                at-front = λ m. omega (arith, getD-set-other laid (at + (waiting - 1)) 0 (waits - 4) 0 (λ e. omega arith), s .low .at-front (omega arith));
+              };
+          is = λ codes all b. let w = s .is codes all b in on-at laid waiting waits at sized within codes all (omega arith) c is (w .waits) (w .stands) h;
         }
-
-    pub settling-more : 0xFFF4 ≤ c → Settling old (set laid (at + (waiting - 1)) (c - 4)) at held (waiting - 1)
-    settling-more h = record { is = λ codes all b. goes-on laid at waiting sized within codes all more c is (s .is codes all b) h }
 
 -- ---- lay_first
 
@@ -153,17 +197,17 @@ some-codes (node o l r) = omega (arith, length-append (postfix l) (postfix r ++ 
 node-last : (others : List ℕ) (o : Op) (l r : Formula) → others ++ postfix (node o l r) ≡ ((others ++ postfix l) ++ postfix r) ++ (code o ∷ [])
 node-last others o l r = simp append-assoc refl
 
-module _ (codes laid : List ℕ) (at held : ℕ) (long : length codes ≡ 2048) (sized : length laid ≡ 2048) (fits : at + held ≤ 2048) (more : 0 < at) (all : List ℕ) (c : ℕ) (is : c ≡ getD codes (at - 1) 0) where
+module _ (codes laid : List ℕ) (held last at : ℕ) (long : at ≤ length codes) (sized : length laid ≡ 2048) (fits : at + held ≤ 2048) (more : 0 < at) (all : List ℕ) (c : ℕ) (is : c ≡ getD codes (at - 1) 0) where
   last-read : (xs : List ℕ) (x : ℕ) → xs ++ (x ∷ []) ≡ take at codes → (x ≡ c) × (xs ≡ take (at - 1) codes)
-  last-read xs x e = let r = last-of codes at more (omega (arith, fits, long)) xs x e in (r .0 ∙ sym is, r .1)
+  last-read xs x e = let r = last-of codes at more long xs x e in (r .0 ∙ sym is, r .1)
 
-  none-read : (ws : List Wait) → ws ≡ [] → Stands ws none laid at held (take at codes) all → ⊥
+  none-read : (ws : List Wait) → ws ≡ [] → Stands ws none laid held last at (take at codes) all → ⊥
   none-read ws e s =
       let z : 0 ≡ length (take at codes) = ap (λ (vs : List Wait). length (unread vs ++ [])) (sym e) ∙ ap length (s .left) in
-      omega (arith, z, more, length-take-le at codes (omega (arith, fits, long)))
+      omega (arith, z, more, length-take-le at codes long)
 
-  leaf-at : (ws : List Wait) (next : Option Formula) → (next ≡ none → ws ≡ []) → Stands ws next laid at held (take at codes) all → c < 0xFFF0
-      → Between (set laid (at - 1 + held) c) (at - 1) held (take (at - 1) codes) all
+  leaf-at : (ws : List Wait) (next : Option Formula) → (next ≡ none → ws ≡ []) → Stands ws next laid held last at (take at codes) all → c < 0xFFF0
+      → Between (set laid (at - 1 + held) c) held last (at - 1) (take (at - 1) codes) all
   leaf-at ws none ends s h = absurd (none-read ws (ends refl) s)
   leaf-at ws (some (node o l r)) ends s h =
       let m = last-read ((unread ws ++ postfix l) ++ postfix r) (code o) (sym (node-last (unread ws) o l r) ∙ s .left) in
@@ -177,7 +221,8 @@ module _ (codes laid : List ℕ) (at held : ℕ) (long : length codes ≡ 2048) 
             record {
               over = s .over;
               over-next = tt;
-              marked = take-set-le held laid i c (omega arith) ∙ s .marked;
+              nothing = s .nothing;
+              held-are = ap (λ (xs : List ℕ). xs ++ (last ∷ [])) (take-set-le held laid i c (omega arith)) ∙ s .held-are;
               left = append-nil (unread ws) ∙ m .1;
               whole = ap (λ (ys : List ℕ). (ahead ws ++ []) ++ ys) (stored-before laid i (at + held) c (omega (arith, more, fits, sized)) (omega (arith, more)))
                   ∙ ap (λ (x : ℕ). (ahead ws ++ []) ++ (x ∷ drop (at + held) laid)) (sym (m .0))
@@ -186,8 +231,8 @@ module _ (codes laid : List ℕ) (at held : ℕ) (long : length codes ≡ 2048) 
             };
       }
 
-  node-at : (ws : List Wait) (next : Option Formula) → (next ≡ none → ws ≡ []) → Stands ws next laid at held (take at codes) all → 0xFFF0 ≤ c
-      → Settled (set laid held c) (at - 1) (held + 1) (take (at - 1) codes) all
+  node-at : (ws : List Wait) (next : Option Formula) → (next ≡ none → ws ≡ []) → Stands ws next laid held last at (take at codes) all → 0xFFF0 ≤ c
+      → Settled (set laid held last) (held + 1) c (at - 1) (take (at - 1) codes) all
   node-at ws none ends s h = absurd (none-read ws (ends refl) s)
   node-at ws (some (leaf t)) ends s h =
       let m = last-read (unread ws) t (s .left) in
@@ -204,25 +249,33 @@ module _ (codes laid : List ℕ) (at held : ℕ) (long : length codes ≡ 2048) 
             record {
               over = (s .over-next .0, s .over);
               over-next = s .over-next .1;
-              marked = ap (λ (k : ℕ). take k (set laid held c)) (add-one held)
-                  ∙ take-suc-set laid held c (omega (arith, more, fits, sized))
-                  ∙ ap (λ (xs : List ℕ). xs ++ (c ∷ [])) (s .marked)
-                  ∙ ap (λ (x : ℕ). marks ws ++ (x ∷ [])) (sym (m .0));
+              nothing = s .nothing;
+              held-are = ap (λ (k : ℕ). take k (set laid held last) ++ (c ∷ [])) (add-one held)
+                  ∙ ap (λ (xs : List ℕ). xs ++ (c ∷ [])) (take-suc-set laid held last (omega (arith, more, fits, sized)) ∙ s .held-are)
+                  ∙ ap (λ (x : ℕ). s .nothing ∷ (codesHeld ws ++ (x ∷ []))) (sym (m .0));
               left = m .1;
-              whole = ap (λ (k : ℕ). ((ahead ws ++ (code o ∷ prefix l)) ++ prefix r) ++ drop k (set laid held c)) e
-                  ∙ ap (λ (ys : List ℕ). ((ahead ws ++ (code o ∷ prefix l)) ++ prefix r) ++ ys) (drop-set-lt (at + held) laid held c (omega (arith, more)))
+              whole = ap (λ (k : ℕ). ((ahead ws ++ (code o ∷ prefix l)) ++ prefix r) ++ drop k (set laid held last)) e
+                  ∙ ap (λ (ys : List ℕ). ((ahead ws ++ (code o ∷ prefix l)) ++ prefix r) ++ ys) (drop-set-lt (at + held) laid held last (omega (arith, more)))
                   ∙ simp append-assoc refl
                   ∙ s .whole;
             };
       }
 
 -- What lies before the loop: the codes that are still to be read and what waits decide.
-pub record Lays (codes : List ℕ) (n : ℕ) (old laid : List ℕ) (at held : ℕ) : Type 0 where
-  pub is : (f : Formula) → Wholly codes n f → Settled laid at held (take at codes) (prefix f ++ drop n old)
+pub record Lays (bytes : List ℕ) (n : ℕ) (old laid : List ℕ) (held last at : ℕ) : Type 0 where
+  pub fits : at + held ≤ n
+  pub sized : length laid ≡ 2048
+  pub low : Low laid held last (2048 - at)
+  pub is : (f : Formula) → Wholly (codesOf bytes) f → Settled laid held last at (take at (codesOf bytes)) (prefix f ++ drop n old)
 
-pub lays-none : (codes old : List ℕ) (n : ℕ) → Lays codes n old old n 0
-lays-none codes old n =
+pub lays-none : (bytes old : List ℕ) → CodesFit bytes old → Lays bytes (length bytes / 2) old old 0 0 (length bytes / 2)
+lays-none bytes old fit =
+    let n = length bytes / 2 in
+    let many : length (codesOf bytes) ≡ n = omega (arith, codes-long bytes (fit .even)) in
     record {
+      fits = omega arith;
+      sized = fit .sized;
+      low = record { small = omega arith; in-hand = λ e. omega arith; at-front = λ m. absurd (omega (arith, m)) };
       is = λ f w.
           record {
             waits = [];
@@ -232,49 +285,96 @@ lays-none codes old n =
                 record {
                   over = tt;
                   over-next = w .over;
-                  marked = refl;
-                  left = sym (w .are);
+                  nothing = 0;
+                  held-are = refl;
+                  left = sym (w .are) ∙ sym (take-all n (codesOf bytes) (omega (arith, many)));
                   whole = let e : n + 0 ≡ n = omega arith in ap (λ (k : ℕ). prefix f ++ drop k old) e;
                 };
           };
     }
 
-module _ (codes old laid : List ℕ) (n at held : ℕ) (long : length codes ≡ 2048) (sized : length laid ≡ 2048) (few : n ≤ 2048) (fits : at + held ≤ n) (y : Lays codes n old laid at held) where
-  room : at + held ≤ 2048
-  room = omega arith
+module _ (bytes old laid : List ℕ) (n held last at : ℕ) (fit : CodesFit bytes old) (half : n ≡ length bytes / 2) (y : Lays bytes n old laid held last at) where
+  many : length (codesOf bytes) ≡ n
+  many = omega (arith, codes-long bytes (fit .even), half)
 
-  module _ (more : 0 < at) (c : ℕ) (is : c ≡ getD codes (at - 1) 0) where
-    pub lays-leaf : c < 0xFFF0 → (new : List ℕ) (less : ℕ) → Settles (set laid (at - 1 + held) c) new (at - 1) held less → Lays codes n old new (at - 1) less
-    lays-leaf h new less s =
+  few : n ≤ 2047
+  few = let l : length bytes ≤ 4094 = fit .few in omega arith
+
+  room : at + held ≤ 2048
+  room = omega (arith, few, y .fits)
+
+  module _ (more : 0 < at) where
+    pub lays-code : 2 * (at - 1) + 1 < length bytes
+    lays-code = omega (arith, half, y .fits)
+
+    pub lays-room : at - 1 + held < 2048
+    lays-room = omega (arith, few, y .fits)
+
+    pub lays-front : held < 2048
+    lays-front = omega (arith, few, y .fits)
+
+    pub lays-low : (c : ℕ) → Low (set laid (at - 1 + held) c) held last (2047 - (at - 1))
+    lays-low c =
         record {
-          is = λ f w.
-              let b = y .is f w in
-              s .is (take (at - 1) codes) (prefix f ++ drop n old) (leaf-at codes laid at held long sized room more (prefix f ++ drop n old) c is (b .waits) (b .next) (b .ends) (b .stands) h);
+          small = y .low .small;
+          in-hand = λ e. let l = y .low .in-hand e in omega (arith, l, few, y .fits);
+          at-front = λ m. let l = y .low .at-front m in omega (arith, l, few, y .fits, getD-set-other laid (at - 1 + held) 0 c 0 (λ e. omega (arith, e, m)));
         }
 
-    pub lays-operation : 0xFFF0 ≤ c → Lays codes n old (set laid held c) (at - 1) (held + 1)
-    lays-operation h =
-        record { is = λ f w. let b = y .is f w in node-at codes laid at held long sized room more (prefix f ++ drop n old) c is (b .waits) (b .next) (b .ends) (b .stands) h }
+    module _ (c : ℕ) (is : c ≡ twoAt bytes (2 * (at - 1))) where
+      code-is : c ≡ getD (codesOf bytes) (at - 1) 0
+      code-is = is ∙ two-code bytes (at - 1) (omega (arith, half, y .fits))
+
+      pub lays-leaf : c < 0xFFF0 → (new : List ℕ) (less after : ℕ) → Settles (set laid (at - 1 + held) c) held last new less after (at - 1) → Lays bytes n old new less after (at - 1)
+      lays-leaf h new less after s =
+          record {
+            fits = omega (arith, y .fits, s .fewer);
+            sized = s .long;
+            low = s .low;
+            is = λ f w.
+                let b = y .is f w in
+                s .is (take (at - 1) (codesOf bytes)) (prefix f ++ drop n old)
+                (leaf-at (codesOf bytes) laid held last at (omega (arith, many, y .fits)) (y .sized) room more (prefix f ++ drop n old) c code-is (b .waits) (b .next) (b .ends) (b .stands) h);
+          }
+
+      pub lays-operation : c < 65536 → 0xFFF0 ≤ c → Lays bytes n old (set laid held last) (held + 1) c (at - 1)
+      lays-operation small h =
+          record {
+            fits = omega (arith, y .fits, more);
+            sized = length-set laid held last ∙ y .sized;
+            low = record { small = small; in-hand = λ e. absurd (omega (arith, e)); at-front = λ m. front-low held refl };
+            is = λ f w.
+                let b = y .is f w in
+                node-at (codesOf bytes) laid held last at (omega (arith, many, y .fits)) (y .sized) room more (prefix f ++ drop n old) c code-is (b .waits) (b .next) (b .ends) (b .stands) h;
+          }
+        where
+          front-low : (k : ℕ) → k ≡ held → getD (set laid held last) 0 0 ≤ 4 * (2048 - (at - 1))
+          front-low zero e =
+              let l = y .low .in-hand (sym e) in
+              let g : getD (set laid held last) 0 0 ≡ last = ap (λ (i : ℕ). getD (set laid i last) 0 0) (sym e) ∙ getD-set-same laid 0 last 0 (omega (arith, y .sized)) in
+              omega (arith, l, g)
+          front-low (suc k) e =
+              let l = y .low .at-front (omega (arith, e)) in
+              omega (arith, l, getD-set-other laid held 0 last 0 (λ z. omega (arith, z, e)))
 
   module _ (done : at ≤ 0) where
-    all-laid : (f : Formula) → length (postfix f) ≡ n → (ws : List Wait) (next : Option Formula) → (next ≡ none → ws ≡ []) → Stands ws next laid at held (take at codes) (prefix f ++ drop n old) → take n laid ≡ prefix f
+    all-laid : (f : Formula) → length (postfix f) ≡ n → (ws : List Wait) (next : Option Formula) → (next ≡ none → ws ≡ []) → Stands ws next laid held last at (take at (codesOf bytes)) (prefix f ++ drop n old) → take n laid ≡ prefix f
     all-laid f k ws (some g) ends s =
-        let z : length (unread ws ++ postfix g) ≡ length (take at codes) = ap length (s .left) in
-        absurd (omega (arith, z, done, some-codes g, length-append (unread ws) (postfix g), length-take-le at codes (omega (arith, fits, few, long))))
+        let z : length (unread ws ++ postfix g) ≡ length (take at (codesOf bytes)) = ap length (s .left) in
+        absurd (omega (arith, z, done, some-codes g, length-append (unread ws) (postfix g), length-take-le at (codesOf bytes) (omega (arith, many, y .fits))))
     all-laid f k ws none ends s =
         let none-waits : ws ≡ [] = ends refl in
-        let marked : take held laid ≡ [] = s .marked ∙ ap marks none-waits in
-        let z : held ≡ 0 = sym (length-take-le held laid (omega (arith, fits, few, sized))) ∙ ap length marked in
+        let z : held ≡ 0 = sym (many-held laid held last at (y .sized) room (take at (codesOf bytes)) (prefix f ++ drop n old) s) ∙ ap (λ (vs : List Wait). length (codesHeld vs)) none-waits in
         let e : at + held ≡ 0 = omega (arith, z, done) in
         let whole : laid ≡ prefix f ++ drop n old = ap (λ (i : ℕ). drop i laid) (sym e) ∙ ap (λ (vs : List Wait). (ahead vs ++ []) ++ drop (at + held) laid) (sym none-waits) ∙ s .whole in
         ap (take n) whole ∙ take-at (prefix f) (drop n old) n (length-prefix f ∙ k)
 
-    pub lays-all : Laid codes n laid
+    pub lays-all : Laid (codesOf bytes) laid n
     lays-all =
         record {
-          long = sized;
+          long = y .sized;
           are = λ f w.
               let b = y .is f w in
-              let k : length (postfix f) ≡ n = ap length (sym (w .are)) ∙ length-take-le n codes (omega (arith, few, long)) in
-              all-laid f k (b .waits) (b .next) (b .ends) (b .stands);
+              let k : length (postfix f) ≡ n = ap length (sym (w .are)) ∙ many in
+              record { all = sym (length-prefix f ∙ k); are = all-laid f k (b .waits) (b .next) (b .ends) (b .stands); sized = y .sized };
         }

@@ -1,3 +1,4 @@
+pub mod CodeBytes
 pub mod Stores
 pub mod Laying
 pub mod Putting

@@ -2,15 +2,16 @@
 use Prim.Native.Nat.{ℕ}
 use mathlib.Core.Path.{_≡_}
 use mathlib.Core.List.{List}
-use lib.ListN.{length, take}
+use lib.ListN.{length}
 use Rattle.formula.specs.Formula.{firstOperation, Formula, postfix, prefix, Over}
+use Rattle.sheet_codes.specs.Codes.{CodesStand}
 
--- The first n codes are those of the formula f, in postfix order.
-pub record Wholly (codes : List ℕ) (n : ℕ) (f : Formula) : Type 0 where
+-- The codes are those of the formula f, in postfix order.
+pub record Wholly (codes : List ℕ) (f : Formula) : Type 0 where
   pub over : Over firstOperation f
-  pub are : take n codes ≡ postfix f
+  pub are : codes ≡ postfix f
 
--- If the first n codes are a formula's, the first n codes laid are its codes with the operation first.
-pub record Laid (codes : List ℕ) (n : ℕ) (laid : List ℕ) : Type 0 where
+-- If the codes are a formula's, n of them are laid, with the operation first.
+pub record Laid (codes laid : List ℕ) (n : ℕ) : Type 0 where
   pub long : length laid ≡ 2048
-  pub are : (f : Formula) → Wholly codes n f → take n laid ≡ prefix f
+  pub are : (f : Formula) → Wholly codes f → CodesStand (prefix f) laid n

@@ -142,7 +142,7 @@ module _ {ks fs ss : List ℕ} {leaves nodes : ℕ} (sh : Shaped ks fs ss leaves
               ∙ ap (steps (rework old rs (suc j) (take nodes (set ls j v)) .labels)) (omega arith);
         }
 
-  pub pass-to : {due : ℕ → Bool} {ls : List ℕ} {n : ℕ} (d j : ℕ) → Pass ks fs ss nodes old from l₀ due j ls n → j + d ≤ nodes
+  pass-to : {due : ℕ → Bool} {ls : List ℕ} {n : ℕ} (d j : ℕ) → Pass ks fs ss nodes old from l₀ due j ls n → j + d ≤ nodes
       → ((k : ℕ) → j ≤ k → k < j + d → due k ≡ false) → Pass ks fs ss nodes old from l₀ due (j + d) ls n
   pass-to zero j g h out = rw (add-zero j) g
   pass-to (suc d) j g h out =

@@ -4,7 +4,7 @@ use native.Mathlib.Numerals.{add-one}
 use native.Mathlib.Omega.{arith}
 use mathlib.Core.Path.{_≡_, refl, sym, ap, _∙_}
 use mathlib.Core.List.{List, [], _∷_, _++_}
-use lib.ListN.{length, getD, take, drop, set, length-append, length-drop, length-set}
+use lib.ListN.{length, getD, take, drop, set, length-append, length-set}
 use lib.Seq.{drop-cons, set-append-seam, append-snoc, take-suc, take-all, length-take-le, getD-take}
 use Rattle.outcome.specs.Lent.{filled}
 use Rattle.contraction.specs.Records.{Rec}
@@ -20,9 +20,6 @@ filled-more : (xs old : List ℕ) (x i : ℕ) → length xs ≡ i → i < length
 filled-more xs old x i e h =
     let l : length (xs ++ (x ∷ [])) ≡ suc (length xs) = omega (arith, length-append xs (x ∷ [])) in
     rw (← e, drop-cons old (length xs) 0 (omega arith), l) (set-append-seam xs (getD old (length xs) 0) (drop (suc (length xs)) old) x ∙ sym (append-snoc xs x (drop (suc (length xs)) old)))
-
-length-filled : (xs old : List ℕ) → length xs ≤ length old → length (filled xs old) ≡ length old
-length-filled xs old h = omega (arith, length-append xs (drop (length xs) old), length-drop (length xs) old)
 
 -- one toggle more
 each-snoc : (rs : List Rec) (ss ls : List ℕ) (s : ℕ) → toggleEach rs ls (ss ++ (s ∷ []))

@@ -60,7 +60,7 @@ module _ {ks fs xs : List ℕ} {leaves nodes : ℕ} where
   pub tree-shaped : Tree ks fs xs leaves nodes → Shaped ks fs xs leaves nodes
   tree-shaped t = held-shaped ks fs xs leaves nodes (t .formula) (t .holds)
 
-  pub tree-room : Tree ks fs xs leaves nodes → nodes ≤ 3072
+  tree-room : Tree ks fs xs leaves nodes → nodes ≤ 3072
   tree-room t = tree-shaped t .room
 
   pub tree-fits : Tree ks fs xs leaves nodes → nodes < 65536
@@ -71,7 +71,7 @@ module _ {ks fs xs : List ℕ} {leaves nodes : ℕ} where
     pub narrow-shaped : Tree ks fs xs leaves nodes → m ≡ leaves → n ≡ nodes → Shaped ks fs xs m n
     narrow-shaped t d e = rw (d, e) (tree-shaped t)
 
-    pub narrow-ready : {links : List ℕ} → Tree ks fs xs leaves nodes → m ≡ leaves → n ≡ nodes → Parents ks fs xs n links → Chains ks fs xs m n links
+    narrow-ready : {links : List ℕ} → Tree ks fs xs leaves nodes → m ≡ leaves → n ≡ nodes → Parents ks fs xs n links → Chains ks fs xs m n links
         → Ready ks fs xs leaves nodes links
     narrow-ready t d e p q = record { linked = record { shaped = tree-shaped t; ups = rw e at p }; chains = rw (d, e) at q }
 

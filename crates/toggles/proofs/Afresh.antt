@@ -48,14 +48,14 @@ flip-on zero n = absurd (n refl)
 flip-on (suc v) n = refl
 
 -- each leaf of the shape has the other bit, every other node the same label
-abbrev turned : ℕ → Rec → ℕ → ℕ
-turned s r x = cond (isOf s r) (flip x) x
+abbrev flippedLeaf : ℕ → Rec → ℕ → ℕ
+flippedLeaf s r x = cond (isOf s r) (flip x) x
 
 abbrev Flips : ℕ → List ℕ → List ℕ → ℕ → List Rec → Type 0
 Flips s xs ys n [] = Unit {0}
-Flips s xs ys n (r ∷ rs) = (getD ys n 0 ≡ turned s r (getD xs n 0)) × Flips s xs ys (suc n) rs
+Flips s xs ys n (r ∷ rs) = (getD ys n 0 ≡ flippedLeaf s r (getD xs n 0)) × Flips s xs ys (suc n) rs
 
-record Turned (s : ℕ) (rs : List Rec) (i : ℕ) (ls ms : List ℕ) : Type 0 where
+record AllFlipped (s : ℕ) (rs : List Rec) (i : ℕ) (ls ms : List ℕ) : Type 0 where
   pub lower : (k : ℕ) → k < i → getD ms k 0 ≡ getD ls k 0
   pub flips : Flips s ls ms i rs
   pub long : length ms ≡ length ls
@@ -63,14 +63,14 @@ record Turned (s : ℕ) (rs : List Rec) (i : ℕ) (ls ms : List ℕ) : Type 0 wh
 flips-past : (s : ℕ) (rs : List Rec) (i v n : ℕ) (xs ys : List ℕ) → i < n → Flips s (set xs i v) ys n rs → Flips s xs ys n rs
 flips-past s [] i v n xs ys h f = tt
 flips-past s (r ∷ rs) i v n xs ys h f =
-    (f .0 ∙ ap (turned s r) (getD-set-other xs i n v 0 (λ q. omega arith)), flips-past s rs i v (suc n) xs ys (omega arith) (f .1))
+    (f .0 ∙ ap (flippedLeaf s r) (getD-set-other xs i n v 0 (λ q. omega arith)), flips-past s rs i v (suc n) xs ys (omega arith) (f .1))
 
-flipped-leaves : (s : ℕ) (rs : List Rec) (i : ℕ) (ls : List ℕ) → i + length rs ≤ length ls → Turned s rs i ls (flipLeaves s rs i ls)
+flipped-leaves : (s : ℕ) (rs : List Rec) (i : ℕ) (ls : List ℕ) → i + length rs ≤ length ls → AllFlipped s rs i ls (flipLeaves s rs i ls)
 flipped-leaves s [] i ls h = record { lower = λ k p. refl; flips = tt; long = refl }
 flipped-leaves s (r ∷ rs) i ls h = go (isOf s r) refl (λ ms. flipped-leaves s rs (suc i) ms)
   where
-    go : (b : Bool) → isOf s r ≡ b → ((ms : List ℕ) → suc i + length rs ≤ length ms → Turned s rs (suc i) ms (flipLeaves s rs (suc i) ms))
-        → Turned s (r ∷ rs) i ls (flipLeaves s rs (suc i) (cond (isOf s r) (set ls i (flip (getD ls i 0))) ls))
+    go : (b : Bool) → isOf s r ≡ b → ((ms : List ℕ) → suc i + length rs ≤ length ms → AllFlipped s rs (suc i) ms (flipLeaves s rs (suc i) ms))
+        → AllFlipped s (r ∷ rs) i ls (flipLeaves s rs (suc i) (cond (isOf s r) (set ls i (flip (getD ls i 0))) ls))
     go true e ih =
         let v = flip (getD ls i 0) in
         let w = ih (set ls i v) (omega (arith, length-set ls i v)) in
@@ -93,8 +93,8 @@ record Mended (new : State) (rs : List Rec) (j : ℕ) (ls ms : List ℕ) : Type 
   lower : (k : ℕ) → k < j → getD ms k 0 ≡ getD ls k 0
   long : length ms ≡ length ls
 
-turned-bit : (s t : ℕ) (state : State) → cond (eqb t s) (flip (bit (state t))) (bit (state t)) ≡ bit (flipped s state t)
-turned-bit s t state = go (eqb t s)
+flipped-bit : (s t : ℕ) (state : State) → cond (eqb t s) (flip (bit (state t))) (bit (state t)) ≡ bit (flipped s state t)
+flipped-bit s t state = go (eqb t s)
   where
     go : (b : Bool) → cond b (flip (bit (state t))) (bit (state t)) ≡ bit (cond b (not (state t)) (state t))
     go true = ap (λ z. bit (not z)) (on-bit (state t))
@@ -151,7 +151,7 @@ module _ (state : State) (s : ℕ) (old : List ℕ) where
         leaf-right : isLeaf (r .kind) ≡ true → getD ls j 0 ≡ label new ls r
         leaf-right l =
             f .0 ∙ ap (λ z. cond (z && eqb (r .first) s) (flip (getD old j 0)) (getD old j 0)) l
-            ∙ ap (λ x. cond (eqb (r .first) s) (flip x) x) (right ∙ label-leaf state old r l) ∙ turned-bit s (r .first) state ∙ sym (label-leaf new ls r l)
+            ∙ ap (λ x. cond (eqb (r .first) s) (flip x) x) (right ∙ label-leaf state old r l) ∙ flipped-bit s (r .first) state ∙ sym (label-leaf new ls r l)
 
         inner-right : isLeaf (r .kind) ≡ false → changed old ls (children r) ≡ false → getD ls j 0 ≡ label new ls r
         inner-right l e =

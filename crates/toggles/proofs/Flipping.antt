@@ -1,4 +1,4 @@
--- The leaves of a shape flipped one after the other, and the nodes above them marked; so a toggle of one leaf and of several.
+-- The leaves of a shape flipped one after the other, and the nodes above them put into a set; so a toggle of one leaf and of several.
 use Prim.Native.Nat.{ℕ, zero, suc, _+_, _-_, _<_, _≤_}
 use native.Mathlib.Omega.{arith}
 use mathlib.Core.Path.{_≡_, refl, sym, ap, _∙_}
@@ -12,9 +12,9 @@ use lib.Seq.{getD-take, getD-set-same, getD-set-other, take-set-lt}
 use Rattle.contraction.specs.Records.{Rec, isLeaf, children, listed, over}
 use Rattle.contraction.specs.Entries.{kindAt, recAt, recs}
 use Rattle.contraction.proofs.EntryLaws.{recs-more}
-use Rattle.marks.specs.declared.Marks.{Marks}
-use Rattle.marks.specs.Marks.{marked, all, Rising, Put}
-use Rattle.marks.proofs.Sets.{rising-none, empty-none}
+use Rattle.rising_set.specs.declared.RisingSet.{RisingSet}
+use Rattle.rising_set.specs.Members.{inSet, all, Rising, Put}
+use Rattle.rising_set.proofs.Sets.{rising-none, empty-none}
 use Rattle.labels.specs.Labels.{isOf}
 use Rattle.labels.specs.Linked.{seek, Shaped, Linked, Ready}
 use Rattle.labels.proofs.Links.{cases, found, jump, done, parent-is, parent-over}
@@ -25,16 +25,16 @@ use Rattle.toggle_passes.proofs.Upwards.{changed-set}
 use Rattle.toggles.specs.Toggles.{flip, flipLeaves, toggle}
 use Rattle.toggles.specs.Flipping.{Bare, AddedNode, Flipped}
 
--- a node marked, where there is one
-pub node-marked : {ws ws′ : List ℕ} {m m′ : Marks} {p nodes : ℕ} → p < nodes → m .at ≡ 0 → Put ws m p ws′ m′ → AddedNode nodes p ws m ws′ m′
-node-marked {p = p} {nodes = nodes} h f on = record { rising = on .rising; first = on .stays ∙ f; so = λ i. on .added .so i ∙ rw (lt-ltb p nodes h) }
+-- a node put in, where there is one
+pub node-put : {ws ws′ : List ℕ} {m m′ : RisingSet} {p nodes : ℕ} → p < nodes → m .at ≡ 0 → Put ws m p ws′ m′ → AddedNode nodes p ws m ws′ m′
+node-put {p = p} {nodes = nodes} h f on = record { rising = on .rising; first = on .stays ∙ f; so = λ i. on .added .so i ∙ rw (lt-ltb p nodes h) }
 
-pub node-none : {ws : List ℕ} {m : Marks} {p nodes : ℕ} → nodes ≤ p → m .at ≡ 0 → Rising ws m → AddedNode nodes p ws m ws m
-node-none {ws} {m} {p} {nodes} h f r = record { rising = r; first = f; so = λ i. rw (le-ltb p nodes h) (sym (or-false (marked (all ws m) i))) }
+pub node-none : {ws : List ℕ} {m : RisingSet} {p nodes : ℕ} → nodes ≤ p → m .at ≡ 0 → Rising ws m → AddedNode nodes p ws m ws m
+node-none {ws} {m} {p} {nodes} h f r = record { rising = r; first = f; so = λ i. rw (le-ltb p nodes h) (sym (or-false (inSet (all ws m) i))) }
 
 -- a set with nothing in it
-pub unmarked : {m : Marks} → m .at ≡ 0 → m .word ≡ 0 → m .held ≡ 0 → Bare (replicate 48 0) m
-unmarked a w h = record { rising = rising-none a w h; first = a; empty = empty-none a w h }
+pub taken-out : {m : RisingSet} → m .at ≡ 0 → m .word ≡ 0 → m .held ≡ 0 → Bare (replicate 48 0) m
+taken-out a w h = record { rising = rising-none a w h; first = a; empty = empty-none a w h }
 
 -- the two ways of a leaf's record
 flip-skip : (s : ℕ) (r : Rec) (rs : List Rec) (i : ℕ) (ls : List ℕ) → isOf s r ≡ false → flipLeaves s (r ∷ rs) i ls ≡ flipLeaves s rs (suc i) ls
@@ -79,7 +79,7 @@ module _ {ks fs ss : List ℕ} {leaves nodes : ℕ} (sh : Shaped ks fs ss leaves
 
 -- the leaves below `from` are done, and a is the next of the shape
 module _ (ks fs ss : List ℕ) (leaves nodes : ℕ) (links : List ℕ) (s : ℕ) (old : List ℕ) where
-  pub record Turning (a : ℕ) (ls : List ℕ) : Type 0 where
+  pub record FlippedBelow (a : ℕ) (ls : List ℕ) : Type 0 where
     pub from : ℕ
     pub inside : from ≤ leaves
     pub here : a ≡ seek (isOf s) from (recs ks fs ss from (nodes - from))
@@ -87,18 +87,18 @@ module _ (ks fs ss : List ℕ) (leaves nodes : ℕ) (links : List ℕ) (s : ℕ)
     pub kept : (i : ℕ) → from ≤ i → getD ls i 0 ≡ getD old i 0
     pub long : length ls ≡ 3072
 
-  -- and the nodes above them are marked
-  pub record Flipping (a : ℕ) (ls ws : List ℕ) (m : Marks) : Type 0 where
-    pub turning : Turning a ls
+  -- and the nodes above them are in the set
+  pub record Flipping (a : ℕ) (ls ws : List ℕ) (m : RisingSet) : Type 0 where
+    pub flipped-below : FlippedBelow a ls
     pub rising : Rising ws m
     pub first : m .at ≡ 0
     pub within : Within nodes (all ws m)
-    pub low : (k : ℕ) → k < leaves → marked (all ws m) k ≡ false
-    pub dues : (k : ℕ) → k < nodes → changed (take nodes old) ls (children (recAt ks fs ss k)) ≡ marked (all ws m) k
+    pub low : (k : ℕ) → k < leaves → inSet (all ws m) k ≡ false
+    pub dues : (k : ℕ) → k < nodes → changed (take nodes old) ls (children (recAt ks fs ss k)) ≡ inSet (all ws m) k
 
 module _ {ks fs ss : List ℕ} {leaves nodes : ℕ} {links : List ℕ} (rd : Ready ks fs ss leaves nodes links) {s : ℕ} {old : List ℕ} where
-  turning-start : {a : ℕ} → s < 256 → a ≡ getD links (3072 + s) 0 → length old ≡ 3072 → Turning ks fs ss leaves nodes links s old a old
-  turning-start h e long =
+  flipped-start : {a : ℕ} → s < 256 → a ≡ getD links (3072 + s) 0 → length old ≡ 3072 → FlippedBelow ks fs ss leaves nodes links s old a old
+  flipped-start h e long =
       let d : nodes ≡ nodes - 0 = omega arith in
       record {
         from = 0;
@@ -109,7 +109,7 @@ module _ {ks fs ss : List ℕ} {leaves nodes : ℕ} {links : List ℕ} (rd : Rea
         long = long;
       }
 
-  module _ {a : ℕ} {ls : List ℕ} (g : Turning ks fs ss leaves nodes links s old a ls) where
+  module _ {a : ℕ} {ls : List ℕ} (g : FlippedBelow ks fs ss leaves nodes links s old a ls) where
     nodes-left : g .from + (nodes - g .from) ≡ nodes
     nodes-left = omega (arith, g .inside, rd .linked .shaped .within)
 
@@ -120,8 +120,8 @@ module _ {ks fs ss : List ℕ} {leaves nodes : ℕ} {links : List ℕ} (rd : Rea
         (λ w. absurd (true≢false (sym (ap (λ k. isLeaf (kindAt (getD ks k 0))) (g .here) ∙ and-both _ _ (w .0) .0) ∙ rd .linked .shaped .inner a h (omega (arith, w .2, g .here, nodes-left)))))
         (found ks fs ss (isOf s) (nodes - g .from) (g .from))
 
-    turning-end : leaves ≤ a → take nodes ls ≡ flipLeaves s (recs ks fs ss 0 nodes) 0 (take nodes old)
-    turning-end h =
+    flipped-end : leaves ≤ a → take nodes ls ≡ flipLeaves s (recs ks fs ss 0 nodes) 0 (take nodes old)
+    flipped-end h =
         sym (g .same ∙ done (isOf s) (λ rs i. flipLeaves s rs i (take nodes ls)) (take nodes ls) (λ i. refl) (λ r rs i q. flip-skip s r rs i (take nodes ls) q)
         ks fs ss (nodes - g .from) (g .from) (omega (arith, nodes-left, g .here, past-leaves h)))
 
@@ -143,8 +143,8 @@ module _ {ks fs ss : List ℕ} {leaves nodes : ℕ} {links : List ℕ} (rd : Rea
           ks fs ss (nodes - g .from) (g .from) (omega (arith, nodes-left, rd .linked .shaped .room)) (omega (arith, nodes-left, g .here, rd .linked .shaped .within))
           ∙ rw (nodes-left, ← (g .here)) (flip-here s (recAt ks fs ss a) rs a (take nodes ls) (is-here h .0)) ∙ ap (flipLeaves s rs (suc a)) flipped-here
 
-      turning-on : {b : ℕ} → b ≡ getD links (3328 + a) 0 → Turning ks fs ss leaves nodes links s old b (set ls a v)
-      turning-on {b} q =
+      flipped-on : {b : ℕ} → b ≡ getD links (3328 + a) 0 → FlippedBelow ks fs ss leaves nodes links s old b (set ls a v)
+      flipped-on {b} q =
           let shape : getD fs a 0 ≡ s = eqb-true (getD fs a 0) s (and-both (isLeaf (kindAt (getD ks a 0))) (eqb (getD fs a 0) s) (is-here h .0) .1) in
           record {
             from = suc a;
@@ -162,7 +162,7 @@ leaf-inside sh h = omega (arith, sh .within)
 pub toggle-none : {ks fs ss : List ℕ} {leaves nodes : ℕ} {links : List ℕ} → Ready ks fs ss leaves nodes links → {s a : ℕ} (ls : List ℕ) → leaves ≤ a → a ≡ getD links (3072 + s) 0 → s < 256
     → length ls ≡ 3072 → steps (take nodes ls) 0 ≡ toggle (recs ks fs ss 0 nodes) s (take nodes ls)
 toggle-none {ks} {fs} {ss} {leaves} {nodes} rd {s} ls past e h long =
-    let still = turning-end rd (turning-start rd {s = s} {old = ls} h e long) past in
+    let still = flipped-end rd (flipped-start rd {s = s} {old = ls} h e long) past in
     sym (ap (rework (take nodes ls) (recs ks fs ss 0 nodes) 0) (sym still) ∙ rework-none (take nodes ls) (recs ks fs ss 0 nodes) 0)
 
 -- one whose shape has a single leaf, a
@@ -173,9 +173,9 @@ pub toggle-one : {ks fs ss : List ℕ} {leaves nodes : ℕ} {links : List ℕ} �
 toggle-one {ks} {fs} {ss} {leaves} {nodes} rd {s} {a} {b} {v} ls ms h e past q f small long walked =
     let sh = rd .linked .shaped in
     let L = take nodes ls in
-    let t = turning-start rd {s = s} {old = ls} small e long in
-    let turned = turning-end rd (turning-on rd t h f q) past in
-    walked L alone ∙ sym (leaves-first sh L (take nodes (set ls a v)) (suc a) h) ∙ ap (rework L (recs ks fs ss 0 nodes) 0) turned
+    let t = flipped-start rd {s = s} {old = ls} small e long in
+    let flippedLeaf = flipped-end rd (flipped-on rd t h f q) past in
+    walked L alone ∙ sym (leaves-first sh L (take nodes (set ls a v)) (suc a) h) ∙ ap (rework L (recs ks fs ss 0 nodes) 0) flippedLeaf
   where
     alone : Alone nodes (take nodes ls) (set ls a v) a
     alone =
@@ -185,12 +185,12 @@ toggle-one {ks} {fs} {ss} {leaves} {nodes} rd {s} {a} {b} {v} ls ms h e past q f
           elsewhere = λ i l o. getD-set-other ls a i v 0 o ∙ sym (getD-take nodes ls i 0 l);
         }
 
--- the marks on the way
+-- the members on the way
 module _ {ks fs ss : List ℕ} {leaves nodes : ℕ} {links : List ℕ} (rd : Ready ks fs ss leaves nodes links) {s : ℕ} {old : List ℕ} where
-  pub flipping-start : {a : ℕ} {ws : List ℕ} {m : Marks} → s < 256 → a ≡ getD links (3072 + s) 0 → length old ≡ 3072 → Bare ws m → Flipping ks fs ss leaves nodes links s old a old ws m
+  pub flipping-start : {a : ℕ} {ws : List ℕ} {m : RisingSet} → s < 256 → a ≡ getD links (3072 + s) 0 → length old ≡ 3072 → Bare ws m → Flipping ks fs ss leaves nodes links s old a old ws m
   flipping-start h e long bare =
       record {
-        turning = turning-start rd h e long;
+        flipped-below = flipped-start rd h e long;
         rising = bare .rising;
         first = bare .first;
         within = record { node = λ k l o. absurd (true≢false (sym o ∙ bare .empty .none k)) };
@@ -200,12 +200,12 @@ module _ {ks fs ss : List ℕ} {leaves nodes : ℕ} {links : List ℕ} (rd : Rea
             ∙ sym (bare .empty .none k);
       }
 
-  module _ {a : ℕ} {ls ws : List ℕ} {m : Marks} (g : Flipping ks fs ss leaves nodes links s old a ls ws m) where
+  module _ {a : ℕ} {ls ws : List ℕ} {m : RisingSet} (g : Flipping ks fs ss leaves nodes links s old a ls ws m) where
     pub flipping-end : leaves ≤ a → Flipped ks fs ss leaves nodes s old ls ws m
     flipping-end h =
-        let t = g .turning in
+        let t = g .flipped-below in
         record {
-          labels-are = turning-end rd t h;
+          labels-are = flipped-end rd t h;
           long = t .long;
           rising = g .rising;
           within = g .within;
@@ -218,7 +218,7 @@ module _ {ks fs ss : List ℕ} {leaves nodes : ℕ} {links : List ℕ} (rd : Rea
               };
         }
 
-    module _ {p v : ℕ} {ws′ : List ℕ} {m′ : Marks} (h : a < leaves) (e : v ≡ flip (getD ls a 0)) (u : p ≡ getD links a 0) (on : AddedNode nodes p ws m ws′ m′) where
+    module _ {p v : ℕ} {ws′ : List ℕ} {m′ : RisingSet} (h : a < leaves) (e : v ≡ flip (getD ls a 0)) (u : p ≡ getD links a 0) (on : AddedNode nodes p ws m ws′ m′) where
       in-nodes : a < nodes
       in-nodes = omega (arith, rd .linked .shaped .within)
 
@@ -244,43 +244,43 @@ module _ {ks fs ss : List ℕ} {leaves nodes : ℕ} {links : List ℕ} (rd : Rea
       flipping-on : {b : ℕ} → b ≡ getD links (3328 + a) 0 → Flipping ks fs ss leaves nodes links s old b (set ls a v) ws′ m′
       flipping-on q =
           record {
-            turning = turning-on rd (g .turning) h e q;
+            flipped-below = flipped-on rd (g .flipped-below) h e q;
             rising = on .rising;
             first = on .first;
             within =
                 record {
                   node = λ k l o.
-                      cases (marked (all ws m) k) (λ y. g .within .node k l y)
-                      (λ y. let w = either (marked (all ws m) k) (ltb p nodes) (eqb k p) (sym (on .so k) ∙ o) y in omega (arith, eqb-true k p (w .1), ltb-true p nodes (w .0)));
+                      cases (inSet (all ws m) k) (λ y. g .within .node k l y)
+                      (λ y. let w = either (inSet (all ws m) k) (ltb p nodes) (eqb k p) (sym (on .so k) ∙ o) y in omega (arith, eqb-true k p (w .1), ltb-true p nodes (w .0)));
                 };
             low = λ k l.
-                cases (marked (all ws′ m′) k)
-                (λ o. let w = either (marked (all ws m) k) (ltb p nodes) (eqb k p) (sym (on .so k) ∙ o) (g .low k l) in
+                cases (inSet (all ws′ m′) k)
+                (λ o. let w = either (inSet (all ws m) k) (ltb p nodes) (eqb k p) (sym (on .so k) ∙ o) (g .low k l) in
                 absurd (omega (arith, eqb-true k p (w .1), above-leaves (ltb-true p nodes (w .0)))))
                 (λ o. o);
             dues = λ k l.
-                changed-set (take nodes old) ls a v (omega (arith, g .turning .long, rd .linked .shaped .few)) as-before (children (recAt ks fs ss k))
+                changed-set (take nodes old) ls a v (omega (arith, g .flipped-below .long, rd .linked .shaped .few)) as-before (children (recAt ks fs ss k))
                 ∙ rw (g .dues k l, parent-is (rd .linked) a k in-nodes l, ← u, e, flip-other (getD ls a 0)) (joined k l) ∙ sym (on .so k);
           }
         where
           as-before : getD ls a 0 ≡ getD (take nodes old) a 0
-          as-before = g .turning .kept a (is-here rd (g .turning) h .1) ∙ sym (getD-take nodes old a 0 in-nodes)
+          as-before = g .flipped-below .kept a (is-here rd (g .flipped-below) h .1) ∙ sym (getD-take nodes old a 0 in-nodes)
 
-          joined : (k : ℕ) → k < nodes → (marked (all ws m) k || (eqb k p && true)) ≡ (marked (all ws m) k || (ltb p nodes && eqb k p))
-          joined k l = cases (eqb k p) (λ z. rw (z, lt-ltb p nodes (omega (arith, eqb-true k p z)))) (λ z. rw z (ap (λ w. marked (all ws m) k || w) (sym (none (ltb p nodes)))))
+          joined : (k : ℕ) → k < nodes → (inSet (all ws m) k || (eqb k p && true)) ≡ (inSet (all ws m) k || (ltb p nodes && eqb k p))
+          joined k l = cases (eqb k p) (λ z. rw (z, lt-ltb p nodes (omega (arith, eqb-true k p z)))) (λ z. rw z (ap (λ w. inSet (all ws m) k || w) (sym (none (ltb p nodes)))))
             where
               none : (x : Bool) → (x && false) ≡ false
               none true = refl
               none false = refl
 
--- the same as the loop meets it: the mark put in and the state before it come first, since they tell of what the rest is
-pub flipping-more : {ks fs ss : List ℕ} {leaves nodes : ℕ} {links : List ℕ} {s : ℕ} {old : List ℕ} {a b p v : ℕ} {ls ws ws′ : List ℕ} {m m′ : Marks} → AddedNode nodes p ws m ws′ m′
+-- the same as the loop meets it: the node put in and the state before it come first, since they tell of what the rest is
+pub flipping-more : {ks fs ss : List ℕ} {leaves nodes : ℕ} {links : List ℕ} {s : ℕ} {old : List ℕ} {a b p v : ℕ} {ls ws ws′ : List ℕ} {m m′ : RisingSet} → AddedNode nodes p ws m ws′ m′
     → Flipping ks fs ss leaves nodes links s old a ls ws m → Ready ks fs ss leaves nodes links → a < leaves → v ≡ flip (getD ls a 0) → p ≡ getD links a 0 → b ≡ getD links (3328 + a) 0
     → Flipping ks fs ss leaves nodes links s old b (set ls a v) ws′ m′
 flipping-more on g rd h e u q = flipping-on rd g h e u on q
 
 -- a toggle whose shape has several leaves
-pub toggle-several : {ks fs ss : List ℕ} {leaves nodes : ℕ} {ps : List ℕ} → Linked ks fs ss leaves nodes ps → {s n : ℕ} (old ls ws : List ℕ) (m : Marks) (ls′ : List ℕ) → Flipped ks fs ss leaves nodes s old ls ws m
+pub toggle-several : {ks fs ss : List ℕ} {leaves nodes : ℕ} {ps : List ℕ} → Linked ks fs ss leaves nodes ps → {s n : ℕ} (old ls ws : List ℕ) (m : RisingSet) (ls′ : List ℕ) → Flipped ks fs ss leaves nodes s old ls ws m
     → ((before : List ℕ) (j : ℕ) → Due ks fs ss nodes before ls (all ws m) j → steps (take nodes ls′) n ≡ rework before (recs ks fs ss j (nodes - j)) j (take nodes ls))
     → steps (take nodes ls′) n ≡ toggle (recs ks fs ss 0 nodes) s (take nodes old)
 toggle-several {ks} {fs} {ss} {leaves} {nodes} lk old ls ws m ls′ f settled =

@@ -51,11 +51,6 @@ run-roots f ss = ap (λ state. toggleEach (dwarf f) (labels state (dwarf f)) ss 
 pub run-labels : (f : Formula) (ss : List ℕ) → toggleRun f ss .final ≡ labels (toggledBy ss) (dwarf f)
 run-labels f ss = ap (λ state. toggleEach (dwarf f) (labels state (dwarf f)) ss .final) (sym none-done) ∙ final-after f [] ss
 
--- Two toggle lists in which every shape stands an odd number of times in both or an even number in both leave the same labels.
-pub same-oddness-same-labels : (f : Formula) (ss us : List ℕ) → ((s : ℕ) → toggledBy ss s ≡ toggledBy us s) → toggleRun f ss .final ≡ toggleRun f us .final
-same-oddness-same-labels f ss us same =
-    run-labels f ss ∙ ap (λ state. labels state (dwarf f)) (fun-ext same) ∙ sym (run-labels f us)
-
 -- a root and a count for each toggle
 pub length-roots : (rs : List Rec) (ls ss : List ℕ) → length (toggleEach rs ls ss .roots) ≡ length ss
 length-roots rs ls [] = refl

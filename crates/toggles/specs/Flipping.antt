@@ -1,4 +1,4 @@
--- What the functions of a toggle keep: leaves are flipped, and marks stand on the nodes above them.
+-- What the functions of a toggle keep: leaves are flipped, and the nodes above them are in a set.
 use Prim.Native.Nat.{ℕ, _<_}
 use mathlib.Core.Path.{_≡_}
 use mathlib.Core.Bool.{_&&_, _||_}
@@ -6,23 +6,23 @@ use mathlib.Core.List.{List}
 use lib.Dec.{eqb, ltb}
 use lib.ListN.{length, take}
 use Rattle.contraction.specs.Entries.{recs}
-use Rattle.marks.specs.declared.Marks.{Marks}
-use Rattle.marks.specs.Marks.{marked, all, Rising, Empty}
+use Rattle.rising_set.specs.declared.RisingSet.{RisingSet}
+use Rattle.rising_set.specs.Members.{inSet, all, Rising, Empty}
 use Rattle.labels.specs.Linked.{Rules, Ready}
 use Rattle.toggle_passes.specs.Upwards.{Due, Within}
 use Rattle.toggles.specs.Toggles.{flipLeaves}
 
--- No mark at all, and the first word in hand.
-pub record Bare (ws : List ℕ) (m : Marks) : Type 0 where
+-- Nothing in the set, and the first word in hand.
+pub record Bare (ws : List ℕ) (m : RisingSet) : Type 0 where
   pub rising : Rising ws m
   pub first : m .at ≡ 0
   pub empty : Empty (all ws m)
 
--- Node p marked, where there is such a node.
-pub record AddedNode (nodes p : ℕ) (ws : List ℕ) (m : Marks) (ws′ : List ℕ) (m′ : Marks) : Type 0 where
+-- Node p put in, where there is such a node.
+pub record AddedNode (nodes p : ℕ) (ws : List ℕ) (m : RisingSet) (ws′ : List ℕ) (m′ : RisingSet) : Type 0 where
   pub rising : Rising ws′ m′
   pub first : m′ .at ≡ 0
-  pub so : (i : ℕ) → marked (all ws′ m′) i ≡ (marked (all ws m) i || (ltb p nodes && eqb i p))
+  pub so : (i : ℕ) → inSet (all ws′ m′) i ≡ (inSet (all ws m) i || (ltb p nodes && eqb i p))
 
 -- What a toggle of shape s asks for.
 pub record Toggles (rules ks fs ss : List ℕ) (leaves nodes : ℕ) (links ls : List ℕ) (s : ℕ) : Type 0 where
@@ -31,8 +31,8 @@ pub record Toggles (rules ks fs ss : List ℕ) (leaves nodes : ℕ) (links ls : 
   pub long : length ls ≡ 3072
   pub shape : s < 256
 
--- The leaves of shape s are flipped, and the marks stand on the nodes above them.
-pub record Flipped (ks fs ss : List ℕ) (leaves nodes s : ℕ) (old ls ws : List ℕ) (m : Marks) : Type 0 where
+-- The leaves of shape s are flipped, and the nodes above them are in the set.
+pub record Flipped (ks fs ss : List ℕ) (leaves nodes s : ℕ) (old ls ws : List ℕ) (m : RisingSet) : Type 0 where
   pub labels-are : take nodes ls ≡ flipLeaves s (recs ks fs ss 0 nodes) 0 (take nodes old)
   pub long : length ls ≡ 3072
   pub rising : Rising ws m

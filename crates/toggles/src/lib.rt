@@ -3,13 +3,13 @@ ghost use mathlib.Core.Path.{_≡_};
 ghost use Prim.Native.Nat.{_<_, _≤_};
 ghost use lib.ListN.{length, take};
 ghost use Rattle.contraction.specs.Entries.{recs};
-ghost use Rattle.marks.specs.Marks.{Rising};
+ghost use Rattle.rising_set.specs.Members.{Rising};
 ghost use Rattle.labels.specs.Linked.{Ready};
 ghost use Rattle.toggle_passes.specs.Reworking.{steps};
 ghost use Rattle.toggles.specs.Toggles.{flip as flipOf, toggle as toggleOf};
 ghost use Rattle.toggles.specs.Flipping.{Bare, AddedNode, Toggles, Flipped};
 use labels::Size;
-use marks::Marks;
+use rising_set::RisingSet;
 
 // The other bit.
 fn flip(v: u8) -> u8
@@ -18,18 +18,18 @@ fn flip(v: u8) -> u8
     if v == 0 { 1 } else { 0 }
 }
 
-// Marks node p, where there is such a node.
-fn mark_node(words: &mut [u64; 48], m: Marks, p: usize, nodes: usize) -> Marks
+// Puts node p into the set, where there is such a node.
+fn put_node(words: &mut [u64; 48], m: RisingSet, p: usize, nodes: usize) -> RisingSet
     requires { ⌜ Rising (now words) m × (m .at ≡ 0) × (nodes ≤ 3072) ⌝ }
     ensures { λ r. ⌜ AddedNode nodes p (now (words .entry)) m (now (words .exit)) r ⌝ }
 {
     if p < nodes {
-        return marks::mark(words, m, p);
+        return rising_set::put_in(words, m, p);
     }
     m
 }
 
-// The leaves of a shape flipped, from its first leaf on, and the nodes above them marked.
+// The leaves of a shape flipped, from its first leaf on, and the nodes above them put into a set.
 fn flip_leaves(
     kinds: &[u16; 3072],
     firsts: &[u16; 3072],
@@ -38,9 +38,9 @@ fn flip_leaves(
     links: &[u16; 4352],
     labels: &mut [u8; 3072],
     words: &mut [u64; 48],
-    none: Marks,
+    none: RisingSet,
     s: usize,
-) -> Marks
+) -> RisingSet
     requires { ⌜ Ready (now kinds) (now firsts) (now seconds) (size .leaves) (size .nodes) (now links) × (length (now labels) ≡ 3072) × (s < 256) × Bare (now words) none ⌝ }
     ensures { λ r. ⌜ Flipped (now (kinds .entry)) (now (firsts .entry)) (now (seconds .entry)) (size .leaves) (size .nodes) s (now (labels .entry)) (now (labels .exit)) (now (words .exit)) r ⌝ }
 {
@@ -48,7 +48,7 @@ fn flip_leaves(
     let mut m = none;
     while a < size.leaves {
         labels[a] = flip(labels[a]);
-        m = mark_node(words, m, labels::wide(links[a]), size.nodes);
+        m = put_node(words, m, labels::wide(links[a]), size.nodes);
         a = labels::wide(links[3328 + a]);
     }
     m
@@ -71,7 +71,7 @@ fn toggle_many(
         ≡ toggleOf (recs (now (kinds .entry)) (now (firsts .entry)) (now (seconds .entry)) 0 (size .nodes)) s (take (size .nodes) (now (labels .entry))) ⌝ }
 {
     let mut words = [0u64; 48];
-    let none = marks::none();
+    let none = rising_set::none();
     let m = flip_leaves(
         kinds,
         firsts,
@@ -96,7 +96,7 @@ fn toggle_many(
     )
 }
 
-// A toggle of shape s. The number of nodes reworked. Above a single leaf one node at a time is due, and no mark is needed.
+// A toggle of shape s. The number of nodes reworked. Above a single leaf one node at a time is due, and no set is needed.
 pub fn toggle(
     rules: &[u8; 256],
     kinds: &[u16; 3072],

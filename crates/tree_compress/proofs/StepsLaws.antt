@@ -11,7 +11,7 @@ use Rattle.contraction.specs.Entries.{entry, entries}
 use Rattle.tree_tokens.specs.Tokens.{Token, bare, single, double, decode, toks, Sized}
 use Rattle.tree_tokens.proofs.TokensLaws.{decode-bare, decode-single, decode-double, decode-new, present-none, present-some}
 use Rattle.tree_compress.specs.Pairing.{chainLength, Pairing, puts, pairs, pairToken, pairTokens, rest, RestIn, Counted, pairingIn, pairingStart, PairingStep, CompressedTo}
-use Rattle.tree_compress.specs.declared.PairingMarks.{PairingMarks}
+use Rattle.tree_compress.specs.declared.PairingFills.{PairingFills}
 use Rattle.tree_compress.proofs.Trees.{compressed-tree, compressed-records}
 
 -- ---- the tokens that are left
@@ -66,17 +66,17 @@ pub counted-is : {l : List ℕ} {i n k : ℕ} → Counted l i n k → (k ≡ 0 �
 counted-is counted h = counted .is h
 
 -- ---- the two ways a token goes out
-pub view-put : (out out′ : List ℕ) (m : PairingMarks) (t : ℕ) → toks out′ (m .at + 1) ≡ toks out (m .at) ++ (decode t ∷ []) → (ks fs ss : List ℕ)
+pub view-put : (out out′ : List ℕ) (m : PairingFills) (t : ℕ) → toks out′ (m .at + 1) ≡ toks out (m .at) ++ (decode t ∷ []) → (ks fs ss : List ℕ)
     → pairingIn out′ ks fs ss (record { held = 65535; at = m .at + 1; next = m .next }) ≡ puts (decode t) (pairingIn out ks fs ss m)
 view-put out out′ m t e ks fs ss = rw e
 
-pub view-pair : (out out′ ks fs ss ks′ fs′ ss′ : List ℕ) (m : PairingMarks) (upper lower : ℕ) → toks out′ (m .at + 1) ≡ toks out (m .at) ++ (decode (4096 + m .next) ∷ [])
+pub view-pair : (out out′ ks fs ss ks′ fs′ ss′ : List ℕ) (m : PairingFills) (upper lower : ℕ) → toks out′ (m .at + 1) ≡ toks out (m .at) ++ (decode (4096 + m .next) ∷ [])
     → entries ks′ fs′ ss′ 0 (m .next + 1) ≡ entries ks fs ss 0 (m .next) ++ (entry 14 upper lower ∷ []) → m .next < 3072
     → pairingIn out′ ks′ fs′ ss′ (record { held = 65535; at = m .at + 1; next = m .next + 1 }) ≡ pairs upper lower (pairingIn out ks fs ss m)
 view-pair out out′ ks fs ss ks′ fs′ ss′ m upper lower e q b = rw (e, q, decode-new (m .next) b)
 
 -- ---- a step, by the token and by what is held. r is what a callee left, as its contract says it
-module _ (out ks fs ss : List ℕ) (m : PairingMarks) (t k : ℕ) where
+module _ (out ks fs ss : List ℕ) (m : PairingFills) (t k : ℕ) where
   abbrev σ : Pairing
   σ = pairingIn out ks fs ss m
 
@@ -97,7 +97,7 @@ module _ (out ks fs ss : List ℕ) (m : PairingMarks) (t k : ℕ) where
   token-hold h l q even = rw (decode-single t h l, present-none (m .held) q, eq-eqb (k % 2) 0 even, present-some (t - 4096) (λ x. omega arith))
 
 -- ---- the loop: the steps from here, over the tokens that are left, come to what they come to from the start
-pub record PairingAt (tokens : List ℕ) (n next : ℕ) (ks₀ fs₀ ss₀ out ks fs ss : List ℕ) (m : PairingMarks) (i k : ℕ) : Type 0 where
+pub record PairingAt (tokens : List ℕ) (n next : ℕ) (ks₀ fs₀ ss₀ out ks fs ss : List ℕ) (m : PairingFills) (i k : ℕ) : Type 0 where
   pub passed : i ≤ n
   pub at : m .at ≤ i
   pub more : m .next ≤ next + i
@@ -126,8 +126,8 @@ module _ {tokens : List ℕ} {n next : ℕ} {out ks fs ss : List ℕ} where
   pairing-start sized =
       record { passed = omega arith; at = omega arith; more = omega arith; sized = sized; counted = record { is = λ h. absurd (h refl) }; is = refl }
 
-  module _ {ks₀ fs₀ ss₀ : List ℕ} {m : PairingMarks} {i k : ℕ} (now : PairingAt tokens n next ks₀ fs₀ ss₀ out ks fs ss m i k) where
-    pub pairing-more : {out′ ks′ fs′ ss′ : List ℕ} {m′ : PairingMarks} {r k′ : ℕ} → i < n → n ≤ 2048 → length tokens ≡ 2048 → r ≡ chainLength (rest tokens i n)
+  module _ {ks₀ fs₀ ss₀ : List ℕ} {m : PairingFills} {i k : ℕ} (now : PairingAt tokens n next ks₀ fs₀ ss₀ out ks fs ss m i k) where
+    pub pairing-more : {out′ ks′ fs′ ss′ : List ℕ} {m′ : PairingFills} {r k′ : ℕ} → i < n → n ≤ 2048 → length tokens ≡ 2048 → r ≡ chainLength (rest tokens i n)
         → PairingStep (pairToken (pairingIn out ks fs ss m) (decode (getD tokens i 0)) r) (pairingIn out′ ks′ fs′ ss′ m′) m m′ → Sized out′ ks′ fs′ ss′ → k′ ≡ r - 1
         → PairingAt tokens n next ks₀ fs₀ ss₀ out′ ks′ fs′ ss′ m′ (i + 1) k′
     pairing-more {r = r} {k′ = k′} h few full run step sized less =
@@ -141,7 +141,7 @@ module _ {tokens : List ℕ} {n next : ℕ} {out ks fs ss : List ℕ} where
         }
 
 -- at the end they come to what compress leaves of the tree
-pub pairing-end : {tokens : List ℕ} {n next : ℕ} {ks₀ fs₀ ss₀ out ks fs ss : List ℕ} {m : PairingMarks} {i k : ℕ} → PairingAt tokens n next ks₀ fs₀ ss₀ out ks fs ss m i k → n ≤ i
+pub pairing-end : {tokens : List ℕ} {n next : ℕ} {ks₀ fs₀ ss₀ out ks fs ss : List ℕ} {m : PairingFills} {i k : ℕ} → PairingAt tokens n next ks₀ fs₀ ss₀ out ks fs ss m i k → n ≤ i
     → CompressedTo tokens n next ks₀ fs₀ ss₀ out ks fs ss (record { at = m .at; next = m .next })
 pairing-end {tokens} {n} {next} {ks₀} {fs₀} {ss₀} {i = i} now h =
     let rs = entries ks₀ fs₀ ss₀ 0 next in

@@ -13,7 +13,7 @@ use Rattle.contraction.specs.Rounds.{Work, compresses, compressed}
 use Rattle.contraction.specs.Entries.{Entry, entries, entryOf}
 use Rattle.tree_tokens.specs.Tokens.{Token, bare, single, double, flat, decode, present, toks, Leaves}
 use Rattle.tree_tokens.specs.declared.Extent.{Extent}
-use Rattle.tree_compress.specs.declared.PairingMarks.{PairingMarks}
+use Rattle.tree_compress.specs.declared.PairingFills.{PairingFills}
 
 -- How many one-child nodes stand at the front.
 abbrev pub chainLength : List Token → ℕ
@@ -32,7 +32,7 @@ pub record Pairing : Type 0 where
 abbrev pub puts : Token → Pairing → Pairing
 puts t σ = record { held = none; out = σ .out ++ (t ∷ []); made = σ .made; next = σ .next }
 
-abbrev pub holds : ℕ → Pairing → Pairing
+abbrev holds : ℕ → Pairing → Pairing
 holds d σ = record { held = some d; out = σ .out; made = σ .made; next = σ .next }
 
 abbrev pub pairs : ℕ → ℕ → Pairing → Pairing
@@ -40,7 +40,7 @@ pairs upper lower σ =
     record { held = none; out = σ .out ++ (single (σ .next) ∷ []); made = σ .made ++ (entryOf (C-rec upper lower) ∷ []); next = σ .next + 1 }
 
 -- A one-child node at the front of a run of k: the upper one of a pair, or the lower one if k is even, else it waits as it is.
-abbrev pub onChained : ℕ → ℕ → Option ℕ → Pairing → Pairing
+abbrev onChained : ℕ → ℕ → Option ℕ → Pairing → Pairing
 onChained d k (some lower) σ = pairs d lower σ
 onChained d k none σ = cond (eqb (k % 2) 0) (holds d σ) (puts (single d) σ)
 
@@ -70,7 +70,7 @@ pub record Counted (tokens : List ℕ) (i n k : ℕ) : Type 0 where
   pub is : (k ≡ 0 → ⊥) → k ≡ chainLength (rest tokens i n)
 
 -- What is held: 65535 where there is none.
-abbrev pub pairingIn : List ℕ → List ℕ → List ℕ → List ℕ → PairingMarks → Pairing
+abbrev pub pairingIn : List ℕ → List ℕ → List ℕ → List ℕ → PairingFills → Pairing
 pairingIn out ks fs ss m =
     record { held = present (m .held); out = toks out (m .at); made = entries ks fs ss 0 (m .next); next = m .next }
 
@@ -79,12 +79,12 @@ abbrev pub pairingStart : List ℕ → List ℕ → List ℕ → ℕ → Pairing
 pairingStart ks fs ss next = record { held = none; out = []; made = entries ks fs ss 0 next; next = next }
 
 -- There is room for one token more.
-pub record PairingRoom (m : PairingMarks) : Type 0 where
+pub record PairingRoom (m : PairingFills) : Type 0 where
   pub at : m .at < 2048
   pub next : m .next < 3072
 
--- A step's answer: the state that is due, and each mark at most one further.
-pub record PairingStep (due σ : Pairing) (m r : PairingMarks) : Type 0 where
+-- A step's answer: the state that is due, and each array filled at most one further.
+pub record PairingStep (due σ : Pairing) (m r : PairingFills) : Type 0 where
   pub is : σ ≡ due
   pub at : r .at ≤ m .at + 1
   pub next : r .next ≤ m .next + 1

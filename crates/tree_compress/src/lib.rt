@@ -8,7 +8,7 @@ ghost use Rattle.tree_tokens.specs.Tokens.{decode, Sized};
 ghost use Rattle.tree_compress.specs.Pairing.{chainLength, puts, pairs, pairToken, rest, RestIn, Counted, pairingIn, PairingRoom, PairingStep, CompressedTo};
 
 // The lower node of a pair, or 65535, and how far the tokens out and the records are filled.
-struct PairingMarks {
+struct PairingFills {
     held: u16,
     at: usize,
     next: u16,
@@ -51,14 +51,14 @@ fn less(k: usize) -> usize
 }
 
 // Puts a token out as it is.
-fn put_out(t: u16, out: &mut [u16; 2048], m: PairingMarks) -> PairingMarks
+fn put_out(t: u16, out: &mut [u16; 2048], m: PairingFills) -> PairingFills
     requires { ⌜ (length (now out) ≡ 2048) × (m .at < 2048) ⌝ }
     ensures { λ _. ⌜ length (now (out .exit)) ≡ 2048 ⌝ }
     ensures { λ r. ⌜ ((ks fs ss : List ℕ) → pairingIn (now (out .exit)) ks fs ss r ≡ puts (decode t) (pairingIn (now (out .entry)) ks fs ss m)) × (r .at ≡ m .at + 1) × (r .next ≡ m .next) ⌝ }
 {
     let at = m.at;
     tree_tokens::put_token(t, out, at);
-    PairingMarks {
+    PairingFills {
         held: 65535,
         at: at + 1,
         next: m.next,
@@ -73,8 +73,8 @@ fn pair_up(
     kinds: &mut [u16; 3072],
     firsts: &mut [u16; 3072],
     seconds: &mut [u16; 3072],
-    m: PairingMarks,
-) -> PairingMarks
+    m: PairingFills,
+) -> PairingFills
     requires { ⌜ Sized (now out) (now kinds) (now firsts) (now seconds) ⌝ }
     requires { ⌜ PairingRoom m ⌝ }
     ensures { λ _. ⌜ Sized (now (out .exit)) (now (kinds .exit)) (now (firsts .exit)) (now (seconds .exit)) ⌝ }
@@ -85,7 +85,7 @@ fn pair_up(
     let next = m.next;
     tree_tokens::put_token(4096 + next, out, at);
     tree_tokens::put_record(14, upper, lower, kinds, firsts, seconds, next);
-    PairingMarks {
+    PairingFills {
         held: 65535,
         at: at + 1,
         next: next + 1,
@@ -100,8 +100,8 @@ fn compress_token(
     kinds: &mut [u16; 3072],
     firsts: &mut [u16; 3072],
     seconds: &mut [u16; 3072],
-    m: PairingMarks,
-) -> PairingMarks
+    m: PairingFills,
+) -> PairingFills
     requires { ⌜ Sized (now out) (now kinds) (now firsts) (now seconds) ⌝ }
     requires { ⌜ PairingRoom m ⌝ }
     ensures { λ _. ⌜ Sized (now (out .exit)) (now (kinds .exit)) (now (firsts .exit)) (now (seconds .exit)) ⌝ }
@@ -120,7 +120,7 @@ fn compress_token(
         return pair_up(upper, lower, out, kinds, firsts, seconds, m);
     }
     if k % 2 == 0 {
-        PairingMarks {
+        PairingFills {
             held: t - 4096,
             at: m.at,
             next: m.next,
@@ -147,7 +147,7 @@ pub fn compress(
     ensures { λ r. ⌜ CompressedTo (now (tokens .entry)) n next (now (kinds .entry)) (now (firsts .entry)) (now (seconds .entry))
         (now (out .exit)) (now (kinds .exit)) (now (firsts .exit)) (now (seconds .exit)) r ⌝ }
 {
-    let mut m = PairingMarks {
+    let mut m = PairingFills {
         held: 65535,
         at: 0,
         next,

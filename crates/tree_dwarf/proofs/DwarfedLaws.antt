@@ -5,8 +5,8 @@ use native.Mathlib.Omega.{arith}
 use mathlib.Core.Path.{_≡_, refl, sym, ap, ap₂, _∙_}
 use mathlib.Core.List.{List, [], _∷_, _++_, map, map-append}
 use lib.ListN.{length, getD, take, length-append, length-map}
-use lib.Seq.{take-suc, take-at, length-take-le}
-use Rattle.formula.specs.Formula.{Formula, leaf, node, leaves, postfix, Over}
+use lib.Seq.{take-suc, length-take-le}
+use Rattle.formula.specs.Formula.{Formula, leaves}
 use Rattle.formula.proofs.Laws.{length-postfix}
 use Rattle.contraction.specs.Records.{number, Rec}
 use Rattle.contraction.specs.Rounds.{nodes, made, rounds, planted, leafRecs, enough, dwarf}
@@ -19,11 +19,6 @@ use Rattle.tree_dwarf.specs.Dwarfed.{Plans, Planned, Dwarfed}
 use Rattle.tree_dwarf.specs.Building.{PlantedTo, Rooted, Contracted, ContractedTo, Bounded}
 use Rattle.tree_dwarf.specs.declared.Figures.{Figures}
 use Rattle.tree_dwarf.proofs.RoundLaws.{leaves-next}
-
--- every formula over at most 256 names is planned by its own postfix order
-over-more : (f : Formula) (n m : ℕ) → n ≤ m → Over n f → Over m f
-over-more (leaf s) n m h o = omega arith
-over-more (node p l r) n m h o = (over-more l n m h (o .0), over-more r n m h (o .1))
 
 -- n codes are those of (n + 1) / 2 leaves
 plans-leaves : (f : Formula) (codes : List ℕ) (n : ℕ) → Plans f codes n → n ≤ length codes → suc n ≡ 2 * leaves f

@@ -21,7 +21,7 @@ pub record Planting : Type 0 where
   pub made : List Entry
   pub next : ℕ
 
-abbrev pub numbered : ℕ → Planting → Planting
+abbrev numbered : ℕ → Planting → Planting
 numbered s σ = record { out = σ .out ++ (bare (σ .next) ∷ []); made = σ .made ++ (entryOf (leafRec s) ∷ []); next = σ .next + 1 }
 
 abbrev pub copied : ℕ → Planting → Planting

@@ -10,7 +10,7 @@ use Rattle.contraction.specs.Entries.{Entry, entry, entries}
 use Rattle.tree_tokens.specs.Tokens.{decode, present, toks}
 use Rattle.tree_tokens.proofs.TokensLaws.{toks-next, decode-bare, decode-single, decode-double, decode-new, present-none, present-some}
 use Rattle.tree_rake.specs.Raking.{Raking, kept, makes, rakeToken, operands, rakingIn, rakingStart, Lengths, RakingStep, RakedTo}
-use Rattle.tree_rake.specs.declared.RakingMarks.{RakingMarks}
+use Rattle.tree_rake.specs.declared.RakingFills.{RakingFills}
 use Rattle.tree_rake.proofs.Trees.{raked-tree, raked-records}
 
 -- ---- the stack
@@ -28,11 +28,11 @@ operands-pop2 : (l : List ℕ) (n : ℕ) → 2 ≤ n → operands l n ≡ presen
 operands-pop2 l n z = let e : n - 1 - 1 ≡ n - 2 = omega arith in operands-pop l n (omega arith) ∙ rw (operands-pop l (n - 1) (omega arith), e)
 
 -- ---- a token out, and a record besides
-pub view-keep : (out out′ st : List ℕ) (m : RakingMarks) (t : ℕ) → toks out′ (m .at + 1) ≡ toks out (m .at) ++ (decode t ∷ []) → m .top < length st
+pub view-keep : (out out′ st : List ℕ) (m : RakingFills) (t : ℕ) → toks out′ (m .at + 1) ≡ toks out (m .at) ++ (decode t ∷ []) → m .top < length st
     → (ks fs ss : List ℕ) → rakingIn out′ (set st (m .top) 65535) ks fs ss (record { top = m .top + 1; at = m .at + 1; next = m .next }) ≡ kept (decode t) (rakingIn out st ks fs ss m)
 view-keep out out′ st m t e h ks fs ss = rw (e, operands-push st (m .top) 65535 h)
 
-pub view-make : {σ : Raking} (out st ks fs ss ks′ fs′ ss′ : List ℕ) (m : RakingMarks) (t : ℕ) (r : Entry) → entries ks′ fs′ ss′ 0 (m .next + 1) ≡ entries ks fs ss 0 (m .next) ++ (r ∷ [])
+pub view-make : {σ : Raking} (out st ks fs ss ks′ fs′ ss′ : List ℕ) (m : RakingFills) (t : ℕ) (r : Entry) → entries ks′ fs′ ss′ 0 (m .next + 1) ≡ entries ks fs ss 0 (m .next) ++ (r ∷ [])
     → σ ≡ kept (decode t) (rakingIn out st ks′ fs′ ss′ (record { top = m .top; at = m .at; next = m .next + 1 })) → σ ≡ makes r (decode t) (rakingIn out st ks fs ss m)
 view-make out st ks fs ss ks′ fs′ ss′ m t r e q = q ∙ rw e
 
@@ -42,7 +42,7 @@ two-none-at σ st zero t e z h = rw (decode-double t h, e)
 two-none-at σ st (suc zero) t e z h = rw (decode-double t h, e)
 two-none-at σ st (suc (suc n)) t e z h = absurd (omega arith)
 
-module _ (out st ks fs ss : List ℕ) (m : RakingMarks) (t : ℕ) where
+module _ (out st ks fs ss : List ℕ) (m : RakingFills) (t : ℕ) where
   abbrev σ : Raking
   σ = rakingIn out st ks fs ss m
 
@@ -83,8 +83,8 @@ module _ (out st ks fs ss : List ℕ) (m : RakingMarks) (t : ℕ) where
   pub bare-step : m .top < length st → t < 4096 → rakingIn out (set st (m .top) t) ks fs ss (record { top = m .top + 1; at = m .at; next = m .next }) ≡ rakeToken σ (decode t)
   bare-step b h = rw (operands-push st (m .top) t b, decode-bare t h, present-some t (λ q. omega arith))
 
--- ---- the loop: the arrays hold what the steps come to after the first i tokens, and no mark has gone further than i
-pub record RakingAt (tokens : List ℕ) (n next : ℕ) (ks₀ fs₀ ss₀ out st ks fs ss : List ℕ) (m : RakingMarks) (i : ℕ) : Type 0 where
+-- ---- the loop: the arrays hold what the steps come to after the first i tokens, and no array is filled further than i
+pub record RakingAt (tokens : List ℕ) (n next : ℕ) (ks₀ fs₀ ss₀ out st ks fs ss : List ℕ) (m : RakingFills) (i : ℕ) : Type 0 where
   pub passed : i ≤ n
   pub top : m .top ≤ i
   pub at : m .at ≤ i
@@ -99,8 +99,8 @@ module _ {tokens : List ℕ} {n next : ℕ} {out st ks fs ss : List ℕ} where
   pub raking-start : Lengths out st ks fs ss → RakingAt tokens n next ks fs ss out st ks fs ss (record { top = 0; at = 0; next = next }) 0
   raking-start long = record { passed = omega arith; top = omega arith; at = omega arith; more = omega arith; lengths = long; is = refl }
 
-  module _ {ks₀ fs₀ ss₀ : List ℕ} {m : RakingMarks} {i : ℕ} (now : RakingAt tokens n next ks₀ fs₀ ss₀ out st ks fs ss m i) where
-    pub raking-next : {out′ st′ ks′ fs′ ss′ : List ℕ} {r : RakingMarks} → i < n → n ≤ 2048 → length tokens ≡ 2048 → Lengths out′ st′ ks′ fs′ ss′
+  module _ {ks₀ fs₀ ss₀ : List ℕ} {m : RakingFills} {i : ℕ} (now : RakingAt tokens n next ks₀ fs₀ ss₀ out st ks fs ss m i) where
+    pub raking-next : {out′ st′ ks′ fs′ ss′ : List ℕ} {r : RakingFills} → i < n → n ≤ 2048 → length tokens ≡ 2048 → Lengths out′ st′ ks′ fs′ ss′
         → RakingStep (rakeToken (rakingIn out st ks fs ss m) (decode (getD tokens i 0))) (rakingIn out′ st′ ks′ fs′ ss′ r) m r
         → RakingAt tokens n next ks₀ fs₀ ss₀ out′ st′ ks′ fs′ ss′ r (i + 1)
     raking-next h few full long step =
@@ -114,7 +114,7 @@ module _ {tokens : List ℕ} {n next : ℕ} {out st ks fs ss : List ℕ} where
         }
 
 -- at the end they hold what rake leaves of the tree
-pub raking-end : {tokens : List ℕ} {n next : ℕ} {ks₀ fs₀ ss₀ out st ks fs ss : List ℕ} {m : RakingMarks} {i : ℕ} → RakingAt tokens n next ks₀ fs₀ ss₀ out st ks fs ss m i → n ≤ i
+pub raking-end : {tokens : List ℕ} {n next : ℕ} {ks₀ fs₀ ss₀ out st ks fs ss : List ℕ} {m : RakingFills} {i : ℕ} → RakingAt tokens n next ks₀ fs₀ ss₀ out st ks fs ss m i → n ≤ i
     → RakedTo tokens n next ks₀ fs₀ ss₀ out ks fs ss (record { at = m .at; next = m .next })
 raking-end {n = n} {next} {ks₀} {fs₀} {ss₀} {i = i} now h =
     let end : i ≡ n = omega (arith, now .passed) in

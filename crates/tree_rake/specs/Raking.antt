@@ -10,7 +10,7 @@ use Rattle.contraction.specs.Rounds.{Work, oneRemains, rakes, raked}
 use Rattle.contraction.specs.Entries.{Entry, entry, entries, entryOf}
 use Rattle.tree_tokens.specs.Tokens.{Token, bare, single, double, present, flat, toks, Sized, Leaves}
 use Rattle.tree_tokens.specs.declared.Extent.{Extent}
-use Rattle.tree_rake.specs.declared.RakingMarks.{RakingMarks}
+use Rattle.tree_rake.specs.declared.RakingFills.{RakingFills}
 
 -- The operands that wait, the last one first: a leaf as the round found it, with its dwarf root, is raked, and was not put out;
 -- of a larger tree the tokens are out, and none stands here. Then the tokens out, the records made, and the next number.
@@ -20,7 +20,7 @@ pub record Raking : Type 0 where
   pub made : List Entry
   pub next : ℕ
 
-abbrev pub withStack : List (Option ℕ) → Raking → Raking
+abbrev withStack : List (Option ℕ) → Raking → Raking
 withStack st σ = record { stack = st; out = σ .out; made = σ .made; next = σ .next }
 
 -- A token goes out, and a larger tree waits.
@@ -56,7 +56,7 @@ abbrev pub operands : List ℕ → ℕ → List (Option ℕ)
 operands l zero = []
 operands l (suc n) = present (getD l n 0) ∷ operands l n
 
-abbrev pub rakingIn : List ℕ → List ℕ → List ℕ → List ℕ → List ℕ → RakingMarks → Raking
+abbrev pub rakingIn : List ℕ → List ℕ → List ℕ → List ℕ → List ℕ → RakingFills → Raking
 rakingIn out st ks fs ss m =
     record { stack = operands st (m .top); out = toks out (m .at); made = entries ks fs ss 0 (m .next); next = m .next }
 
@@ -70,13 +70,13 @@ pub record Lengths (out st ks fs ss : List ℕ) : Type 0 where
   pub sized : Sized out ks fs ss
 
 -- There is room for one token more.
-pub record RakingRoom (m : RakingMarks) : Type 0 where
+pub record RakingRoom (m : RakingFills) : Type 0 where
   pub top : m .top < 2048
   pub at : m .at < 2048
   pub next : m .next < 3072
 
--- A step's answer: the state that is due, and each mark at most one further.
-pub record RakingStep (due σ : Raking) (m r : RakingMarks) : Type 0 where
+-- A step's answer: the state that is due, and each array filled at most one further.
+pub record RakingStep (due σ : Raking) (m r : RakingFills) : Type 0 where
   pub is : σ ≡ due
   pub top : r .top ≤ m .top + 1
   pub at : r .at ≤ m .at + 1

@@ -9,14 +9,14 @@ ghost use Rattle.tree_tokens.specs.Tokens.{decode};
 ghost use Rattle.tree_rake.specs.Raking.{kept, makes, rakeToken, rakingIn, Lengths, RakingRoom, RakingStep, RakedTo};
 
 // How far the stack, the tokens out and the records are filled.
-struct RakingMarks {
+struct RakingFills {
     top: usize,
     at: usize,
     next: u16,
 }
 
 // Puts a token out; its tree waits, and this step does not rake it.
-fn keep(t: u16, out: &mut [u16; 2048], st: &mut [u16; 2048], m: RakingMarks) -> RakingMarks
+fn keep(t: u16, out: &mut [u16; 2048], st: &mut [u16; 2048], m: RakingFills) -> RakingFills
     requires { ⌜ (length (now out) ≡ 2048) × (length (now st) ≡ 2048) × (m .top < 2048) × (m .at < 2048) ⌝ }
     ensures { λ _. ⌜ (length (now (out .exit)) ≡ 2048) × (length (now (st .exit)) ≡ 2048) ⌝ }
     ensures { λ r. ⌜ ((ks fs ss : List ℕ) → rakingIn (now (out .exit)) (now (st .exit)) ks fs ss r ≡ kept (decode t) (rakingIn (now (out .entry)) (now (st .entry)) ks fs ss m)) ⌝ }
@@ -26,7 +26,7 @@ fn keep(t: u16, out: &mut [u16; 2048], st: &mut [u16; 2048], m: RakingMarks) -> 
     let at = m.at;
     tree_tokens::put_token(t, out, at);
     st[top] = 65535;
-    RakingMarks {
+    RakingFills {
         top: top + 1,
         at: at + 1,
         next: m.next,
@@ -44,8 +44,8 @@ fn make(
     kinds: &mut [u16; 3072],
     firsts: &mut [u16; 3072],
     seconds: &mut [u16; 3072],
-    m: RakingMarks,
-) -> RakingMarks
+    m: RakingFills,
+) -> RakingFills
     requires { ⌜ Lengths (now out) (now st) (now kinds) (now firsts) (now seconds) ⌝ }
     requires { ⌜ RakingRoom m ⌝ }
     ensures { λ _. ⌜ Lengths (now (out .exit)) (now (st .exit)) (now (kinds .exit)) (now (firsts .exit)) (now (seconds .exit)) ⌝ }
@@ -55,7 +55,7 @@ fn make(
 {
     let next = m.next;
     tree_tokens::put_record(kind, first, second, kinds, firsts, seconds, next);
-    let more = RakingMarks {
+    let more = RakingFills {
         top: m.top,
         at: m.at,
         next: next + 1,
@@ -71,8 +71,8 @@ fn rake_one(
     kinds: &mut [u16; 3072],
     firsts: &mut [u16; 3072],
     seconds: &mut [u16; 3072],
-    m: RakingMarks,
-) -> RakingMarks
+    m: RakingFills,
+) -> RakingFills
     requires { ⌜ Lengths (now out) (now st) (now kinds) (now firsts) (now seconds) ⌝ }
     requires { ⌜ RakingRoom m ⌝ }
     requires { ⌜ (4096 ≤ t) × (t < 0xFFF0) ⌝ }
@@ -84,7 +84,7 @@ fn rake_one(
     if top < 1 {
         return m;
     }
-    let low = RakingMarks {
+    let low = RakingFills {
         top: top - 1,
         at: m.at,
         next: m.next,
@@ -107,8 +107,8 @@ fn rake_two(
     kinds: &mut [u16; 3072],
     firsts: &mut [u16; 3072],
     seconds: &mut [u16; 3072],
-    m: RakingMarks,
-) -> RakingMarks
+    m: RakingFills,
+) -> RakingFills
     requires { ⌜ Lengths (now out) (now st) (now kinds) (now firsts) (now seconds) ⌝ }
     requires { ⌜ RakingRoom m ⌝ }
     requires { ⌜ 0xFFF0 ≤ t ⌝ }
@@ -120,7 +120,7 @@ fn rake_two(
     if top < 2 {
         return m;
     }
-    let low = RakingMarks {
+    let low = RakingFills {
         top: top - 2,
         at: m.at,
         next: m.next,
@@ -153,8 +153,8 @@ fn rake_token(
     kinds: &mut [u16; 3072],
     firsts: &mut [u16; 3072],
     seconds: &mut [u16; 3072],
-    m: RakingMarks,
-) -> RakingMarks
+    m: RakingFills,
+) -> RakingFills
     requires { ⌜ Lengths (now out) (now st) (now kinds) (now firsts) (now seconds) ⌝ }
     requires { ⌜ RakingRoom m ⌝ }
     ensures { λ _. ⌜ Lengths (now (out .exit)) (now (st .exit)) (now (kinds .exit)) (now (firsts .exit)) (now (seconds .exit)) ⌝ }
@@ -164,7 +164,7 @@ fn rake_token(
     if t < 4096 {
         let top = m.top;
         st[top] = t;
-        return RakingMarks {
+        return RakingFills {
             top: top + 1,
             at: m.at,
             next: m.next,
@@ -195,7 +195,7 @@ pub fn rake(
     ensures { λ r. ⌜ RakedTo (now (tokens .entry)) n next (now (kinds .entry)) (now (firsts .entry)) (now (seconds .entry))
         (now (out .exit)) (now (kinds .exit)) (now (firsts .exit)) (now (seconds .exit)) r ⌝ }
 {
-    let mut m = RakingMarks {
+    let mut m = RakingFills {
         top: 0,
         at: 0,
         next,

@@ -25,7 +25,7 @@ flat (one d c) = flat c ++ (single d ∷ [])
 flat (two o l r) = flat l ++ (flat r ++ (double (index o) ∷ []))
 
 -- A token as a number of 16 bits: a leaf is its dwarf root, a one-child node its dwarf root above this, an operation its code.
-abbrev pub firstSingle : ℕ
+abbrev firstSingle : ℕ
 firstSingle = 4096
 
 abbrev pub decode : ℕ → Token

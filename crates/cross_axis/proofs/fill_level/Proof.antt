@@ -19,20 +19,20 @@ loop-holds c = (omega arith, filling-starts _)
 add-k : tie.Need-add-k Inv-loop μ-loop
 add-k c = search needs
 
-mul-marks-level : tie.Need-mul-marks-level Inv-loop μ-loop
-mul-marks-level c = search needs
+mul-ranks-level : tie.Need-mul-ranks-level Inv-loop μ-loop
+mul-ranks-level c = search needs
 
-element-copy-out-marks-level : tie.Need-element-copy-out-marks-level Inv-loop μ-loop
-element-copy-out-marks-level c = search needs
+element-copy-out-ranks-level : tie.Need-element-copy-out-ranks-level Inv-loop μ-loop
+element-copy-out-ranks-level c = search needs
 
-mul-marks-level-2 : tie.Need-mul-marks-level-2 Inv-loop μ-loop
-mul-marks-level-2 c = search needs
+mul-ranks-level-2 : tie.Need-mul-ranks-level-2 Inv-loop μ-loop
+mul-ranks-level-2 c = search needs
 
-element-copy-out-marks-level-2 : tie.Need-element-copy-out-marks-level-2 Inv-loop μ-loop
-element-copy-out-marks-level-2 c = search needs
+element-copy-out-ranks-level-2 : tie.Need-element-copy-out-ranks-level-2 Inv-loop μ-loop
+element-copy-out-ranks-level-2 c = search needs
 
-marks-level-requires : tie.Need-marks-level-requires Inv-loop μ-loop
-marks-level-requires c κs = search needs
+ranks-level-requires : tie.Need-ranks-level-requires Inv-loop μ-loop
+ranks-level-requires c κs = search needs
 
 mul-lessers : tie.Need-mul-lessers Inv-loop μ-loop
 mul-lessers c = search needs
@@ -66,11 +66,11 @@ fill-level-spec =
     μ-loop
     loop-holds
     add-k
-    mul-marks-level
-    element-copy-out-marks-level
-    mul-marks-level-2
-    element-copy-out-marks-level-2
-    marks-level-requires
+    mul-ranks-level
+    element-copy-out-ranks-level
+    mul-ranks-level-2
+    element-copy-out-ranks-level-2
+    ranks-level-requires
     mul-lessers
     element-write-lessers
     mul-greaters

@@ -2,7 +2,7 @@
 use Prim.Native.Nat.{_+_, _-_, _≤_}
 use native.Mathlib.Omega.{arith}
 use Rattle.cross_axis.specs.Axes.{Filled}
-use Rattle.cross_axis.proofs.AxisLaws.{filling-starts, filling-on, filling-ends}
+use Rattle.cross_axis.proofs.AxisLaws.{low-number, high-number, filling-starts, filling-on, filling-ends}
 use borrow.Author.Needs.{needs}
 use Rattle.cross_axis.proofs.fill_slant.Statement.{statement}
 use Rattle.cross_axis.proofs.fill_slant.Tie as tie
@@ -19,20 +19,20 @@ loop-holds c = (omega arith, filling-starts _)
 add-k : tie.Need-add-k Inv-loop μ-loop
 add-k c = search needs
 
-mul-marks-slant : tie.Need-mul-marks-slant Inv-loop μ-loop
-mul-marks-slant c = search needs
+mul-ranks-slant : tie.Need-mul-ranks-slant Inv-loop μ-loop
+mul-ranks-slant c = search needs
 
-element-copy-out-marks-slant : tie.Need-element-copy-out-marks-slant Inv-loop μ-loop
-element-copy-out-marks-slant c = search needs
+element-copy-out-ranks-slant : tie.Need-element-copy-out-ranks-slant Inv-loop μ-loop
+element-copy-out-ranks-slant c = search needs
 
-mul-marks-slant-2 : tie.Need-mul-marks-slant-2 Inv-loop μ-loop
-mul-marks-slant-2 c = search needs
+mul-ranks-slant-2 : tie.Need-mul-ranks-slant-2 Inv-loop μ-loop
+mul-ranks-slant-2 c = search needs
 
-element-copy-out-marks-slant-2 : tie.Need-element-copy-out-marks-slant-2 Inv-loop μ-loop
-element-copy-out-marks-slant-2 c = search needs
+element-copy-out-ranks-slant-2 : tie.Need-element-copy-out-ranks-slant-2 Inv-loop μ-loop
+element-copy-out-ranks-slant-2 c = search needs
 
-marks-slant-requires : tie.Need-marks-slant-requires Inv-loop μ-loop
-marks-slant-requires c κs = search needs
+ranks-slant-requires : tie.Need-ranks-slant-requires Inv-loop μ-loop
+ranks-slant-requires c κs = search (low-number, high-number, needs)
 
 mul-lessers : tie.Need-mul-lessers Inv-loop μ-loop
 mul-lessers c = search needs
@@ -66,11 +66,11 @@ fill-slant-spec =
     μ-loop
     loop-holds
     add-k
-    mul-marks-slant
-    element-copy-out-marks-slant
-    mul-marks-slant-2
-    element-copy-out-marks-slant-2
-    marks-slant-requires
+    mul-ranks-slant
+    element-copy-out-ranks-slant
+    mul-ranks-slant-2
+    element-copy-out-ranks-slant-2
+    ranks-slant-requires
     mul-lessers
     element-write-lessers
     mul-greaters

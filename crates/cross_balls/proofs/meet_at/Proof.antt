@@ -13,26 +13,26 @@ add-if1 c = search needs
 returns : tie.Need-returns
 returns c = search (at-begun, needs)
 
-mark-at-requires : tie.Need-mark-at-requires
-mark-at-requires c κs = search needs
+rank-at-requires : tie.Need-rank-at-requires
+rank-at-requires c κs = search needs
 
-add-mark-at : tie.Need-add-mark-at
-add-mark-at c = search needs
+add-rank-at : tie.Need-add-rank-at
+add-rank-at c = search needs
 
-mark-at-requires-2 : tie.Need-mark-at-requires-2
-mark-at-requires-2 c κs = search needs
+rank-at-requires-2 : tie.Need-rank-at-requires-2
+rank-at-requires-2 c κs = search needs
 
-add-mark-at-2 : tie.Need-add-mark-at-2
-add-mark-at-2 c = search needs
+add-rank-at-2 : tie.Need-add-rank-at-2
+add-rank-at-2 c = search needs
 
-mark-at-requires-3 : tie.Need-mark-at-requires-3
-mark-at-requires-3 c κs = search needs
+rank-at-requires-3 : tie.Need-rank-at-requires-3
+rank-at-requires-3 c κs = search needs
 
-add-mark-at-3 : tie.Need-add-mark-at-3
-add-mark-at-3 c = search needs
+add-rank-at-3 : tie.Need-add-rank-at-3
+add-rank-at-3 c = search needs
 
-mark-at-requires-4 : tie.Need-mark-at-requires-4
-mark-at-requires-4 c κs = search needs
+rank-at-requires-4 : tie.Need-rank-at-requires-4
+rank-at-requires-4 c κs = search needs
 
 meet-ball-requires : tie.Need-meet-ball-requires
 meet-ball-requires c κs = search needs
@@ -47,12 +47,12 @@ meet-at-spec =
     mul-k
     add-if1
     returns
-    mark-at-requires
-    add-mark-at
-    mark-at-requires-2
-    add-mark-at-2
-    mark-at-requires-3
-    add-mark-at-3
-    mark-at-requires-4
+    rank-at-requires
+    add-rank-at
+    rank-at-requires-2
+    add-rank-at-2
+    rank-at-requires-3
+    add-rank-at-3
+    rank-at-requires-4
     meet-ball-requires
     returns-2)

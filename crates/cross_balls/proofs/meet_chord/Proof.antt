@@ -28,17 +28,17 @@ returns-2 c = search (chord-none, needs)
 long-word-requires : tie.Need-long-word-requires
 long-word-requires c κs = search needs
 
-sub-mark-in : tie.Need-sub-mark-in
-sub-mark-in c = search first-fits
+sub-rank-in : tie.Need-sub-rank-in
+sub-rank-in c = search first-fits
 
-mark-in-requires : tie.Need-mark-in-requires
-mark-in-requires c κs = search needs
+rank-in-requires : tie.Need-rank-in-requires
+rank-in-requires c κs = search needs
 
-add-mark-in : tie.Need-add-mark-in
-add-mark-in c = search last-long
+add-rank-in : tie.Need-add-rank-in
+add-rank-in c = search last-long
 
-mark-in-requires-2 : tie.Need-mark-in-requires-2
-mark-in-requires-2 c κs = search last-fits
+rank-in-requires-2 : tie.Need-rank-in-requires-2
+rank-in-requires-2 c κs = search last-fits
 
 returns-3 : tie.Need-returns-3
 returns-3 c = search (chord-two, needs)
@@ -55,8 +55,8 @@ meet-chord-spec =
     root-requires
     returns-2
     long-word-requires
-    sub-mark-in
-    mark-in-requires
-    add-mark-in
-    mark-in-requires-2
+    sub-rank-in
+    rank-in-requires
+    add-rank-in
+    rank-in-requires-2
     returns-3)

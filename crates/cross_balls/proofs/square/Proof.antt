@@ -1,4 +1,4 @@
--- `cross_balls::square` meets its contract: below the middle the number is the middle less the mark, else the mark less the middle.
+-- `cross_balls::square` meets its contract: below the middle the number is the middle less the rank, else the rank less the middle.
 use Rattle.cross_balls.proofs.BallLaws.{square-fits, square-low, square-high}
 use native.Mathlib.Omega.{arith}
 use borrow.Author.Needs.{needs}

@@ -3,16 +3,16 @@ use Prim.Native.Nat.{_≤_, _-_}
 use lib.ListN.{length}
 use native.Mathlib.Omega.{arith}
 use Rattle.cross_columns.specs.Columns.{Columns}
-use Rattle.cross_columns.proofs.ColumnLaws.{empty, turn, ended}
+use Rattle.cross_columns.proofs.ColumnLaws.{empty, column-more, ended}
 use borrow.Author.Needs.{needs}
 use Rattle.cross_columns.proofs.fill_columns.Statement.{statement}
 use Rattle.cross_columns.proofs.fill_columns.Tie as tie
 
 abbrev Inv-loop : tie.InvT-loop
-Inv-loop kinds numbers lows₀ highs₀ halves₀ all₀ entry₀ i₀ lows highs halves all entry i = (i ≤ length kinds) × ((length kinds ≤ 256) × Columns kinds numbers i lows highs halves all)
+Inv-loop kinds numbers lows₀ highs₀ halves₀ i₀ lows highs halves i = (i ≤ length kinds) × ((length kinds ≤ 256) × Columns kinds numbers i lows highs halves)
 
 abbrev μ-loop : tie.MeasureT-loop
-μ-loop kinds numbers lows₀ highs₀ halves₀ all₀ entry₀ i₀ lows highs halves all entry i = length kinds - i
+μ-loop kinds numbers lows₀ highs₀ halves₀ i₀ lows highs halves i = length kinds - i
 
 loop-holds : tie.Need-loop-holds Inv-loop μ-loop
 loop-holds c = (omega arith, (omega arith, search (empty, needs)))
@@ -42,7 +42,14 @@ loop-less : tie.Need-loop-less Inv-loop μ-loop
 loop-less c = search needs
 
 loop-again : tie.Need-loop-again Inv-loop μ-loop
-loop-again c = let s = c .before .before .before .before .before in (omega arith, (omega arith, turn _ _ _ _ _ _ _ _ (s .before .before .before .loop .inv .1 .1) (omega arith) (s .before .shape-at .ensures) (s .entry-of .ensures) _ _ (c .before .before .before .put .ensures) (c .before .put2 .ensures)))
+loop-again c =
+    let second : tie.After-put2 Inv-loop μ-loop = search in
+    let one : tie.After-put Inv-loop μ-loop = search in
+    let entry : tie.After-entry-of Inv-loop μ-loop = search in
+    let shape : tie.After-shape-at Inv-loop μ-loop = search in
+    let l : tie.In-loop Inv-loop μ-loop = search in
+    let at : tie.At-loop Inv-loop μ-loop = search in
+    (omega arith, (omega arith, column-more _ _ _ _ _ _ _ _ (at .loop .inv .1 .1) (omega arith) (shape .shape-at .ensures) (entry .entry-of .ensures) _ _ (one .put .ensures) (second .put2 .ensures)))
 
 returns : tie.Need-returns Inv-loop μ-loop
 returns c = search (ended, needs)

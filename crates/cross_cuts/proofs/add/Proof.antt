@@ -1,5 +1,5 @@
 -- `cross_cuts::add` meets its contract: case by case of what is met.
-use Rattle.cross_cuts.proofs.GatherLaws.{second-room, adds-never, adds-once, adds-twice}
+use Rattle.cross_cuts.proofs.GatherLaws.{second-room, adds-never, adds-once, adds-twice, same-starts, one-start}
 use borrow.Author.Needs.{needs}
 use Rattle.cross_cuts.proofs.add.Statement.{statement}
 use Rattle.cross_cuts.proofs.add.Tie as tie
@@ -68,13 +68,13 @@ add-t21 : tie.Need-add-t21
 add-t21 c = search needs
 
 returns : tie.Need-returns
-returns c = search needs
+returns c = (search needs, same-starts)
 
 same-length : tie.Need-same-length
 same-length c = search needs
 
 returns-2 : tie.Need-returns-2
-returns-2 c = search (adds-never, needs)
+returns-2 c = (search (adds-never, needs), one-start _ _)
 
 same-length-2 : tie.Need-same-length-2
 same-length-2 c = search needs
@@ -83,7 +83,7 @@ same-length-3 : tie.Need-same-length-3
 same-length-3 c = search needs
 
 returns-3 : tie.Need-returns-3
-returns-3 c = search (adds-once, needs)
+returns-3 c = (search (adds-once, needs), one-start _ _)
 
 same-length-4 : tie.Need-same-length-4
 same-length-4 c = search needs
@@ -92,7 +92,7 @@ same-length-5 : tie.Need-same-length-5
 same-length-5 c = search needs
 
 returns-4 : tie.Need-returns-4
-returns-4 c = search (adds-twice, needs)
+returns-4 c = (search (adds-twice, needs), one-start _ _)
 
 pub add-spec : {M : Type 1} → statement M
 add-spec =

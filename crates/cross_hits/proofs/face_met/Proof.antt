@@ -1,6 +1,5 @@
 -- `cross_hits::face_met` meets its contract: the face is level, or its position may be given, or it may not.
-use Rattle.cross_hits.proofs.HitLaws.{face-level, face-once, face-nowhere}
-use Rattle.cross_quick.proofs.GivenLaws.{kept-given}
+use Rattle.cross_hits.proofs.HitLaws.{face-level, face-once, face-number, face-nowhere}
 use borrow.Author.Needs.{needs}
 use Rattle.cross_hits.proofs.face_met.Statement.{statement}
 use Rattle.cross_hits.proofs.face_met.Tie as tie
@@ -17,8 +16,8 @@ distance-to-requires c κs = search needs
 within-requires : tie.Need-within-requires
 within-requires c κs = search needs
 
-mark-of-nearest-requires : tie.Need-mark-of-nearest-requires
-mark-of-nearest-requires c κs = search (kept-given, needs)
+rank-of-nearest-requires : tie.Need-rank-of-nearest-requires
+rank-of-nearest-requires c κs = search (face-number, needs)
 
 returns-2 : tie.Need-returns-2
 returns-2 c = search (face-once, needs)
@@ -27,4 +26,4 @@ returns-3 : tie.Need-returns-3
 returns-3 c = search (face-nowhere, needs)
 
 pub face-met-spec : {M : Type 1} → statement M
-face-met-spec = tie.close (tie.spec is-zero-requires returns distance-to-requires within-requires mark-of-nearest-requires returns-2 returns-3)
+face-met-spec = tie.close (tie.spec is-zero-requires returns distance-to-requires within-requires rank-of-nearest-requires returns-2 returns-3)

@@ -17,25 +17,28 @@ left-requires : tie.Need-left-requires
 left-requires c κs = search needs
 
 returns : tie.Need-returns
-returns c = search (met-twice, needs)
+returns c = λ cuts at. search (met-twice, needs)
 
 returns-2 : tie.Need-returns-2
-returns-2 c = search (met-never, needs)
+returns-2 c = λ cuts at. search (met-never, needs)
 
-shared-slice-read-half-met : tie.Need-shared-slice-read-half-met
-shared-slice-read-half-met c = search needs
+mul-half-met : tie.Need-mul-half-met
+mul-half-met c = search needs
 
-mul-number-at : tie.Need-mul-number-at
-mul-number-at c = search needs
+element-copy-out-half-met : tie.Need-element-copy-out-half-met
+element-copy-out-half-met c = search needs
 
-number-at-requires : tie.Need-number-at-requires
-number-at-requires c κs = search needs
+mul-half-met-2 : tie.Need-mul-half-met-2
+mul-half-met-2 c = search needs
+
+element-copy-out-half-met-2 : tie.Need-element-copy-out-half-met-2
+element-copy-out-half-met-2 c = search needs
 
 half-met-requires : tie.Need-half-met-requires
 half-met-requires c κs = search needs
 
 returns-3 : tie.Need-returns-3
-returns-3 c = search (met-half, needs)
+returns-3 c = λ cuts at. search (met-half, needs)
 
 pub met-at-spec : {M : Type 1} → statement M
 met-at-spec =
@@ -47,8 +50,9 @@ met-at-spec =
     left-requires
     returns
     returns-2
-    shared-slice-read-half-met
-    mul-number-at
-    number-at-requires
+    mul-half-met
+    element-copy-out-half-met
+    mul-half-met-2
+    element-copy-out-half-met-2
     half-met-requires
     returns-3)

@@ -1,5 +1,5 @@
 -- `cross_kept::counted` meets its contract: of a row that is at fault nothing is said.
-use Rattle.cross_kept.proofs.CrossesLaws.{fault-counted, count-counted}
+use Rattle.cross_kept.proofs.LineLaws.{fault-counted, count-counted}
 use borrow.Author.Needs.{needs}
 use Rattle.cross_kept.proofs.counted.Statement.{statement}
 use Rattle.cross_kept.proofs.counted.Tie as tie

@@ -1,6 +1,6 @@
 -- `cross_kept::first_of` meets its contract: by which axis stands alone.
-use Rattle.cross_kept.proofs.KeepLaws.{first-is, first-else}
 use borrow.Author.Needs.{needs}
+use Rattle.cross_kept.proofs.KeepLaws.{first-is, first-else}
 use Rattle.cross_kept.proofs.first_of.Statement.{statement}
 use Rattle.cross_kept.proofs.first_of.Tie as tie
 

@@ -1,7 +1,7 @@
 -- `cross_kept::pair` meets its contract: the first i shapes are put together.
+use borrow.Author.Needs.{needs}
 use Prim.Native.Nat.{_-_}
 use Rattle.cross_kept.proofs.KeepLaws.{Pairing, pairing-starts, pairing-on, pairing-ends}
-use borrow.Author.Needs.{needs}
 use Rattle.cross_kept.proofs.pair.Statement.{statement}
 use Rattle.cross_kept.proofs.pair.Tie as tie
 

@@ -1,6 +1,6 @@
 -- `cross_kept::second_of` meets its contract: by which axis stands alone.
-use Rattle.cross_kept.proofs.KeepLaws.{second-is, second-else}
 use borrow.Author.Needs.{needs}
+use Rattle.cross_kept.proofs.KeepLaws.{second-is, second-else}
 use Rattle.cross_kept.proofs.second_of.Statement.{statement}
 use Rattle.cross_kept.proofs.second_of.Tie as tie
 

@@ -1,5 +1,5 @@
 -- `cross_many::cross` meets its contract: the questions in order, and then the lines.
-use Rattle.cross_many.proofs.ManyLaws.{counted-lines, none-wrong, too-many-shapes, too-many-lines, wrong-line}
+use Rattle.cross_many.proofs.ManyLaws.{none-wrong, too-many-shapes, too-many-lines, wrong-line}
 use borrow.Author.Needs.{needs}
 use Rattle.cross_many.proofs.cross.Statement.{statement}
 use Rattle.cross_many.proofs.cross.Tie as tie
@@ -17,10 +17,10 @@ refused-requires-2 : tie.Need-refused-requires-2
 refused-requires-2 c κs = search needs
 
 returns-2 : tie.Need-returns-2
-returns-2 c = search (too-many-lines, counted-lines, needs)
+returns-2 c = search (too-many-lines, needs)
 
 judge-lines-requires : tie.Need-judge-lines-requires
-judge-lines-requires c κs = search (counted-lines, needs)
+judge-lines-requires c κs = search (needs)
 
 enum-known-place : tie.Need-enum-known-place
 enum-known-place c = search needs
@@ -29,13 +29,13 @@ refused-requires-3 : tie.Need-refused-requires-3
 refused-requires-3 c κs = search needs
 
 returns-3 : tie.Need-returns-3
-returns-3 c = search (wrong-line, counted-lines, needs)
+returns-3 c = search (wrong-line, needs)
 
 enum-told : tie.Need-enum-told
 enum-told c = search needs
 
 give-lines-requires : tie.Need-give-lines-requires
-give-lines-requires c κs = ((search needs, search (counted-lines, needs), search needs), search (none-wrong, needs))
+give-lines-requires c κs = ((search needs, search (needs), search needs), search (none-wrong, needs))
 
 same-length : tie.Need-same-length
 same-length c = search needs

@@ -1,16 +1,16 @@
--- `cross_pass::write_lines` meets its contract: the columns are those of the drawing, or none are filled.
+-- `cross_pass::write_lines` meets its contract: the columns are those of the drawing.
 use borrow.Author.Needs.{needs}
 use Rattle.cross_pass.proofs.write_lines.Statement.{statement}
 use Rattle.cross_pass.proofs.write_lines.Tie as tie
 
-columns-of-requires : tie.Need-columns-of-requires
-columns-of-requires c κs = search needs
+fill-columns-requires : tie.Need-fill-columns-requires
+fill-columns-requires c κs = search needs
 
 write-over-requires : tie.Need-write-over-requires
 write-over-requires c κs =
-    let f : tie.After-columns-of = search in
+    let f : tie.After-fill-columns = search in
     let s : tie.Start = search in
-    (s .pre .0, (s .pre .1 .0, (s .pre .1 .1, f .columns-of .ensures)))
+    (s .pre .0, (s .pre .1 .0, (s .pre .1 .1, f .fill-columns .ensures)))
 
 same-length : tie.Need-same-length
 same-length c = search needs
@@ -31,7 +31,7 @@ pub write-lines-spec : {M : Type 1} → statement M
 write-lines-spec =
     tie.close
     (tie.spec
-    columns-of-requires
+    fill-columns-requires
     write-over-requires
     same-length
     same-length-2

@@ -1,4 +1,4 @@
--- `cross_shapes::between_both` meets its contract: the lesser and the greater of two marks are those of their positions.
+-- `cross_shapes::between_both` meets its contract: the lesser and the greater of two ranks are those of their positions.
 use Rattle.cross_shapes.proofs.BoxLaws.{between-exit}
 use borrow.Author.Needs.{needs}
 use Rattle.cross_shapes.proofs.between_both.Statement.{statement}

@@ -10,8 +10,8 @@ operates-requires c κs = search needs
 is-operation-requires : tie.Need-is-operation-requires
 is-operation-requires c κs = search needs
 
-in-turn-requires : tie.Need-in-turn-requires
-in-turn-requires c κs = search needs
+in-time-requires : tie.Need-in-time-requires
+in-time-requires c κs = search needs
 
 returns : tie.Need-returns
 returns c = search by-moment
@@ -25,4 +25,4 @@ returns-3 c = search no-node
 pub fits-spec : {M : Type 1} → statement M
 fits-spec =
     tie.close
-    (tie.spec operates-requires is-operation-requires in-turn-requires returns returns-2 returns-3)
+    (tie.spec operates-requires is-operation-requires in-time-requires returns returns-2 returns-3)

@@ -1,12 +1,12 @@
--- `edit_run::run_edited` meets its contract: places and tables are filled, and the loop keeps: of j turns k were edits.
+-- `edit_run::run_edited` meets its contract: places and tables are filled, and the loop keeps: of j acts k were edits.
 use Prim.Native.Nat.{_-_}
 use borrow.Author.Needs.{needs}
-use Rattle.edit_run.proofs.RunLaws.{Turning, room-formula, room-few, room-built, room-tree, turning-start, turn-left, turning-on, turning-room, turning-list, edited-runs}
+use Rattle.edit_run.proofs.RunLaws.{Running, room-formula, room-few, room-built, room-tree, running-start, act-left, running-on, running-room, running-list, edited-runs}
 use Rattle.edit_run.proofs.run_edited.Statement.{statement}
 use Rattle.edit_run.proofs.run_edited.Tie as tie
 
 abbrev Inv-loop : tie.InvT-loop
-Inv-loop formula n kinds₀ firsts seconds size toggles moments positions codes roots₀ counts₀ labels edit-counts₀ places rules current₀ links all j₀ k₀ kinds roots counts edit-counts current j k = Turning formula n kinds₀ firsts seconds size toggles moments positions codes roots₀ counts₀ labels edit-counts₀ places rules current₀ links all j k kinds current roots counts edit-counts
+Inv-loop formula n kinds₀ firsts seconds size toggles moments positions codes roots₀ counts₀ labels edit-counts₀ places rules current₀ links all j₀ k₀ kinds roots counts edit-counts current j k = Running formula n kinds₀ firsts seconds size toggles moments positions codes roots₀ counts₀ labels edit-counts₀ places rules current₀ links all j k kinds current roots counts edit-counts
 
 abbrev μ-loop : tie.MeasureT-loop
 μ-loop formula n kinds₀ firsts seconds size toggles moments positions codes roots₀ counts₀ labels edit-counts₀ places rules current₀ links all j₀ k₀ kinds roots counts edit-counts current j k = all - j
@@ -20,14 +20,14 @@ fill-rules-requires c κs = search needs
 fill-tables-requires : tie.Need-fill-tables-requires Inv-loop μ-loop
 fill-tables-requires c κs = (search needs, search room-tree)
 
-turns-requires : tie.Need-turns-requires Inv-loop μ-loop
-turns-requires c κs = search needs
+acts-requires : tie.Need-acts-requires Inv-loop μ-loop
+acts-requires c κs = search needs
 
 loop-holds : tie.Need-loop-holds Inv-loop μ-loop
-loop-holds c = search turning-start
+loop-holds c = search running-start
 
-turn-requires : tie.Need-turn-requires Inv-loop μ-loop
-turn-requires c κs = (search needs, search turn-left)
+act-requires : tie.Need-act-requires Inv-loop μ-loop
+act-requires c κs = (search needs, search act-left)
 
 add-j : tie.Need-add-j Inv-loop μ-loop
 add-j c = search needs
@@ -36,10 +36,10 @@ loop-less : tie.Need-loop-less Inv-loop μ-loop
 loop-less c = search needs
 
 loop-again : tie.Need-loop-again Inv-loop μ-loop
-loop-again c = search (turning-on, needs)
+loop-again c = search (running-on, needs)
 
 copy-labels-requires : tie.Need-copy-labels-requires Inv-loop μ-loop
-copy-labels-requires c κs = (search turning-room, search turning-list)
+copy-labels-requires c κs = (search running-room, search running-list)
 
 same-length : tie.Need-same-length Inv-loop μ-loop
 same-length c = search needs
@@ -65,9 +65,9 @@ run-edited-spec =
     fill-places-requires
     fill-rules-requires
     fill-tables-requires
-    turns-requires
+    acts-requires
     loop-holds
-    turn-requires
+    act-requires
     add-j
     loop-less
     loop-again

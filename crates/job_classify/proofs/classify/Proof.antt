@@ -1,5 +1,5 @@
 -- `job_classify::classify` meets its promise: a refused sheet ends it, and an accepted one's lines are classified.
-use Rattle.job_classify.proofs.ClassifyLaws.{sheet-refused, sheet-unfit, few-codes, lines-walls, lines-refused}
+use Rattle.job_classify.proofs.ClassifyLaws.{sheet-refused, sheet-unfit, codes-within, codes-counted, few-codes, lines-walls, lines-refused}
 use borrow.Author.Needs.{needs}
 use Rattle.job_classify.proofs.classify.Statement.{statement}
 use Rattle.job_classify.proofs.classify.Tie as tie
@@ -15,6 +15,12 @@ enum-known-number-2 c = search needs
 
 enum-known-names : tie.Need-enum-known-names
 enum-known-names c = search needs
+
+array-share-prefix-codes : tie.Need-array-share-prefix-codes
+array-share-prefix-codes c = search (codes-within, needs)
+
+slice-aggregate-classify : tie.Need-slice-aggregate-classify
+slice-aggregate-classify c = search (codes-counted, needs)
 
 classify-requires : tie.Need-classify-requires
 classify-requires c κs = search (few-codes, needs)
@@ -75,6 +81,8 @@ classify-spec =
     enum-known-number
     enum-known-number-2
     enum-known-names
+    array-share-prefix-codes
+    slice-aggregate-classify
     classify-requires
     enum-known-walls
     enum-known-number-3

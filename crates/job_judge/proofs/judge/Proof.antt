@@ -1,5 +1,5 @@
 -- `job_judge::judge` meets its promise: a refused sheet ends it, and with an accepted one their list is judged.
-use Rattle.job_classify.proofs.ClassifyLaws.{few-codes}
+use Rattle.job_classify.proofs.ClassifyLaws.{codes-within, codes-counted, few-codes}
 use Rattle.job_judge.proofs.JudgeLaws.{sheet-refused, sheet-unfit, their-right, their-wrong, their-refused}
 use borrow.Author.Needs.{needs}
 use Rattle.job_judge.proofs.judge.Statement.{statement}
@@ -16,6 +16,12 @@ enum-known-number-2 c = search needs
 
 enum-known-names : tie.Need-enum-known-names
 enum-known-names c = search needs
+
+array-share-prefix-codes : tie.Need-array-share-prefix-codes
+array-share-prefix-codes c = search (codes-within, needs)
+
+slice-aggregate-judge : tie.Need-slice-aggregate-judge
+slice-aggregate-judge c = search (codes-counted, needs)
 
 judge-requires : tie.Need-judge-requires
 judge-requires c κs = search (few-codes, needs)
@@ -52,6 +58,8 @@ judge-spec =
     enum-known-number
     enum-known-number-2
     enum-known-names
+    array-share-prefix-codes
+    slice-aggregate-judge
     judge-requires
     enum-told
     enum-known-index

@@ -1,27 +1,27 @@
--- `job_move::first_exclusive` meets its contract. The invariant: what is found among the first i codes decides, or what is left.
-use Prim.Native.Nat.{_-_, _≤_}
+-- `job_move::first_exclusive` meets its contract. What is left decides.
+use Prim.Native.Nat.{_-_}
+use Rattle.job_move.proofs.Exclusive.{Looked, looked-none, looked-here, looked-more, looked-all}
 use borrow.Author.Needs.{needs}
-use Rattle.job_move.proofs.Exclusive.{Looked, looked-none, looked-more, looked-all}
 use Rattle.job_move.proofs.first_exclusive.Statement.{statement}
 use Rattle.job_move.proofs.first_exclusive.Tie as tie
 
 abbrev Inv-loop : tie.InvT-loop
-Inv-loop codes n found₀ i₀ found i = Looked codes n found i × (i ≤ n)
+Inv-loop formula n i₀ i = Looked formula i
 
 abbrev μ-loop : tie.MeasureT-loop
-μ-loop codes n found₀ i₀ found i = n - i
+μ-loop formula n i₀ i = n - i
 
 loop-holds : tie.Need-loop-holds Inv-loop μ-loop
-loop-holds c = (search looked-none, search needs)
+loop-holds c = search looked-none
 
-mul-first-one : tie.Need-mul-first-one Inv-loop μ-loop
-mul-first-one c = search needs
+mul-two : tie.Need-mul-two Inv-loop μ-loop
+mul-two c = search needs
 
-element-copy-out-first-one : tie.Need-element-copy-out-first-one Inv-loop μ-loop
-element-copy-out-first-one c = search needs
+two-requires : tie.Need-two-requires Inv-loop μ-loop
+two-requires c κs = search needs
 
-first-one-requires : tie.Need-first-one-requires Inv-loop μ-loop
-first-one-requires c κs = search needs
+returns : tie.Need-returns Inv-loop μ-loop
+returns c = search looked-here
 
 add-i : tie.Need-add-i Inv-loop μ-loop
 add-i c = search needs
@@ -30,10 +30,10 @@ loop-less : tie.Need-loop-less Inv-loop μ-loop
 loop-less c = search needs
 
 loop-again : tie.Need-loop-again Inv-loop μ-loop
-loop-again c = (search looked-more, search needs)
+loop-again c = search looked-more
 
-returns : tie.Need-returns Inv-loop μ-loop
-returns c = search looked-all
+returns-2 : tie.Need-returns-2 Inv-loop μ-loop
+returns-2 c = search looked-all
 
 pub first-exclusive-spec : {M : Type 1} → statement M
 first-exclusive-spec =
@@ -42,10 +42,10 @@ first-exclusive-spec =
     Inv-loop
     μ-loop
     loop-holds
-    mul-first-one
-    element-copy-out-first-one
-    first-one-requires
+    mul-two
+    two-requires
+    returns
     add-i
     loop-less
     loop-again
-    returns)
+    returns-2)

@@ -1,5 +1,5 @@
 -- `job_move::give_moved` meets its contract.
-use Rattle.job_move.proofs.Giving.{codes-enough, tag-there, moved-same, tag-room, puttable, all-moved}
+use Rattle.job_move.proofs.Giving.{codes-enough, tag-there, moved-same, tag-room, codes-fit, all-moved}
 use borrow.Author.Needs.{needs}
 use Rattle.job_move.proofs.give_moved.Statement.{statement}
 use Rattle.job_move.proofs.give_moved.Tie as tie
@@ -31,8 +31,8 @@ sub-moved-3 c = search tag-there
 slice-write-moved-2 : tie.Need-slice-write-moved-2
 slice-write-moved-2 c = search tag-room
 
-put-formula-requires : tie.Need-put-formula-requires
-put-formula-requires c κs = search puttable
+put-codes-requires : tie.Need-put-codes-requires
+put-codes-requires c κs = (search needs, search needs, search codes-fit)
 
 same-length : tie.Need-same-length
 same-length c = search moved-same
@@ -53,6 +53,6 @@ give-moved-spec =
     sub-moved-2
     sub-moved-3
     slice-write-moved-2
-    put-formula-requires
+    put-codes-requires
     same-length
     returns)

@@ -1,11 +1,12 @@
 -- `job_move::move_sheet` meets its contract: the sheets are refused, 0xFFF3 is out of use, the list is too short, or the moved sheet is given.
+use Rattle.accepting.proofs.PreparedLaws.{ordered, inside, headed, fit}
 use Rattle.job_move.proofs.MoveLaws.{move-refused, move-unfit, holding, move-used, move-short, movable, move-given}
 use borrow.Author.Needs.{needs}
 use Rattle.job_move.proofs.move_sheet.Statement.{statement}
 use Rattle.job_move.proofs.move_sheet.Tie as tie
 
-accept-requires : tie.Need-accept-requires
-accept-requires c κs = search needs
+read-sheets-requires : tie.Need-read-sheets-requires
+read-sheets-requires c κs = search needs
 
 enum-known-number : tie.Need-enum-known-number
 enum-known-number c = search needs
@@ -13,8 +14,23 @@ enum-known-number c = search needs
 enum-known-number-2 : tie.Need-enum-known-number-2
 enum-known-number-2 c = search needs
 
-enum-known-n : tie.Need-enum-known-n
-enum-known-n c = search needs
+enum-known-names : tie.Need-enum-known-names
+enum-known-names c = search needs
+
+shared-slice-read-other-codes : tie.Need-shared-slice-read-other-codes
+shared-slice-read-other-codes c = search headed
+
+sub-other-codes : tie.Need-sub-other-codes
+sub-other-codes c = search ordered
+
+part-other-codes-start : tie.Need-part-other-codes-start
+part-other-codes-start c = search ordered
+
+part-other-codes-end : tie.Need-part-other-codes-end
+part-other-codes-end c = search inside
+
+other-codes-requires : tie.Need-other-codes-requires
+other-codes-requires c κs = search (fit, needs)
 
 used-at-requires : tie.Need-used-at-requires
 used-at-requires c κs = search (holding, needs)
@@ -44,10 +60,15 @@ pub move-sheet-spec : {M : Type 1} → statement M
 move-sheet-spec =
     tie.close
     (tie.spec
-    accept-requires
+    read-sheets-requires
     enum-known-number
     enum-known-number-2
-    enum-known-n
+    enum-known-names
+    shared-slice-read-other-codes
+    sub-other-codes
+    part-other-codes-start
+    part-other-codes-end
+    other-codes-requires
     used-at-requires
     returns
     returns-2

@@ -29,8 +29,8 @@ wide-long-requires c κs = search needs
 returns : tie.Need-returns Inv-loop μ-loop
 returns c = search needs
 
-turns-away-requires : tie.Need-turns-away-requires Inv-loop μ-loop
-turns-away-requires c κs = search needs
+last-of-line-requires : tie.Need-last-of-line-requires Inv-loop μ-loop
+last-of-line-requires c κs = search needs
 
 crossing-column-requires : tie.Need-crossing-column-requires Inv-loop μ-loop
 crossing-column-requires c κs = search needs
@@ -56,7 +56,7 @@ cross-until-spec =
     shared-slice-read-wide-long
     wide-long-requires
     returns
-    turns-away-requires
+    last-of-line-requires
     crossing-column-requires
     loop-less
     loop-again

@@ -7,9 +7,6 @@ use Rattle.line_columns.proofs.crossing_column.Tie as tie
 sub-cols : tie.Need-sub-cols
 sub-cols c = search needs
 
-cast-cols : tie.Need-cast-cols
-cast-cols c = search needs
-
 mul-cols : tie.Need-mul-cols
 mul-cols c = search needs
 
@@ -22,8 +19,8 @@ put-last-requires c κs = search needs
 add-t9 : tie.Need-add-t9
 add-t9 c = search needs
 
-add-t11 : tie.Need-add-t11
-add-t11 c = search needs
+add-t10 : tie.Need-add-t10
+add-t10 c = search needs
 
 returns : tie.Need-returns
 returns c = search (crossing-put, needs)
@@ -33,10 +30,9 @@ crossing-column-spec =
     tie.close
     (tie.spec
     sub-cols
-    cast-cols
     mul-cols
     element-write-cols
     put-last-requires
     add-t9
-    add-t11
+    add-t10
     returns)

@@ -1,5 +1,5 @@
 -- Crossings alone, or column by column.
-use Rattle.line_columns.proofs.RunLaws.{run-made, run-said, not-said}
+use Rattle.line_columns.proofs.RunLaws.{run-made, run-said, run-numbered, not-said, not-numbered}
 use borrow.Author.Needs.{needs}
 use Rattle.line_columns.proofs.plan.Statement.{statement}
 use Rattle.line_columns.proofs.plan.Tie as tie
@@ -11,22 +11,22 @@ plan-each-requires : tie.Need-plan-each-requires
 plan-each-requires c κs = search needs
 
 returns : tie.Need-returns
-returns c = (search needs, search not-said)
+returns c = (search needs, search not-said, search not-numbered)
 
-number-requires : tie.Need-number-requires
-number-requires c κs = search needs
+number-once-requires : tie.Need-number-once-requires
+number-once-requires c κs = search needs
 
-mark-run-requires : tie.Need-mark-run-requires
-mark-run-requires c κs = search needs
+note-ends-requires : tie.Need-note-ends-requires
+note-ends-requires c κs = search needs
 
 cut-requires : tie.Need-cut-requires
 cut-requires c κs = search needs
 
-add-t22 : tie.Need-add-t22
-add-t22 c = search needs
+add-t21 : tie.Need-add-t21
+add-t21 c = search needs
 
 returns-2 : tie.Need-returns-2
-returns-2 c = (search (run-made, needs), search (run-said, needs))
+returns-2 c = (search (run-made, needs), search (run-said, needs), search (run-numbered, needs))
 
 pub plan-spec : {M : Type 1} → statement M
 plan-spec =
@@ -35,8 +35,8 @@ plan-spec =
     run-length-requires
     plan-each-requires
     returns
-    number-requires
-    mark-run-requires
+    number-once-requires
+    note-ends-requires
     cut-requires
-    add-t22
+    add-t21
     returns-2)

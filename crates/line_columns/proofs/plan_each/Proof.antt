@@ -7,10 +7,10 @@ use Rattle.line_columns.proofs.plan_each.Statement.{statement}
 use Rattle.line_columns.proofs.plan_each.Tie as tie
 
 abbrev Inv-loop : tie.InvT-loop
-Inv-loop cols₀ starts₀ lasts₀ rows names count line from f₀ cols starts lasts f = Words names rows line count (from .i) (from .q) (planned cols starts lasts) (f .c) (f .i) (f .q)
+Inv-loop cols₀ lasts₀ rows names count line from f₀ cols lasts f = Words names rows line count (from .i) (from .q) (planned cols lasts) (f .c) (f .i) (f .q)
 
 abbrev μ-loop : tie.MeasureT-loop
-μ-loop cols₀ starts₀ lasts₀ rows names count line from f₀ cols starts lasts f = columns - f .c
+μ-loop cols₀ lasts₀ rows names count line from f₀ cols lasts f = columns - f .c
 
 loop-holds : tie.Need-loop-holds Inv-loop μ-loop
 loop-holds c = search (words-none, needs)

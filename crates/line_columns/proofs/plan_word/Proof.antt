@@ -7,10 +7,10 @@ use Rattle.line_columns.proofs.plan_word.Statement.{statement}
 use Rattle.line_columns.proofs.plan_word.Tie as tie
 
 abbrev Inv-loop : tie.InvT-loop
-Inv-loop cols₀ starts₀ lasts₀ rows names count line from k end at₀ cols starts lasts at = WordPlanning names rows line count (from .i) (from .q) lasts (at₀ .next .c) cols starts (at .lasts) (at .next .c) (at .next .i) (at .next .q)
+Inv-loop cols₀ lasts₀ rows names count line from k end at₀ cols lasts at = WordPlanning names rows line count (from .i) (from .q) lasts (at₀ .next .c) cols (at .lasts) (at .next .c) (at .next .i) (at .next .q)
 
 abbrev μ-loop : tie.MeasureT-loop
-μ-loop cols₀ starts₀ lasts₀ rows names count line from k end at₀ cols starts lasts at = end - at .next .c
+μ-loop cols₀ lasts₀ rows names count line from k end at₀ cols lasts at = end - at .next .c
 
 add-end : tie.Need-add-end Inv-loop μ-loop
 add-end c = search needs

@@ -7,20 +7,14 @@ use Rattle.line_columns.proofs.start_column.Tie as tie
 is-over-requires : tie.Need-is-over-requires
 is-over-requires c κs = search needs
 
+add-cols : tie.Need-add-cols
+add-cols c = search needs
+
 mul-cols : tie.Need-mul-cols
 mul-cols c = search needs
 
 element-write-cols : tie.Need-element-write-cols
 element-write-cols c = search needs
-
-cast-starts : tie.Need-cast-starts
-cast-starts c = search needs
-
-mul-starts : tie.Need-mul-starts
-mul-starts c = search needs
-
-element-write-starts : tie.Need-element-write-starts
-element-write-starts c = search needs
 
 put-last-requires : tie.Need-put-last-requires
 put-last-requires c κs = search needs
@@ -42,11 +36,9 @@ start-column-spec =
     tie.close
     (tie.spec
     is-over-requires
+    add-cols
     mul-cols
     element-write-cols
-    cast-starts
-    mul-starts
-    element-write-starts
     put-last-requires
     add-next-inside
     next-inside-requires

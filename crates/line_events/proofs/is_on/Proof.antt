@@ -1,5 +1,5 @@
 -- A bit as the machine takes it.
-use Rattle.line_bits.proofs.Digits.{shift-bit}
+use Rattle.word_bits.proofs.Digits.{shift-bit}
 use borrow.Author.Needs.{needs}
 use Rattle.line_events.proofs.is_on.Statement.{statement}
 use Rattle.line_events.proofs.is_on.Tie as tie

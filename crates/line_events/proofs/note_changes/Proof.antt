@@ -1,12 +1,12 @@
 -- From one bit that is on to the next.
-use Rattle.line_events.proofs.MarkedLaws.{Marking, changing-start, changing-few, changing-end, changing-fits, changing-room, changing-on}
-use Rattle.line_bits.proofs.LowestLaws.{others-less}
+use Rattle.line_events.proofs.SaidLaws.{Noting, changing-start, changing-few, changing-end, changing-fits, changing-room, changing-on}
+use Rattle.word_bits.proofs.OthersLaws.{others-less}
 use borrow.Author.Needs.{needs}
 use Rattle.line_events.proofs.note_changes.Statement.{statement}
 use Rattle.line_events.proofs.note_changes.Tie as tie
 
 abbrev Inv-loop : tie.InvT-loop
-Inv-loop changes k events₀ count d₀ n₀ events d n = Marking changes 0 k events₀ count d events n
+Inv-loop changes k events₀ count d₀ n₀ events d n = Noting changes 0 k events₀ count d events n
 
 abbrev μ-loop : tie.MeasureT-loop
 μ-loop changes k events₀ count d₀ n₀ events d n = d

@@ -1,5 +1,5 @@
 -- What is written past the events is none of them.
-use Rattle.line_events.proofs.MarkedLaws.{noted-if}
+use Rattle.line_events.proofs.SaidLaws.{noted-if}
 use borrow.Author.Needs.{needs}
 use Rattle.line_events.proofs.note_if.Statement.{statement}
 use Rattle.line_events.proofs.note_if.Tie as tie

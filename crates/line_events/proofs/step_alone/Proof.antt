@@ -1,5 +1,5 @@
 -- A change at the column, then what goes on past it.
-use Rattle.line_events.proofs.MarkedLaws.{room-after, noted-marks}
+use Rattle.line_events.proofs.SaidLaws.{room-after, noted-said}
 use borrow.Author.Needs.{needs}
 use Rattle.line_events.proofs.step_alone.Statement.{statement}
 use Rattle.line_events.proofs.step_alone.Tie as tie
@@ -26,7 +26,7 @@ note-if-requires-2 : tie.Need-note-if-requires-2
 note-if-requires-2 c κs = search (room-after, needs)
 
 returns : tie.Need-returns
-returns c = search (noted-marks, needs)
+returns c = search (noted-said, needs)
 
 pub step-alone-spec : {M : Type 1} → statement M
 step-alone-spec =

@@ -1,4 +1,5 @@
 -- Block by block, as long as a crossing or a line's start is left and no entry is wrong.
+use mathlib.Core.Path.{refl}
 use lib.ListN.{length}
 use Rattle.lines.specs.Lines.{lineLists, answerLists}
 use Rattle.line_blocks.specs.Blocks.{leftOf}
@@ -10,11 +11,11 @@ use Rattle.line_judge.proofs.blocks.Statement.{statement}
 use Rattle.line_judge.proofs.blocks.Tie as tie
 
 abbrev Inv-loop : tie.InvT-loop
-Inv-loop stretches links call words₀ rows line at shape tl ts te cols₀ starts₀ lasts₀ events₀ wl₀ ws₀ we₀ wf₀ wt₀ p₀ next₀ words cols starts lasts events wl ws we wf wt p next =
-    Looping stretches links (call .arranged) (call .names) (lineLists rows line at shape) (theirLists tl ts te) (call .count) words₀ words cols starts lasts events p next (answerLists wl ws we wf wt)
+Inv-loop table call words₀ rows line at shape tl ts te cols₀ lasts₀ events₀ wl₀ ws₀ we₀ wf₀ wt₀ p₀ next₀ words cols lasts events wl ws we wf wt p next =
+    Looping table (call .arranged) (call .names) (lineLists rows line at shape) (theirLists tl ts te) (call .count) words₀ words cols lasts events p next (answerLists wl ws we wf wt)
 
 abbrev μ-loop : tie.MeasureT-loop
-μ-loop stretches links call words₀ rows line at shape tl ts te cols₀ starts₀ lasts₀ events₀ wl₀ ws₀ we₀ wf₀ wt₀ p₀ next₀ words cols starts lasts events wl ws we wf wt p next = length (leftOf (call .names) (lineLists rows line at shape) (p .pass))
+μ-loop table call words₀ rows line at shape tl ts te cols₀ lasts₀ events₀ wl₀ ws₀ we₀ wf₀ wt₀ p₀ next₀ words cols lasts events wl ws we wf wt p next = length (leftOf (call .names) (lineLists rows line at shape) (p .pass))
 
 begin-requires : tie.Need-begin-requires Inv-loop μ-loop
 begin-requires c κs = (search (pass-whole, needs), search pass-said)
@@ -24,9 +25,6 @@ loop-holds c = search looping-start
 
 is-left-requires : tie.Need-is-left-requires Inv-loop μ-loop
 is-left-requires c κs = search needs
-
-afresh-requires : tie.Need-afresh-requires Inv-loop μ-loop
-afresh-requires c κs = search needs
 
 slice-aggregate-step : tie.Need-slice-aggregate-step Inv-loop μ-loop
 slice-aggregate-step c = search needs
@@ -46,11 +44,8 @@ slice-aggregate-step-5 c = search needs
 abbrev step-of : tie.After-eat-all Inv-loop μ-loop → tie.After-step Inv-loop μ-loop
 step-of e = search
 
-abbrev afresh-of : tie.After-step Inv-loop μ-loop → tie.After-afresh Inv-loop μ-loop
-afresh-of s = search
-
-abbrev turn-of : tie.After-afresh Inv-loop μ-loop → tie.Then1 Inv-loop μ-loop
-turn-of a = search
+abbrev round-of : tie.After-step Inv-loop μ-loop → tie.Then1 Inv-loop μ-loop
+round-of s = search
 
 abbrev left-of : tie.Then1 Inv-loop μ-loop → tie.After-is-left Inv-loop μ-loop
 left-of t = search
@@ -58,15 +53,14 @@ left-of t = search
 abbrev loop-of : tie.After-is-left Inv-loop μ-loop → tie.At-loop Inv-loop μ-loop
 loop-of i = search
 
-abbrev kept-of : tie.After-afresh Inv-loop μ-loop → tie.At-loop Inv-loop μ-loop
-kept-of a = loop-of (left-of (turn-of a))
+abbrev kept-of : tie.After-step Inv-loop μ-loop → tie.At-loop Inv-loop μ-loop
+kept-of s = loop-of (left-of (round-of s))
 
 step-requires : tie.Need-step-requires Inv-loop μ-loop
 step-requires c κs =
-    let a : tie.After-afresh Inv-loop μ-loop = search in
-    let t = turn-of a in
+    let t : tie.Then1 Inv-loop μ-loop = search in
     let i = left-of t in
-    (looping-ask (loop-of i .loop .inv) (i .is-left .ensures) (a .afresh .ensures) (t .if1 .taken), search looping-sized, search needs)
+    (looping-ask (loop-of i .loop .inv) (i .is-left .ensures) refl (t .if1 .taken), search looping-sized, search needs)
 
 slice-aggregate-eat-all : tie.Need-slice-aggregate-eat-all Inv-loop μ-loop
 slice-aggregate-eat-all c = search needs
@@ -80,9 +74,8 @@ slice-aggregate-eat-all-3 c = search needs
 eat-all-requires : tie.Need-eat-all-requires Inv-loop μ-loop
 eat-all-requires c κs =
     let s : tie.After-step Inv-loop μ-loop = search in
-    let a = afresh-of s in
-    let l = kept-of a in
-    (l .loop .inv .same, looping-ours (l .loop .inv) (a .afresh .ensures) (s .step .ensures))
+    let l = kept-of s in
+    (l .loop .inv .same, looping-ours (l .loop .inv) refl (s .step .ensures))
 
 enum-known-eaten : tie.Need-enum-known-eaten Inv-loop μ-loop
 enum-known-eaten c = search needs
@@ -91,18 +84,16 @@ loop-less : tie.Need-loop-less Inv-loop μ-loop
 loop-less c =
     let e : tie.After-eat-all Inv-loop μ-loop = search in
     let s = step-of e in
-    let a = afresh-of s in
-    let l = kept-of a in
-    looping-less (l .loop .inv) (a .afresh .ensures) (s .step .ensures)
+    let l = kept-of s in
+    looping-less (l .loop .inv) refl (s .step .ensures)
 
 loop-again : tie.Need-loop-again Inv-loop μ-loop
 loop-again c =
     let w : tie.After-eaten Inv-loop μ-loop = search in
     let e : tie.After-eat-all Inv-loop μ-loop = search in
     let s = step-of e in
-    let a = afresh-of s in
-    let l = kept-of a in
-    looping-more (l .loop .inv) (a .afresh .ensures) (s .step .ensures) (e .eat-all .ensures) (w .eaten .given .1)
+    let l = kept-of s in
+    looping-more (l .loop .inv) refl (s .step .ensures) (e .eat-all .ensures) (w .eaten .given .1)
 
 enum-known-eaten-2 : tie.Need-enum-known-eaten-2 Inv-loop μ-loop
 enum-known-eaten-2 c = search needs
@@ -111,18 +102,16 @@ same-length : tie.Need-same-length Inv-loop μ-loop
 same-length c =
     let e : tie.After-eat-all Inv-loop μ-loop = search in
     let s = step-of e in
-    let a = afresh-of s in
-    let l = kept-of a in
-    looping-long (l .loop .inv) (a .afresh .ensures) (s .step .ensures)
+    let l = kept-of s in
+    looping-long (l .loop .inv) refl (s .step .ensures)
 
 returns : tie.Need-returns Inv-loop μ-loop
 returns c =
     let w : tie.After-eaten2 Inv-loop μ-loop = search in
     let e : tie.After-eat-all Inv-loop μ-loop = search in
     let s = step-of e in
-    let a = afresh-of s in
-    let l = kept-of a in
-    looping-wrong (l .loop .inv) (a .afresh .ensures) (s .step .ensures) (e .eat-all .ensures) (w .eaten2 .given .1)
+    let l = kept-of s in
+    looping-wrong (l .loop .inv) refl (s .step .ensures) (e .eat-all .ensures) (w .eaten2 .given .1)
 
 same-length-2 : tie.Need-same-length-2 Inv-loop μ-loop
 same-length-2 c = search needs
@@ -145,7 +134,6 @@ blocks-spec =
     begin-requires
     loop-holds
     is-left-requires
-    afresh-requires
     slice-aggregate-step
     slice-aggregate-step-2
     slice-aggregate-step-3

@@ -1,5 +1,5 @@
 -- 13 for their lists; then the judgement refuses, or the lists are good.
-use Rattle.line_blocks.proofs.PassLaws.{lists-good}
+use Rattle.line_blocks.proofs.PassLaws.{lists-accepted, lists-said}
 use Rattle.line_judge.proofs.JudgeLaws.{uneven-starts, uneven-ends, even, judge-refused, judge-given}
 use borrow.Author.Needs.{needs}
 use Rattle.line_judge.proofs.judge.Statement.{statement}
@@ -21,7 +21,7 @@ enum-known-v-2 : tie.Need-enum-known-v-2
 enum-known-v-2 c = search needs
 
 opine-requires : tie.Need-opine-requires
-opine-requires c κs = (search needs, search lists-good, search even)
+opine-requires c κs = (search needs, search lists-accepted, search lists-said, search even)
 
 returns-3 : tie.Need-returns-3
 returns-3 c = search judge-refused

@@ -16,9 +16,6 @@ abbrev μ-loop : tie.MeasureT-loop
 loop-holds : tie.Need-loop-holds Inv-loop μ-loop
 loop-holds c = search (numbered-none, needs)
 
-cast-cols : tie.Need-cast-cols Inv-loop μ-loop
-cast-cols c = search needs
-
 mul-cols : tie.Need-mul-cols Inv-loop μ-loop
 mul-cols c = search needs
 
@@ -44,7 +41,6 @@ number-spec =
     Inv-loop
     μ-loop
     loop-holds
-    cast-cols
     mul-cols
     element-write-cols
     add-c

@@ -1,5 +1,5 @@
 -- `line_strips::first_word` meets its contract.
-use Rattle.line_strips.proofs.Turns.{layable-word}
+use Rattle.line_strips.proofs.Flips.{layable-word}
 use Rattle.line_strips.proofs.Blocks.{word-starts}
 use borrow.Author.Needs.{needs}
 use Rattle.line_strips.proofs.first_word.Statement.{statement}

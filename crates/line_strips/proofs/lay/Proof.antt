@@ -2,16 +2,16 @@
 use borrow.Author.Needs.{needs}
 use Prim.Native.Nat.{_-_}
 use Rattle.line_lists.specs.Block.{cell}
-use Rattle.line_strips.specs.Filling.{turnsOf}
+use Rattle.line_strips.specs.Filling.{flipsOf}
 use Rattle.line_strips.proofs.Lays.{Word, word-none, word-more, word-end, alone-named, alone-lays}
 use Rattle.line_strips.proofs.lay.Statement.{statement}
 use Rattle.line_strips.proofs.lay.Tie as tie
 
 abbrev Inv-loop : tie.InvT-loop
-Inv-loop words₀ names rows shape cols starts lasts a k m alone j₀ words j = Word names (turnsOf names rows shape cols starts a) (cell lasts) k m j words₀ words
+Inv-loop words₀ names rows shape cols lasts k m a j₀ words j = Word names (flipsOf names rows shape cols a) (cell lasts) k m j words₀ words
 
 abbrev μ-loop : tie.MeasureT-loop
-μ-loop words₀ names rows shape cols starts lasts a k m alone j₀ words j = m - j
+μ-loop words₀ names rows shape cols lasts k m a j₀ words j = m - j
 
 lay-run-requires : tie.Need-lay-run-requires Inv-loop μ-loop
 lay-run-requires c κs = (search needs, search needs, search needs, search needs, search (alone-named, needs))

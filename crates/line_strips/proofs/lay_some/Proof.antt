@@ -2,21 +2,19 @@
 use borrow.Author.Needs.{needs}
 use Prim.Native.Nat.{_-_}
 use Rattle.line_bits.proofs.Spans.{one-shifted}
-use Rattle.line_strips.proofs.Lays.{Laying, laying-none, laying-bit, laying-column, laying-start, laying-row, laying-bytes, laying-crossing, laying-named, laying-ends, laying-more, laying-end}
+use Rattle.line_strips.proofs.Lays.{Laying, laying-none, laying-bit, laying-column, laying-row, laying-bytes, laying-crossing, laying-named, laying-ends, laying-more, laying-end}
 use Rattle.line_strips.proofs.lay_some.Statement.{statement}
 use Rattle.line_strips.proofs.lay_some.Tie as tie
 use Rattle.line_strips.proofs.lay_some.Reads as reads
 use Rattle.line_strips.proofs.lay_some.Lts as lts
-use Rattle.basics.proofs.wide.Reads as wide-reads
-use Rattle.basics.proofs.wide_long.Reads as wide-long-reads
 use Rattle.line_strips.proofs.span_crossing.Reads as span-crossing-reads
 use Rattle.line_strips.proofs.span_start.Reads as span-start-reads
 
 abbrev Inv-loop : tie.InvT-loop
-Inv-loop words₀ names rows shape cols starts lasts a k j m rest one₀ i₀ words one i = Laying names rows shape cols starts lasts a k j m rest one i words₀ words
+Inv-loop words₀ names rows shape cols lasts a k m rest one₀ i₀ words one i = Laying names rows shape cols lasts a k i₀ m rest one i words₀ words
 
 abbrev μ-loop : tie.MeasureT-loop
-μ-loop words₀ names rows shape cols starts lasts a k j m rest one₀ i₀ words one i = m - i
+μ-loop words₀ names rows shape cols lasts a k m rest one₀ i₀ words one i = m - i
 
 mul-inner : tie.Need-mul-inner Inv-loop μ-loop
 mul-inner c = search needs
@@ -45,15 +43,6 @@ mul-o c = search needs
 element-copy-out-o : tie.Need-element-copy-out-o Inv-loop μ-loop
 element-copy-out-o c = search (laying-column, needs)
 
-mul-wide-long : tie.Need-mul-wide-long Inv-loop μ-loop
-mul-wide-long c = search needs
-
-element-copy-out-wide-long : tie.Need-element-copy-out-wide-long Inv-loop μ-loop
-element-copy-out-wide-long c = search (laying-start, needs)
-
-wide-long-requires : tie.Need-wide-long-requires Inv-loop μ-loop
-wide-long-requires c κs = search needs
-
 span-start-requires : tie.Need-span-start-requires Inv-loop μ-loop
 span-start-requires c κs = (search needs, search needs, search needs, search (laying-bit, needs), search (laying-row, needs), search (laying-bytes, needs))
 
@@ -65,9 +54,6 @@ same-length c = search needs
 
 returns : tie.Need-returns Inv-loop μ-loop
 returns c = search (laying-ends, needs)
-
-wide-requires : tie.Need-wide-requires Inv-loop μ-loop
-wide-requires c κs = search needs
 
 span-crossing-requires : tie.Need-span-crossing-requires Inv-loop μ-loop
 span-crossing-requires c κs = (search needs, search needs, search needs, search (laying-bit, needs), search (laying-crossing, needs), search (laying-named, needs))
@@ -105,14 +91,10 @@ lay-some-spec =
     add-c
     mul-o
     element-copy-out-o
-    mul-wide-long
-    element-copy-out-wide-long
-    wide-long-requires
     span-start-requires
     add-result
     same-length
     returns
-    wide-requires
     span-crossing-requires
     moved-requires
     add-i

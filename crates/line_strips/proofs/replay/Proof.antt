@@ -1,20 +1,20 @@
 -- `line_strips::replay` meets its contract.
 use borrow.Author.Needs.{needs}
 use Prim.Native.Nat.{_-_, _*_}
-use Rattle.line_strips.specs.Filling.{turnsOf}
-use Rattle.line_strips.proofs.Turns.{legible-next}
+use Rattle.line_strips.specs.Filling.{flipsOf}
+use Rattle.line_strips.proofs.Flips.{legible-next}
 use Rattle.line_strips.proofs.Opens.{Replaying, replaying-none, replaying-more, replaying-room, replaying-end}
 use Rattle.line_strips.proofs.replay.Statement.{statement}
 use Rattle.line_strips.proofs.replay.Tie as tie
 use Rattle.line_strips.proofs.replay.Reads as reads
 use Rattle.line_strips.proofs.replay.Lts as lts
-use Rattle.line_strips.proofs.turn.Reads as turn-reads
+use Rattle.line_strips.proofs.flip_column.Reads as flip-column-reads
 
 abbrev Inv-loop : tie.InvT-loop
-Inv-loop words₀ names rows shape cols starts a c k m i₀ words i = Replaying names (turnsOf names rows shape cols starts a) k m c i words₀ words
+Inv-loop words₀ names rows shape cols a c k m i₀ words i = Replaying names (flipsOf names rows shape cols a) k m c i words₀ words
 
 abbrev μ-loop : tie.MeasureT-loop
-μ-loop words₀ names rows shape cols starts a c k m i₀ words i = 64 * k - i
+μ-loop words₀ names rows shape cols a c k m i₀ words i = 64 * k - i
 
 loop-holds : tie.Need-loop-holds Inv-loop μ-loop
 loop-holds c = search (replaying-none, needs)
@@ -22,8 +22,8 @@ loop-holds c = search (replaying-none, needs)
 mul-loop : tie.Need-mul-loop Inv-loop μ-loop
 mul-loop c = search needs
 
-turn-requires : tie.Need-turn-requires Inv-loop μ-loop
-turn-requires c κs = (search (replaying-room, needs), search needs, search (legible-next, needs))
+flip-column-requires : tie.Need-flip-column-requires Inv-loop μ-loop
+flip-column-requires c κs = (search (replaying-room, needs), search needs, search (legible-next, needs))
 
 add-i : tie.Need-add-i Inv-loop μ-loop
 add-i c = search needs
@@ -48,7 +48,7 @@ replay-spec =
     μ-loop
     loop-holds
     mul-loop
-    turn-requires
+    flip-column-requires
     add-i
     loop-less
     loop-again

@@ -5,13 +5,13 @@ use Rattle.line_strips.proofs.span_crossing.Statement.{statement}
 use Rattle.line_strips.proofs.span_crossing.Tie as tie
 use Rattle.line_strips.proofs.span_crossing.Reads as reads
 use Rattle.line_strips.proofs.span_crossing.Lts as lts
-use Rattle.line_strips.proofs.turn_crossing.Reads as turn-crossing-reads
+use Rattle.line_strips.proofs.flip_crossing.Reads as flip-crossing-reads
 
 span-requires : tie.Need-span-requires
 span-requires c κs = search needs
 
-turn-crossing-requires : tie.Need-turn-crossing-requires
-turn-crossing-requires c κs = search needs
+flip-crossing-requires : tie.Need-flip-crossing-requires
+flip-crossing-requires c κs = search needs
 
 same-length : tie.Need-same-length
 same-length c = search needs
@@ -20,4 +20,4 @@ returns : tie.Need-returns
 returns c = search (span-flips, needs)
 
 pub span-crossing-spec : {M : Type 1} → statement M
-span-crossing-spec = tie.close (tie.spec span-requires turn-crossing-requires same-length returns)
+span-crossing-spec = tie.close (tie.spec span-requires flip-crossing-requires same-length returns)

@@ -1,5 +1,5 @@
 -- `line_strips::times` meets its contract.
-use Rattle.line_bits.proofs.Digits.{times-fits}
+use Rattle.word_bits.proofs.Digits.{times-fits}
 use borrow.Author.Needs.{needs}
 use Rattle.line_strips.proofs.times.Statement.{statement}
 use Rattle.line_strips.proofs.times.Tie as tie

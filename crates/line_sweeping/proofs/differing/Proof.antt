@@ -1,4 +1,4 @@
--- Turned over where there is metal.
+-- Inverted where there is metal.
 use Rattle.line_sweeping.proofs.BitLaws.{differs-on, differs-off}
 use borrow.Author.Needs.{needs}
 use Rattle.line_sweeping.proofs.differing.Statement.{statement}

@@ -7,10 +7,10 @@ use Rattle.line_sweeping.proofs.sweep.Statement.{statement}
 use Rattle.line_sweeping.proofs.sweep.Tie as tie
 
 abbrev Inv-loop : tie.InvT-loop
-Inv-loop row lasts line at a cols n alone metal events₀ f₀ k₀ e₀ events f k e = Worded line at a cols row lasts metal n k e events f
+Inv-loop row lasts line at cols p events₀ n f₀ k₀ e₀ events f k e = Worded line at (p .first) cols row lasts (p .metal) n k e events f
 
 abbrev μ-loop : tie.MeasureT-loop
-μ-loop row lasts line at a cols n alone metal events₀ f₀ k₀ e₀ events f k e = n - e
+μ-loop row lasts line at cols p events₀ n f₀ k₀ e₀ events f k e = n - e
 
 loop-holds : tie.Need-loop-holds Inv-loop μ-loop
 loop-holds c = search (worded-start, needs)

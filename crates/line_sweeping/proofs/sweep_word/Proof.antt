@@ -6,10 +6,10 @@ use Rattle.line_sweeping.proofs.sweep_word.Statement.{statement}
 use Rattle.line_sweeping.proofs.sweep_word.Tie as tie
 
 abbrev Inv-loop : tie.InvT-loop
-Inv-loop row lasts line at a cols k e metal events₀ w y f₀ c₀ events f c = Going line at a cols row lasts metal k e w y c events f
+Inv-loop row lasts line at cols p k e events₀ w y f₀ c₀ events f c = Going line at (p .first) cols row lasts (p .metal) k e w y c events f
 
 abbrev μ-loop : tie.MeasureT-loop
-μ-loop row lasts line at a cols k e metal events₀ w y f₀ c₀ events f c = e - c
+μ-loop row lasts line at cols p k e events₀ w y f₀ c₀ events f c = e - c
 
 mul-w : tie.Need-mul-w Inv-loop μ-loop
 mul-w c = search needs

@@ -9,11 +9,11 @@ use Rattle.line_walls.proofs.blocks.Statement.{statement}
 use Rattle.line_walls.proofs.blocks.Tie as tie
 
 abbrev Inv-loop : tie.InvT-loop
-Inv-loop stretches links call words₀ rows line at shape wl₀ ws₀ we₀ wf₀ wt₀ cols₀ starts₀ lasts₀ events₀ p₀ words wl ws we wf wt cols starts lasts events p =
-    Looping stretches links (call .arranged) (call .names) (lineLists rows line at shape) (answerLists wl₀ ws₀ we₀ wf₀ wt₀) (call .count) words₀ words cols starts lasts events p (answerLists wl ws we wf wt)
+Inv-loop table call words₀ rows line at shape wl₀ ws₀ we₀ wf₀ wt₀ cols₀ lasts₀ events₀ p₀ words wl ws we wf wt cols lasts events p =
+    Looping table (call .arranged) (call .names) (lineLists rows line at shape) (answerLists wl₀ ws₀ we₀ wf₀ wt₀) (call .count) words₀ words cols lasts events p (answerLists wl ws we wf wt)
 
 abbrev μ-loop : tie.MeasureT-loop
-μ-loop stretches links call words₀ rows line at shape wl₀ ws₀ we₀ wf₀ wt₀ cols₀ starts₀ lasts₀ events₀ p₀ words wl ws we wf wt cols starts lasts events p =
+μ-loop table call words₀ rows line at shape wl₀ ws₀ we₀ wf₀ wt₀ cols₀ lasts₀ events₀ p₀ words wl ws we wf wt cols lasts events p =
     length (leftOf (call .names) (lineLists rows line at shape) (p .pass))
 
 begin-requires : tie.Need-begin-requires Inv-loop μ-loop
@@ -25,8 +25,8 @@ loop-holds c = search looping-start
 is-left-requires : tie.Need-is-left-requires Inv-loop μ-loop
 is-left-requires c κs = search needs
 
-abbrev turn-of : tie.After-step Inv-loop μ-loop → tie.Then1 Inv-loop μ-loop
-turn-of s = search
+abbrev round-of : tie.After-step Inv-loop μ-loop → tie.Then1 Inv-loop μ-loop
+round-of s = search
 
 abbrev left-of : tie.Then1 Inv-loop μ-loop → tie.After-is-left Inv-loop μ-loop
 left-of t = search
@@ -46,7 +46,7 @@ loop-less c = search needs
 loop-again : tie.Need-loop-again Inv-loop μ-loop
 loop-again c =
     let s : tie.After-step Inv-loop μ-loop = search in
-    looping-more (loop-of (left-of (turn-of s)) .loop .inv) (s .step .ensures)
+    looping-more (loop-of (left-of (round-of s)) .loop .inv) (s .step .ensures)
 
 same-length : tie.Need-same-length Inv-loop μ-loop
 same-length c = search needs

@@ -1,29 +1,29 @@
 -- `sheet_laying::lay_first` meets its contract. The invariant: the codes that are still to be read and the operations that wait decide.
-use Prim.Native.Nat.{_+_, _≤_}
-use mathlib.Core.Path.{_≡_}
-use lib.ListN.{length}
 use borrow.Author.Needs.{needs}
-use Rattle.sheet_laying.proofs.Laying.{Lays, lays-none, lays-leaf, lays-operation, lays-all}
+use Rattle.sheet_laying.proofs.Laying.{Lays, lays-none, lays-code, lays-room, lays-front, lays-low, lays-leaf, lays-operation, lays-all}
 use Rattle.sheet_laying.proofs.lay_first.Statement.{statement}
 use Rattle.sheet_laying.proofs.lay_first.Tie as tie
 
 abbrev Inv-loop : tie.InvT-loop
-Inv-loop codes n laid₀ held₀ at₀ laid held at = (at + held ≤ n) × (length laid ≡ 2048) × Lays codes n laid₀ laid at held
+Inv-loop formula laid₀ n many₀ last₀ at₀ laid many last at = Lays formula n laid₀ laid many last at
 
 abbrev μ-loop : tie.MeasureT-loop
-μ-loop codes n laid₀ held₀ at₀ laid held at = at
+μ-loop formula laid₀ n many₀ last₀ at₀ laid many last at = at
 
 loop-holds : tie.Need-loop-holds Inv-loop μ-loop
-loop-holds c = (search needs, search needs, search lays-none)
+loop-holds c = search lays-none
 
 sub-at : tie.Need-sub-at Inv-loop μ-loop
 sub-at c = search needs
 
-mul-code : tie.Need-mul-code Inv-loop μ-loop
-mul-code c = search needs
+mul-two : tie.Need-mul-two Inv-loop μ-loop
+mul-two c = search needs
 
-element-copy-out-code : tie.Need-element-copy-out-code Inv-loop μ-loop
-element-copy-out-code c = search needs
+two-requires : tie.Need-two-requires Inv-loop μ-loop
+two-requires c κs = search (lays-code, needs)
+
+cast-laid : tie.Need-cast-laid Inv-loop μ-loop
+cast-laid c = search needs
 
 add-laid : tie.Need-add-laid Inv-loop μ-loop
 add-laid c = search needs
@@ -32,31 +32,34 @@ mul-laid : tie.Need-mul-laid Inv-loop μ-loop
 mul-laid c = search needs
 
 element-write-laid : tie.Need-element-write-laid Inv-loop μ-loop
-element-write-laid c = search needs
+element-write-laid c = search (lays-room, needs)
 
 settle-requires : tie.Need-settle-requires Inv-loop μ-loop
-settle-requires c κs = search needs
+settle-requires c κs = (search needs, search needs, search needs, search lays-low)
 
 loop-less : tie.Need-loop-less Inv-loop μ-loop
 loop-less c = search needs
 
 loop-again : tie.Need-loop-again Inv-loop μ-loop
-loop-again c = (search needs, search needs, search lays-leaf)
+loop-again c = search (lays-leaf, needs)
+
+cast-laid-2 : tie.Need-cast-laid-2 Inv-loop μ-loop
+cast-laid-2 c = search needs
 
 mul-laid-2 : tie.Need-mul-laid-2 Inv-loop μ-loop
 mul-laid-2 c = search needs
 
 element-write-laid-2 : tie.Need-element-write-laid-2 Inv-loop μ-loop
-element-write-laid-2 c = search needs
+element-write-laid-2 c = search (lays-front, needs)
 
-add-held : tie.Need-add-held Inv-loop μ-loop
-add-held c = search needs
+add-many : tie.Need-add-many Inv-loop μ-loop
+add-many c = search needs
 
 loop-less-2 : tie.Need-loop-less-2 Inv-loop μ-loop
 loop-less-2 c = search needs
 
 loop-again-2 : tie.Need-loop-again-2 Inv-loop μ-loop
-loop-again-2 c = (search needs, search needs, search lays-operation)
+loop-again-2 c = search (lays-operation, needs)
 
 returns : tie.Need-returns Inv-loop μ-loop
 returns c = search lays-all
@@ -69,17 +72,19 @@ lay-first-spec =
     μ-loop
     loop-holds
     sub-at
-    mul-code
-    element-copy-out-code
+    mul-two
+    two-requires
+    cast-laid
     add-laid
     mul-laid
     element-write-laid
     settle-requires
     loop-less
     loop-again
+    cast-laid-2
     mul-laid-2
     element-write-laid-2
-    add-held
+    add-many
     loop-less-2
     loop-again-2
     returns)

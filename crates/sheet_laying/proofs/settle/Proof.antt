@@ -3,33 +3,39 @@ use Prim.Native.Nat.{_≤_}
 use mathlib.Core.Path.{_≡_}
 use lib.ListN.{length}
 use borrow.Author.Needs.{needs}
-use Rattle.sheet_laying.proofs.Laying.{Settling, settling-begins, settles-here, settling-more, settles-none}
+use Rattle.sheet_laying.proofs.Laying.{Settling, settling-begins, some-wait, fewer-wait, settles-here, settling-more}
 use Rattle.sheet_laying.proofs.settle.Statement.{statement}
 use Rattle.sheet_laying.proofs.settle.Tie as tie
 
 abbrev Inv-loop : tie.InvT-loop
-Inv-loop laid₀ held at waiting₀ laid waiting = (waiting ≤ held) × (length laid ≡ 2048) × Settling laid₀ laid at held waiting
+Inv-loop laid₀ at many last held₀ waits₀ laid held waits = (held ≤ many) × (length laid ≡ 2048) × Settling laid₀ many last laid held waits at
 
 abbrev μ-loop : tie.MeasureT-loop
-μ-loop laid₀ held at waiting₀ laid waiting = waiting
+μ-loop laid₀ at many last held₀ waits₀ laid held waits = held
 
 loop-holds : tie.Need-loop-holds Inv-loop μ-loop
 loop-holds c = (search needs, search needs, search settling-begins)
 
-sub-code : tie.Need-sub-code Inv-loop μ-loop
-sub-code c = search needs
+sub-held : tie.Need-sub-held Inv-loop μ-loop
+sub-held c = search some-wait
 
-mul-code : tie.Need-mul-code Inv-loop μ-loop
-mul-code c = search needs
+mul-as-number : tie.Need-mul-as-number Inv-loop μ-loop
+mul-as-number c = search needs
 
-element-copy-out-code : tie.Need-element-copy-out-code Inv-loop μ-loop
-element-copy-out-code c = search needs
+element-copy-out-as-number : tie.Need-element-copy-out-as-number Inv-loop μ-loop
+element-copy-out-as-number c = search needs
 
-add-laid : tie.Need-add-laid Inv-loop μ-loop
-add-laid c = search needs
+as-number-requires : tie.Need-as-number-requires Inv-loop μ-loop
+as-number-requires c κs = search needs
 
 sub-laid : tie.Need-sub-laid Inv-loop μ-loop
 sub-laid c = search needs
+
+cast-laid : tie.Need-cast-laid Inv-loop μ-loop
+cast-laid c = search needs
+
+add-laid : tie.Need-add-laid Inv-loop μ-loop
+add-laid c = search needs
 
 mul-laid : tie.Need-mul-laid Inv-loop μ-loop
 mul-laid c = search needs
@@ -37,32 +43,17 @@ mul-laid c = search needs
 element-write-laid : tie.Need-element-write-laid Inv-loop μ-loop
 element-write-laid c = search needs
 
-returns : tie.Need-returns Inv-loop μ-loop
-returns c = search settles-here
-
-sub-waiting : tie.Need-sub-waiting Inv-loop μ-loop
-sub-waiting c = search needs
-
-sub-laid-2 : tie.Need-sub-laid-2 Inv-loop μ-loop
-sub-laid-2 c = search needs
-
-add-laid-2 : tie.Need-add-laid-2 Inv-loop μ-loop
-add-laid-2 c = search needs
-
-mul-laid-2 : tie.Need-mul-laid-2 Inv-loop μ-loop
-mul-laid-2 c = search needs
-
-element-write-laid-2 : tie.Need-element-write-laid-2 Inv-loop μ-loop
-element-write-laid-2 c = search needs
-
 loop-less : tie.Need-loop-less Inv-loop μ-loop
-loop-less c = search needs
+loop-less c = search fewer-wait
 
 loop-again : tie.Need-loop-again Inv-loop μ-loop
-loop-again c = (search needs, search needs, search settling-more)
+loop-again c = (search needs, search needs, search (settling-more, some-wait, needs))
 
-returns-2 : tie.Need-returns-2 Inv-loop μ-loop
-returns-2 c = search settles-none
+add-t17 : tie.Need-add-t17 Inv-loop μ-loop
+add-t17 c = search needs
+
+returns : tie.Need-returns Inv-loop μ-loop
+returns c = search (settles-here, needs)
 
 pub settle-spec : {M : Type 1} → statement M
 settle-spec =
@@ -71,19 +62,16 @@ settle-spec =
     Inv-loop
     μ-loop
     loop-holds
-    sub-code
-    mul-code
-    element-copy-out-code
-    add-laid
+    sub-held
+    mul-as-number
+    element-copy-out-as-number
+    as-number-requires
     sub-laid
+    cast-laid
+    add-laid
     mul-laid
     element-write-laid
-    returns
-    sub-waiting
-    sub-laid-2
-    add-laid-2
-    mul-laid-2
-    element-write-laid-2
     loop-less
     loop-again
-    returns-2)
+    add-t17
+    returns)

@@ -1,11 +1,11 @@
 -- `toggle_passes::rework_node` meets its contract.
 use borrow.Author.Needs.{needs}
-use Rattle.toggle_passes.proofs.Settles.{above-hand, still-rising, settled-mark, settled-top, settled-same}
+use Rattle.toggle_passes.proofs.Settles.{above-hand, still-rising, settled-put, settled-top, settled-same}
 use Rattle.toggle_passes.proofs.rework_node.Statement.{statement}
 use Rattle.toggle_passes.proofs.rework_node.Tie as tie
 
-unmark-requires : tie.Need-unmark-requires
-unmark-requires c κs = search needs
+take-out-requires : tie.Need-take-out-requires
+take-out-requires c κs = search needs
 
 work-requires : tie.Need-work-requires
 work-requires c κs = search needs
@@ -28,11 +28,11 @@ element-copy-out-wide c = search needs
 wide-requires : tie.Need-wide-requires
 wide-requires c κs = search needs
 
-mark-requires : tie.Need-mark-requires
-mark-requires c κs = search (still-rising, above-hand, needs)
+put-in-requires : tie.Need-put-in-requires
+put-in-requires c κs = search (still-rising, above-hand, needs)
 
 returns-2 : tie.Need-returns-2
-returns-2 c = search settled-mark
+returns-2 c = search settled-put
 
 returns-3 : tie.Need-returns-3
 returns-3 c = search settled-top
@@ -41,7 +41,7 @@ pub rework-node-spec : {M : Type 1} → statement M
 rework-node-spec =
     tie.close
     (tie.spec
-    unmark-requires
+    take-out-requires
     work-requires
     element-copy-out-if1
     returns
@@ -49,6 +49,6 @@ rework-node-spec =
     mul-wide
     element-copy-out-wide
     wide-requires
-    mark-requires
+    put-in-requires
     returns-2
     returns-3)

@@ -2,7 +2,7 @@
 use Prim.Native.Nat.{_-_}
 use lib.Dec.{lit<}
 use borrow.Author.Needs.{needs}
-use Rattle.marks.specs.Marks.{all}
+use Rattle.rising_set.specs.Members.{all}
 use Rattle.toggle_passes.proofs.Settles.{Settling, fewer, settling-start, settling-few, settling-fits, settling-ripe, settling-on, settling-ends}
 use Rattle.toggle_passes.proofs.settle.Statement.{statement}
 use Rattle.toggle_passes.proofs.settle.Tie as tie

@@ -1,4 +1,4 @@
--- `toggles::flip_leaves` meets its contract. The loop keeps: the leaves before a are flipped, and the nodes above them marked.
+-- `toggles::flip_leaves` meets its contract. The loop keeps: the leaves before a are flipped, and the nodes above them put into a set.
 use Prim.Native.Nat.{_-_}
 use borrow.Author.Needs.{needs}
 use Rattle.labels.proofs.Links.{next-after, parent-after}
@@ -46,8 +46,8 @@ element-copy-out-wide-2 c = search needs
 wide-requires-2 : tie.Need-wide-requires-2 Inv-loop μ-loop
 wide-requires-2 c κs = search needs
 
-mark-node-requires : tie.Need-mark-node-requires Inv-loop μ-loop
-mark-node-requires c κs = search needs
+put-node-requires : tie.Need-put-node-requires Inv-loop μ-loop
+put-node-requires c κs = search needs
 
 add-wide-2 : tie.Need-add-wide-2 Inv-loop μ-loop
 add-wide-2 c = search needs
@@ -87,7 +87,7 @@ flip-leaves-spec =
     mul-wide-2
     element-copy-out-wide-2
     wide-requires-2
-    mark-node-requires
+    put-node-requires
     add-wide-2
     mul-wide-3
     element-copy-out-wide-3

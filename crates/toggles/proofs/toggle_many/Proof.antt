@@ -1,6 +1,6 @@
 -- `toggles::toggle_many` meets its contract.
 use borrow.Author.Needs.{needs}
-use Rattle.toggles.proofs.Flipping.{unmarked, toggle-several}
+use Rattle.toggles.proofs.Flipping.{taken-out, toggle-several}
 use Rattle.toggles.proofs.toggle_many.Statement.{statement}
 use Rattle.toggles.proofs.toggle_many.Tie as tie
 
@@ -8,7 +8,7 @@ none-requires : tie.Need-none-requires
 none-requires c κs = search needs
 
 flip-leaves-requires : tie.Need-flip-leaves-requires
-flip-leaves-requires c κs = (search needs, search needs, search needs, unmarked (search needs) (search needs) (search needs))
+flip-leaves-requires c κs = (search needs, search needs, search needs, taken-out (search needs) (search needs) (search needs))
 
 settle-requires : tie.Need-settle-requires
 settle-requires c κs = search needs

@@ -1,4 +1,4 @@
--- `tree_rake::rake` meets its contract. The invariant: the arrays hold what the steps come to after the first i tokens, and no mark has gone further than i. Assumes nothing.
+-- `tree_rake::rake` meets its contract. The invariant: the arrays hold what the steps come to after the first i tokens, and no array is filled further than i. Assumes nothing.
 use borrow.Author.Needs.{needs}
 use Prim.Native.Nat.{_-_}
 use Rattle.tree_rake.proofs.StepsLaws.{RakingAt, raking-start, raking-next, raking-end}

@@ -1,4 +1,4 @@
--- Each crossing turns its shape.
+-- Each crossing flips its shape.
 use borrow.Author.Needs.{needs}
 use Rattle.line_writing.proofs.TallyLaws.{tally-start, tally-more, tally-end, few-at}
 use Prim.Native.Nat.{_-_}
@@ -25,8 +25,8 @@ shared-slice-read-wide c = search needs
 wide-requires : tie.Need-wide-requires Inv-loop μ-loop
 wide-requires c κs = search needs
 
-turn-byte-requires : tie.Need-turn-byte-requires Inv-loop μ-loop
-turn-byte-requires c κs = search (few-at, needs)
+flip-byte-requires : tie.Need-flip-byte-requires Inv-loop μ-loop
+flip-byte-requires c κs = search (few-at, needs)
 
 add-j : tie.Need-add-j Inv-loop μ-loop
 add-j c = search needs
@@ -50,7 +50,7 @@ tally-spec =
     mul-wide
     shared-slice-read-wide
     wide-requires
-    turn-byte-requires
+    flip-byte-requires
     add-j
     loop-less
     loop-again

@@ -10,11 +10,8 @@ mul-o c = search needs
 element-copy-out-o : tie.Need-element-copy-out-o
 element-copy-out-o c = search needs
 
-mul-result : tie.Need-mul-result
-mul-result c = search needs
-
-element-copy-out-result : tie.Need-element-copy-out-result
-element-copy-out-result c = search needs
+cast-result : tie.Need-cast-result
+cast-result c = search needs
 
 returns : tie.Need-returns
 returns c = search (line-start-held, needs)
@@ -22,8 +19,8 @@ returns c = search (line-start-held, needs)
 crossing-at-requires : tie.Need-crossing-at-requires
 crossing-at-requires c κs = search (column-inside, needs)
 
-mul-result-2 : tie.Need-mul-result-2
-mul-result-2 c = search needs
+mul-result : tie.Need-mul-result
+mul-result c = search needs
 
 shared-slice-read-result : tie.Need-shared-slice-read-result
 shared-slice-read-result c = search needs
@@ -37,10 +34,9 @@ column-line-spec =
     (tie.spec
     mul-o
     element-copy-out-o
-    mul-result
-    element-copy-out-result
+    cast-result
     returns
     crossing-at-requires
-    mul-result-2
+    mul-result
     shared-slice-read-result
     returns-2)

@@ -8,7 +8,7 @@ column-of-requires : tie.Need-column-of-requires
 column-of-requires c κs = search needs
 
 column-line-requires : tie.Need-column-line-requires
-column-line-requires c κs = (search (column-at, needs), search needs)
+column-line-requires c κs = search (column-at, needs)
 
 returns : tie.Need-returns
 returns c = search (event-line-at, needs)

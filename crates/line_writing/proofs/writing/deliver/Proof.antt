@@ -2,22 +2,29 @@
 use Prim.Native.Nat.{_-_}
 use Rattle.lines.specs.Lines.{answerLists}
 use Rattle.line_writing.specs.Finishing.{held}
-use Rattle.line_writing.proofs.WriteLaws.{Along, along-start, along-turning, along-more, along-end}
+use Rattle.line_writing.proofs.WriteLaws.{Along, along-start, along-listed, along-room, along-more, along-end}
 use borrow.Author.Needs.{needs}
 use Rattle.line_writing.proofs.writing.deliver.Statement.{statement}
 use Rattle.line_writing.proofs.writing.deliver.Tie as tie
 
 abbrev Inv-loop : tie.InvT-loop
-Inv-loop events m line at shape a cols starts wl₀ ws₀ we₀ wf₀ wt₀ r₀ k₀ wl ws we wf wt r k = Along (held line at shape a cols) starts events m r₀ (answerLists wl₀ ws₀ we₀ wf₀ wt₀) k r (answerLists wl ws we wf wt)
+Inv-loop events m line at shape a cols wl₀ ws₀ we₀ wf₀ wt₀ r₀ k₀ wl ws we wf wt r k = Along (held line at shape a cols) events m r₀ (answerLists wl₀ ws₀ we₀ wf₀ wt₀) k r (answerLists wl ws we wf wt)
 
 abbrev μ-loop : tie.MeasureT-loop
-μ-loop events m line at shape a cols starts wl₀ ws₀ we₀ wf₀ wt₀ r₀ k₀ wl ws we wf wt r k = m - k
+μ-loop events m line at shape a cols wl₀ ws₀ we₀ wf₀ wt₀ r₀ k₀ wl ws we wf wt r k = m - k
 
 loop-holds : tie.Need-loop-holds Inv-loop μ-loop
 loop-holds c = search along-start
 
-turn-requires : tie.Need-turn-requires Inv-loop μ-loop
-turn-requires c κs = search along-turning
+bound-at-requires : tie.Need-bound-at-requires Inv-loop μ-loop
+bound-at-requires c κs =
+    let l : tie.At-loop Inv-loop μ-loop = search in
+    along-listed (l .loop .inv) (search needs)
+
+switch-requires : tie.Need-switch-requires Inv-loop μ-loop
+switch-requires c κs =
+    let l : tie.At-loop Inv-loop μ-loop = search in
+    along-room (l .loop .inv) (search needs)
 
 add-k : tie.Need-add-k Inv-loop μ-loop
 add-k c = search needs
@@ -26,7 +33,11 @@ loop-less : tie.Need-loop-less Inv-loop μ-loop
 loop-less c = search needs
 
 loop-again : tie.Need-loop-again Inv-loop μ-loop
-loop-again c = search along-more
+loop-again c =
+    let l : tie.At-loop Inv-loop μ-loop = search in
+    let b : tie.After-bound-at Inv-loop μ-loop = search in
+    let t : tie.After-switch Inv-loop μ-loop = search in
+    along-more (l .loop .inv) (search needs) (b .bound-at .ensures) (t .switch .ensures)
 
 same-length : tie.Need-same-length Inv-loop μ-loop
 same-length c = search needs
@@ -53,7 +64,8 @@ deliver-spec =
     Inv-loop
     μ-loop
     loop-holds
-    turn-requires
+    bound-at-requires
+    switch-requires
     add-k
     loop-less
     loop-again
