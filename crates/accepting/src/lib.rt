@@ -25,9 +25,9 @@ pub fn accept(fitted: bool, fittings: &[u8], sheet: &[u8], codes: &mut [u16; 204
         ReadAnswer::Unfit { number, place } => Acceptance::Unfit { number, place },
         ReadAnswer::Read {
             names,
-            leaves: _,
             first,
             past,
+            ..
         } => {
             let n = sheet_descent::fill_codes(sheet[4], &sheet[first..past], names, codes);
             Acceptance::Given { names, codes: n }

@@ -2,18 +2,16 @@
 use Prim.Native.Nat.{ℕ, zero, suc, _+_, _<_, _≤_}
 use native.Mathlib.Nat.{zero-add}
 use native.Mathlib.Omega.{arith}
-use mathlib.Core.Path.{_≡_, refl}
-use mathlib.Core.List.{List, [], _∷_, _++_}
+use mathlib.Core.List.{[], _∷_, _++_}
 use mathlib.Core.Option.{Option, none, some}
 use lib.ListN.{length, length-append}
-use Rattle.formula.specs.Formula.{Op, union, intersection, difference, exclusive, Formula, leaf, node, leaves}
-use Rattle.contraction.specs.Records.{Side, left, right, Rec, leafRec, E-rec, R-rec, S-rec, C-rec, children}
+use Rattle.formula.specs.Formula.{Op, Formula, leaf, node, leaves}
+use Rattle.contraction.specs.Records.{Side, left, right, Rec, leafRec, E-rec, R-rec, S-rec, C-rec}
 use Rattle.contraction.specs.Rounds.{Work, tip, one, two, tipOf, rakeOne, rakeTwo, rakes, leftOne, leftTwo, raked}
 use Rattle.contraction.specs.Rounds.{compresses, compressed, roundMakes, roundLeaves, planted, leafRecs, enough, dwarf}
-use Rattle.contraction.specs.Height.{worked}
 use Rattle.contraction.specs.Terms.{Each, ChildrenBelow}
 use Rattle.contraction.proofs.Rounds.{allMade, dwarf-all, length-leafRecs}
-use Rattle.contraction.proofs.Worked.{each-append, Good, Steady, worked-good}
+use Rattle.contraction.proofs.Worked.{each-append}
 
 -- every dwarf root in the tree is below n
 abbrev Below : ℕ → Work → Type 0

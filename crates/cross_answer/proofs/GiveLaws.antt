@@ -40,7 +40,7 @@ ordered keys y m e =
     let d : m - 0 ≡ m = omega arith in
     ap (λ l. l ++ drop (m - 0) keys) e ∙ ap (λ k. rising (take k keys) ++ drop k keys) d
 
-module _ (n m : ℕ) (bytes keys keys′ : List ℕ) (held : Held bytes keys n m) (sorted : keys′ ≡ rising (take m keys) ++ drop m keys) where
+module _ (n m : ℕ) (bytes keys keys′ : List ℕ) {w : ℕ} (held : Held w bytes keys n m) (sorted : keys′ ≡ rising (take m keys) ++ drop m keys) where
   sorted-keys : take m keys′ ≡ rising (take m keys)
   sorted-keys =
       let l : length (rising (take m keys)) ≡ m = length-inOrder ltb (take m keys) ∙ length-take-le m keys (omega (arith, held .keys-sized, held .few, held .some)) in
@@ -98,7 +98,7 @@ unfolding answered
 fault-refused number cuts a b c i e = rw e
 
 -- ---- the exits of `give`
-module _ {number : ℕ} {cuts : List Cut} {bytes keys : List ℕ} {n m : ℕ} (whole : Complete number cuts bytes keys n m) (r : InRange cuts) where
+module _ {wide number : ℕ} {cuts : List Cut} {bytes keys : List ℕ} {n m : ℕ} (whole : Complete wide number cuts bytes keys n m) (r : InRange cuts) where
   in-order : map crossingOf (rising (take m keys)) ≡ lineCrossings cuts
   in-order = map-inOrder crossingOf ltb before keeps (take m keys) ∙ ap (inOrder before) (whole .gathered .keyed)
 

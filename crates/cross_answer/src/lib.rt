@@ -50,7 +50,7 @@ fn write_shapes(keys: &[u64], n: usize, shapes: &mut [u16])
     }
 }
 
-// Puts the first m keys into order. Most lines have so few that they need no spare array; for some more a short one is quicker to make.
+// Puts the first m keys into order. Most lines have so few that they need no spare array; for some more a shorter one is quicker to make.
 fn order(keys: &mut [u64], m: usize)
     requires { ⌜ (m ≤ length (now keys)) × (m ≤ 512) ⌝ }
     ensures { λ _. ⌜ now (keys .exit) ≡ rising (take m (now (keys .entry))) ++ drop m (now (keys .entry)) ⌝ }
@@ -62,6 +62,11 @@ fn order(keys: &mut [u64], m: usize)
     if m <= 32 {
         let mut few = [0u64; 32];
         cross_order::sort(&mut keys[0..m], &mut few);
+        return;
+    }
+    if m <= 128 {
+        let mut some = [0u64; 128];
+        cross_order::sort(&mut keys[0..m], &mut some);
         return;
     }
     let mut spare = [0u64; 512];
@@ -78,7 +83,7 @@ pub fn write(
     positions: &mut [i32],
     shapes: &mut [u16],
 )
-    requires { ⌜ Held (now bytes) (now keys) n m × LongEnough n m (madeLists (now starts) (now positions) (now shapes)) ⌝ }
+    requires { ⌜ Held (length (now bytes)) (now bytes) (now keys) n m × (n ≤ 256) × LongEnough n m (madeLists (now starts) (now positions) (now shapes)) ⌝ }
     ensures { λ _. ⌜ Written n m (now (bytes .entry)) (now (keys .entry)) (madeLists (now (starts .entry)) (now (positions .entry)) (now (shapes .entry))) (madeLists (now (starts .exit)) (now (positions .exit)) (now (shapes .exit))) ⌝ }
 {
     order(keys, m);
@@ -97,8 +102,8 @@ pub fn give(
     positions: &mut [i32],
     shapes: &mut [u16],
 ) -> CrossAnswer
-    requires { ⌜ Held (now bytes) (now keys) n m ⌝ }
-    ensures { λ r. ⌜ ((number : ℕ) (cuts : List Cut) → Complete number cuts (now (bytes .entry)) (now (keys .entry)) n m → InRange cuts
+    requires { ⌜ Held (length (now bytes)) (now bytes) (now keys) n m × (n ≤ 256) ⌝ }
+    ensures { λ r. ⌜ ((number : ℕ) (cuts : List Cut) → Complete (length (now (bytes .entry))) number cuts (now (bytes .entry)) (now (keys .entry)) n m → InRange cuts
         → Crossed (answered number cuts (length (now (starts .entry))) (length (now (positions .entry))) (length (now (shapes .entry))))
         (madeLists (now (starts .entry)) (now (positions .entry)) (now (shapes .entry))) r (madeLists (now (starts .exit)) (now (positions .exit)) (now (shapes .exit)))) ⌝ }
 {

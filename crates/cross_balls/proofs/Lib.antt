@@ -1,6 +1,5 @@
 pub mod BallLaws
 pub mod LentLaws
 pub mod RangeLaws
-pub mod LineLaws
 pub mod Settled
 pub mod Cases

@@ -1,17 +1,13 @@
-// One line's crossings of balls, the line parallel to an axis. The job asks nothing of its caller.
-use cross_answer::CrossAnswer;
-use cross_cuts::Added;
+// A ball beside a line that is parallel to an axis: where the line meets it.
 use cross_cuts::Met;
-use cross_cuts::Row;
 ghost use mathlib.Core.Path.{_≡_};
 ghost use Prim.Native.Nat.{_*_, _<_, _≤_};
 ghost use lib.IntN.{pos};
 ghost use lib.ListN.{length, getD};
 ghost use Rattle.cross_ranks.specs.Ranks.{unrank};
 ghost use Rattle.cross_cuts.specs.Cuts.{fault};
-ghost use Rattle.cross_cuts.specs.Keys.{cutOf, Ends};
-ghost use Rattle.cross_answer.specs.Answer.{madeLists, Crossed};
-ghost use Rattle.cross_balls.specs.Balls.{within, inRanges, squared, chordCut, ballCut, ballCuts, crossingBalls};
+ghost use Rattle.cross_cuts.specs.Keys.{cutOf};
+ghost use Rattle.cross_balls.specs.Balls.{within, inRanges, squared, chordCut, ballCut, ballCuts};
 ghost use Rattle.cross_balls.specs.Small.{Small};
 
 fn in_range(rank: u32, low: u32, high: u32) -> bool
@@ -95,7 +91,7 @@ fn rank_at(numbers: &[i32], k: usize) -> u32
 }
 
 // The i-th ball, from 0; one that is only begun is at fault.
-fn meet_at(numbers: &[i32], i: usize) -> Met
+pub fn meet_at(numbers: &[i32], i: usize) -> Met
     requires { ⌜ (4 * i < length (now numbers)) × (i < 256) ⌝ }
     ensures { λ r. ⌜ cutOf r ≡ getD (ballCuts (now (numbers .entry))) i fault ⌝ }
 {
@@ -108,55 +104,4 @@ fn meet_at(numbers: &[i32], i: usize) -> Met
     let radius = rank_at(numbers, k + 2);
     let centre = rank_at(numbers, k + 3);
     meet_ball(u, v, radius, centre)
-}
-
-// All the balls of one line, in turn.
-fn gather(numbers: &[i32], bytes: &mut [u8], keys: &mut [u64]) -> Row
-    requires { ⌜ (length (now numbers) ≤ 1024) × (length (now bytes) ≡ 256) × (length (now keys) ≡ 512) ⌝ }
-    ensures { λ r. ⌜ Ends 18 (ballCuts (now (numbers .entry))) (now (bytes .exit)) (now (keys .exit)) r ⌝ }
-{
-    let mut i = 0usize;
-    let mut m = 0usize;
-    while 4 * i < numbers.len() {
-        let met = meet_at(numbers, i);
-        match cross_cuts::add(met, i, m, bytes, keys) {
-            Added::Fault => {
-                return Row::Fault(i);
-            }
-            Added::Count(n) => {
-                m = n;
-                i += 1;
-            }
-        }
-    }
-    Row::Count(m)
-}
-
-// Crosses the balls that are lent with one line.
-pub fn cross(
-    numbers: &[i32],
-    starts: &mut [u8],
-    positions: &mut [i32],
-    shapes: &mut [u16],
-) -> CrossAnswer
-    ensures { λ r. ⌜ Crossed (crossingBalls (now (numbers .entry)) (length (now (starts .entry))) (length (now (positions .entry))) (length (now (shapes .entry))))
-        (madeLists (now (starts .entry)) (now (positions .entry)) (now (shapes .entry))) r (madeLists (now (starts .exit)) (now (positions .exit)) (now (shapes .exit))) ⌝ }
-{
-    let long = numbers.len();
-    if 1024 < long {
-        return CrossAnswer::Refused {
-            number: 18,
-            place: 256,
-        };
-    }
-    let n = (long + 3) / 4;
-    let mut bytes = [0u8; 256];
-    let mut keys = [0u64; 512];
-    match gather(numbers, &mut bytes, &mut keys) {
-        Row::Fault(i) => CrossAnswer::Refused {
-            number: 18,
-            place: i,
-        },
-        Row::Count(m) => { cross_answer::give(n, m, &bytes, &mut keys, starts, positions, shapes) }
-    }
 }

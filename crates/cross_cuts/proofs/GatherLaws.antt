@@ -42,7 +42,7 @@ keys-more : (keys : List ℕ) (m k a i : ℕ) → i < 256 → m < length keys �
 keys-more keys m k a i h l e = rw (add-one, take-suc-set keys m k l) (map-append crossingOf (take m keys) (k ∷ []) ∙ ap (λ x. map crossingOf (take m keys) ++ (x ∷ [])) (ap crossingOf e ∙ key-position a i h))
 
 -- ---- the exits of `add`
-module _ (starts keys : List ℕ) (i m : ℕ) (held : Held starts keys i m) (h : i < 256) where
+module _ {w : ℕ} (starts keys : List ℕ) (i m : ℕ) (held : Held w starts keys i m) (h : i < 256) (there : i < w) where
   here : i < length starts
   here = omega (arith, held .starts-sized)
 
@@ -52,7 +52,7 @@ module _ (starts keys : List ℕ) (i m : ℕ) (held : Held starts keys i m) (h :
   pub second-room : (k : ℕ) → m + 1 < length (set keys m k)
   second-room k = rw length-set room
 
-  pub adds-never : (met : Met) (inside : Bool) (b : ℕ) → met ≡ Never inside → b ≡ bitOf inside → Adds (cutOf met) starts keys i m (set starts i b) keys (added.Count m)
+  pub adds-never : (met : Met) (inside : Bool) (b : ℕ) → met ≡ Never inside → b ≡ bitOf inside → Adds w (cutOf met) starts keys i m (set starts i b) keys (added.Count m)
   adds-never met inside b e f = rw e (
     refl,
     record { starts-sized = length-set starts i b ∙ held .starts-sized; keys-sized = held .keys-sized; some = omega arith; few = omega (arith, held .few) },
@@ -63,7 +63,7 @@ module _ (starts keys : List ℕ) (i m : ℕ) (held : Held starts keys i m) (h :
     },
   )
 
-  pub adds-once : (met : Met) (inside : Bool) (a b k : ℕ) → met ≡ Once inside a → b ≡ bitOf inside → k ≡ keyOf a i → Adds (cutOf met) starts keys i m (set starts i b) (set keys m k) (added.Count (m + 1))
+  pub adds-once : (met : Met) (inside : Bool) (a b k : ℕ) → met ≡ Once inside a → b ≡ bitOf inside → k ≡ keyOf a i → Adds w (cutOf met) starts keys i m (set starts i b) (set keys m k) (added.Count (m + 1))
   adds-once met inside a b k e f p = rw e (
     refl,
     record { starts-sized = length-set starts i b ∙ held .starts-sized; keys-sized = length-set keys m k ∙ held .keys-sized; some = omega arith; few = omega (arith, held .few) },
@@ -76,7 +76,7 @@ module _ (starts keys : List ℕ) (i m : ℕ) (held : Held starts keys i m) (h :
     },
   )
 
-  pub adds-twice : (met : Met) (a b k l : ℕ) → met ≡ Twice a b → k ≡ keyOf a i → l ≡ keyOf b i → Adds (cutOf met) starts keys i m (set starts i 0) (set (set keys m k) (m + 1) l) (added.Count (m + 2))
+  pub adds-twice : (met : Met) (a b k l : ℕ) → met ≡ Twice a b → k ≡ keyOf a i → l ≡ keyOf b i → Adds w (cutOf met) starts keys i m (set starts i 0) (set (set keys m k) (m + 1) l) (added.Count (m + 2))
   adds-twice met a b k l e p q = rw e (
     refl,
     record { starts-sized = length-set starts i 0 ∙ held .starts-sized; keys-sized = length-set (set keys m k) (m + 1) l ∙ length-set keys m k ∙ held .keys-sized; some = omega arith; few = omega (arith, held .few) },
@@ -117,7 +117,7 @@ no-crossings : crossingsFrom 0 [] ≡ []
 unfolding crossingsFrom
 no-crossings = refl
 
-pub going-starts : (number : ℕ) (all : List Cut) (starts keys : List ℕ) → length starts ≡ 256 → length keys ≡ 512 → Going number all starts keys 0 0
+pub going-starts : {w : ℕ} (number : ℕ) (all : List Cut) (starts keys : List ℕ) → length starts ≡ w → length keys ≡ 2 * w → Going w number all starts keys 0 0
 going-starts number all starts keys s k = record {
   held = record { starts-sized = s; keys-sized = k; some = omega arith; few = omega arith };
   within = omega arith;
@@ -125,9 +125,9 @@ going-starts number all starts keys s k = record {
   left = refl;
 }
 
-module _ (number : ℕ) (all : List Cut) (starts keys : List ℕ) (i m : ℕ) (going : Going number all starts keys i m) where
-  module _ (more : i < length all) (c : Cut) (is : c ≡ getD all i fault) (starts′ keys′ : List ℕ) (r : Added) (adds : Adds c starts keys i m starts′ keys′ r) where
-    adds-it : Adds (getD all i fault) starts keys i m starts′ keys′ r
+module _ {w : ℕ} (number : ℕ) (all : List Cut) (starts keys : List ℕ) (i m : ℕ) (going : Going w number all starts keys i m) where
+  module _ (more : i < length all) (c : Cut) (is : c ≡ getD all i fault) (starts′ keys′ : List ℕ) (r : Added) (adds : Adds w c starts keys i m starts′ keys′ r) where
+    adds-it : Adds w (getD all i fault) starts keys i m starts′ keys′ r
     adds-it = rw is at adds
 
     pub going-fault : r ≡ added.Fault → faultless number 0 all ≡ refused number i
@@ -135,9 +135,9 @@ module _ (number : ℕ) (all : List Cut) (starts keys : List ℕ) (i m : ℕ) (g
         let f : getD all i fault ≡ fault = rw e at adds-it in
         going .left ∙ ap (faultless number i) (drop-cons all i fault more) ∙ first-fault number i (getD all i fault) (drop (suc i) all) f
 
-    pub going-on : (n : ℕ) → r ≡ added.Count n → Going number all starts′ keys′ (i + 1) n
+    pub going-on : (n : ℕ) → r ≡ added.Count n → Going w number all starts′ keys′ (i + 1) n
     going-on n e =
-        let counted : Adds (getD all i fault) starts keys i m starts′ keys′ (added.Count n) = rw e at adds-it in
+        let counted : Adds w (getD all i fault) starts keys i m starts′ keys′ (added.Count n) = rw e at adds-it in
         let taken : take (i + 1) all ≡ take i all ++ (getD all i fault ∷ []) = rw (add-one, take-suc all i fault more) in
         record {
           held = counted .1;
@@ -146,7 +146,7 @@ module _ (number : ℕ) (all : List Cut) (starts keys : List ℕ) (i m : ℕ) (g
           left = going .left ∙ ap (faultless number i) (drop-cons all i fault more) ∙ no-fault number i (getD all i fault) (drop (suc i) all) (counted .0) ∙ ap (λ k. faultless number (i + 1) (drop k all)) (sym (add-one i));
         }
 
-  pub going-ends : length all ≤ i → Complete number all starts keys (length all) m
+  pub going-ends : length all ≤ i → Complete w number all starts keys (length all) m
   going-ends h =
       let e : i ≡ length all = omega (arith, going .within) in
       let whole : take i all ≡ all = take-all i all h in
@@ -164,17 +164,17 @@ set-here (x ∷ xs) zero h e = ap (λ (y : ℕ). y ∷ xs) (sym e)
 set-here (x ∷ xs) (suc i) h e = ap (λ (l : List ℕ). x ∷ l) (set-here xs i (omega arith) e)
 
 module _ (number : ℕ) (all : List Cut) (starts keys : List ℕ) (few : length all ≤ 256) (m : ℕ) where
-  past-one : (i : ℕ) → Going number all starts keys i m → i < length all → getD all i fault ≡ cut false [] → getD starts i 0 ≡ 0 → Going number all starts keys (i + 1) m
+  past-one : (i : ℕ) → Going 256 number all starts keys i m → i < length all → getD all i fault ≡ cut false [] → getD starts i 0 ≡ 0 → Going 256 number all starts keys (i + 1) m
   past-one i going more quiet zero-byte =
       let h : i < 256 = omega arith in
       let same : set starts i 0 ≡ starts = set-here starts i (omega (arith, going .held .starts-sized)) zero-byte in
-      let added-never = adds-never starts keys i m (going .held) h (Never false) false 0 refl refl in
-      subst (λ (s : List ℕ). Going number all s keys (i + 1) m) same (going-on number all starts keys i m going more (cut false []) (sym quiet) (set starts i 0) keys (added.Count m) added-never m refl)
+      let added-never = adds-never starts keys i m (going .held) h h (Never false) false 0 refl refl in
+      subst (λ (s : List ℕ). Going 256 number all s keys (i + 1) m) same (going-on number all starts keys i m going more (cut false []) (sym quiet) (set starts i 0) keys (added.Count m) added-never m refl)
 
-  pub going-past : (a d : ℕ) → Going number all starts keys a m → a + d ≤ length all
-      → ((j : ℕ) → a ≤ j → j < a + d → (getD all j fault ≡ cut false []) × (getD starts j 0 ≡ 0)) → Going number all starts keys (a + d) m
-  going-past a zero going within quiet = let e : a ≡ a + 0 = omega arith in subst (λ (i : ℕ). Going number all starts keys i m) e going
+  pub going-past : (a d : ℕ) → Going 256 number all starts keys a m → a + d ≤ length all
+      → ((j : ℕ) → a ≤ j → j < a + d → (getD all j fault ≡ cut false []) × (getD starts j 0 ≡ 0)) → Going 256 number all starts keys (a + d) m
+  going-past a zero going within quiet = let e : a ≡ a + 0 = omega arith in subst (λ (i : ℕ). Going 256 number all starts keys i m) e going
   going-past a (suc d) going within quiet =
       let e : a + d + 1 ≡ a + suc d = omega arith in
       let q = quiet (a + d) (omega arith) (omega arith) in
-      subst (λ (i : ℕ). Going number all starts keys i m) e (past-one (a + d) (going-past a d going (omega arith) (λ j h l. quiet j h (omega arith))) (omega arith) (q .0) (q .1))
+      subst (λ (i : ℕ). Going 256 number all starts keys i m) e (past-one (a + d) (going-past a d going (omega arith) (λ j h l. quiet j h (omega arith))) (omega arith) (q .0) (q .1))

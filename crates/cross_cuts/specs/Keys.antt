@@ -32,11 +32,11 @@ crossingOf key = crossedAt (unrank (key / 256)) (key % 256)
 abbrev pub bitOf : Bool → ℕ
 bitOf inside = cond inside 1 0
 
--- A byte for each of 256 shapes, a key for each of 512 crossings; i shapes and m crossings are there.
-pub record Held (starts keys : List ℕ) (i m : ℕ) : Type 0 where
-  pub starts-sized : length starts ≡ 256
-  pub keys-sized : length keys ≡ 512
-  pub some : i ≤ 256
+-- Room for w shapes, a byte and two keys each; i shapes and m crossings are there.
+pub record Held (w : ℕ) (starts keys : List ℕ) (i m : ℕ) : Type 0 where
+  pub starts-sized : length starts ≡ w
+  pub keys-sized : length keys ≡ 2 * w
+  pub some : i ≤ w
   pub few : m ≤ 2 * i
 
 -- What is there is what these cuts give.
@@ -46,29 +46,29 @@ pub record Gathered (cuts : List Cut) (starts keys : List ℕ) (i m : ℕ) : Typ
   pub keyed : map crossingOf (take m keys) ≡ crossingsFrom 0 cuts
 
 -- One cut more: it is at fault, or it is there with the others.
-abbrev pub Adds : Cut → List ℕ → List ℕ → ℕ → ℕ → List ℕ → List ℕ → Added → Type 0
-Adds c starts keys i m starts′ keys′ added.Fault = c ≡ fault
-Adds c starts keys i m starts′ keys′ (added.Count n) =
-    (sound c ≡ true) × Held starts′ keys′ (i + 1) n × ((cuts : List Cut) → Gathered cuts starts keys i m → Gathered (cuts ++ (c ∷ [])) starts′ keys′ (i + 1) n)
+abbrev pub Adds : ℕ → Cut → List ℕ → List ℕ → ℕ → ℕ → List ℕ → List ℕ → Added → Type 0
+Adds w c starts keys i m starts′ keys′ added.Fault = c ≡ fault
+Adds w c starts keys i m starts′ keys′ (added.Count n) =
+    (sound c ≡ true) × Held w starts′ keys′ (i + 1) n × ((cuts : List Cut) → Gathered cuts starts keys i m → Gathered (cuts ++ (c ∷ [])) starts′ keys′ (i + 1) n)
 
 -- No byte is another than before but that of shape i.
 pub record Elsewhere (i : ℕ) (starts starts′ : List ℕ) : Type 0 where
   pub same : (j : ℕ) → j ≢ i → getD starts′ j 0 ≡ getD starts j 0
 
 -- The first i of all the cuts are gathered, and what is left decides which is at fault.
-pub record Going (number : ℕ) (all : List Cut) (starts keys : List ℕ) (i m : ℕ) : Type 0 where
-  pub held : Held starts keys i m
+pub record Going (w number : ℕ) (all : List Cut) (starts keys : List ℕ) (i m : ℕ) : Type 0 where
+  pub held : Held w starts keys i m
   pub within : i ≤ length all
   pub gathered : Gathered (take i all) starts keys i m
   pub left : faultless number 0 all ≡ faultless number i (drop i all)
 
 -- All of them are gathered, and none is at fault.
-pub record Complete (number : ℕ) (all : List Cut) (starts keys : List ℕ) (n m : ℕ) : Type 0 where
-  pub held : Held starts keys n m
+pub record Complete (w number : ℕ) (all : List Cut) (starts keys : List ℕ) (n m : ℕ) : Type 0 where
+  pub held : Held w starts keys n m
   pub gathered : Gathered all starts keys n m
   pub none : faultless number 0 all ≡ given tt
 
 -- By cases: the first cut at fault, which is refused; or all of them are gathered.
-abbrev pub Ends : ℕ → List Cut → List ℕ → List ℕ → Row → Type 0
-Ends number all starts keys (row.Fault i) = faultless number 0 all ≡ refused number i
-Ends number all starts keys (row.Count m) = Complete number all starts keys (length all) m
+abbrev pub Ends : ℕ → ℕ → List Cut → List ℕ → List ℕ → Row → Type 0
+Ends w number all starts keys (row.Fault i) = faultless number 0 all ≡ refused number i
+Ends w number all starts keys (row.Count m) = Complete w number all starts keys (length all) m

@@ -1,6 +1,7 @@
 // What a line meets of each shape, gathered: the start row's bytes, and a key for each crossing.
 ghost use mathlib.Core.Path.{_≡_};
 ghost use Prim.Native.Nat.{_+_, _*_, _<_};
+ghost use lib.ListN.{length};
 ghost use Rattle.cross_cuts.specs.Keys.{cutOf, keyOf, bitOf, Held, Adds, Elsewhere};
 
 // What a line meets of a shape: the shape is at fault; or whether it starts inside, with no, one or two crossings, each by its rank.
@@ -41,8 +42,8 @@ fn bit(inside: bool) -> u8
 
 // Takes in what is met of shape i, where m crossings are there.
 pub fn add(met: Met, i: usize, m: usize, starts: &mut [u8], keys: &mut [u64]) -> Added
-    requires { ⌜ Held (now starts) (now keys) i m × (i < 256) ⌝ }
-    ensures { λ r. ⌜ Adds (cutOf met) (now (starts .entry)) (now (keys .entry)) i m (now (starts .exit)) (now (keys .exit)) r ⌝ }
+    requires { ⌜ Held (length (now starts)) (now starts) (now keys) i m × (i < 256) × (i < length (now starts)) ⌝ }
+    ensures { λ r. ⌜ Adds (length (now (starts .entry))) (cutOf met) (now (starts .entry)) (now (keys .entry)) i m (now (starts .exit)) (now (keys .exit)) r ⌝ }
     ensures { λ _. ⌜ Elsewhere i (now (starts .entry)) (now (starts .exit)) ⌝ }
 {
     match met {

@@ -16,6 +16,7 @@ use Rattle.cross_cuts.specs.declared.Row.the-variants as row
 use Rattle.cross_answer.proofs.GiveLaws.{crossings-count}
 use Rattle.cross_shapes.specs.declared.Probe.{Probe}
 use Rattle.cross_line.specs.Crossing.{goodProbe, shapeCuts}
+use Rattle.cross_line.specs.Making.{Gatherable, Gathers}
 use Rattle.cross_line.proofs.LentLaws.{length-cuts, cuts-in-range}
 use Rattle.cross_drawn.specs.Asking.{lineJudged}
 use Rattle.cross_drawn.specs.Drawn.{linesFrom, drawn}
@@ -32,13 +33,19 @@ module _ (kinds : List ℕ) (numbers : List Float) (probe : Probe) (w : Bool) (s
   unfolding lineJudged
   bad-probe e = rw (sym says ∙ e)
 
-  pub lined : w ≡ true → (bytes keys : List ℕ) (r : Row) → Ends 16 (shapeCuts probe kinds numbers) bytes keys r → LineEnds kinds numbers probe bytes keys r
+  pub lined : w ≡ true → (wide : ℕ) {bytes keys : List ℕ} {r : Row} → wide ≡ 256 → Gathers wide 16 (shapeCuts probe kinds numbers) bytes keys r → LineEnds kinds numbers probe bytes keys r
   unfolding lineJudged
-  lined e bytes keys (row.Fault i) ends = rw (sym says ∙ e) ends
-  lined e bytes keys (row.Count m) ends = record { not-at-fault = rw (sym says ∙ e) (ends .none); gathered = rw (length-cuts probe kinds numbers) at ends }
+  lined e wide {bytes} {keys} {r} sized gathers = by r (rw sized at (gathers .ends))
+    where
+      by : (r : Row) → Ends 256 16 (shapeCuts probe kinds numbers) bytes keys r → LineEnds kinds numbers probe bytes keys r
+      by (row.Fault i) ends = rw (sym says ∙ e) ends
+      by (row.Count m) ends = record { not-at-fault = rw (sym says ∙ e) (ends .none); gathered = rw (length-cuts probe kinds numbers) at ends }
+
+pub all-gatherable : (kinds : List ℕ) (numbers : List Float) (probe : Probe) (bytes keys : List ℕ) → length kinds ≤ 256 → length bytes ≡ 256 → length keys ≡ 512 → Gatherable (shapeCuts probe kinds numbers) (length kinds) bytes keys
+all-gatherable kinds numbers probe bytes keys few b k = record { counted = sym (length-cuts probe kinds numbers); few = few; room = omega arith; twice = omega arith }
 
 module _ (kinds : List ℕ) (numbers : List Float) (probe : Probe) (bytes keys : List ℕ) (m : ℕ) (sound : Sound kinds numbers probe bytes keys m) where
-  pub sound-held : Held bytes keys (length kinds) m
+  pub sound-held : Held 256 bytes keys (length kinds) m
   sound-held = sound .gathered .held
 
   pub sound-count : length (lineCrossings (shapeCuts probe kinds numbers)) ≡ m

@@ -15,7 +15,7 @@ use Rattle.cross_drawn.specs.Asking.{lineJudged}
 -- A line is not at fault, and what it has of its shapes is gathered.
 pub record Sound (kinds : List ℕ) (numbers : List Float) (probe : Probe) (bytes keys : List ℕ) (m : ℕ) : Type 0 where
   pub not-at-fault : lineJudged kinds numbers probe ≡ given tt
-  pub gathered : Complete 16 (shapeCuts probe kinds numbers) bytes keys (length kinds) m
+  pub gathered : Complete 256 16 (shapeCuts probe kinds numbers) bytes keys (length kinds) m
 
 -- By cases: the line or its first shape at fault; or all is gathered.
 abbrev pub LineEnds : List ℕ → List Float → Probe → List ℕ → List ℕ → Row → Type 0

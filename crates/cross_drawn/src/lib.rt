@@ -1,5 +1,6 @@
 // One of many lines: read as it is lent, judged, and what it has of its shapes gathered.
 use cross_cuts::Row;
+use cross_line::Maker;
 use cross_shapes::Probe;
 ghost use mathlib.Core.Path.{_≡_};
 ghost use Prim.Native.Nat.{_*_, _≤_};
@@ -45,7 +46,9 @@ pub fn one_line(
     ensures { λ r. ⌜ LineEnds (now (kinds .entry)) (now (numbers .entry)) probe (now (bytes .exit)) (now (keys .exit)) r ⌝ }
 {
     if cross_line::good_probe(probe) {
-        return cross_line::gather(probe, kinds, numbers, bytes, keys);
+        let balls = [0i32; 0];
+        let n = kinds.len();
+        return cross_line::gather(Maker::Drawn(probe), kinds, numbers, &balls, n, bytes, keys);
     }
     Row::Fault(65535)
 }

@@ -62,7 +62,7 @@ pub record Gathering (probe : Probe) (cuts : List Cut) (lows highs : List Float)
   pub crosses : Crosses probe cuts lows highs alone masks halves l g
   pub lessers-beside : Beside (alone .start) (alone .start + 256) l₀ l
   pub greaters-beside : Beside (alone .start) (alone .start + 256) g₀ g
-  pub going : Going 16 cuts bytes keys (min (16 * done) (length cuts)) m
+  pub going : Going 256 16 cuts bytes keys (min (16 * done) (length cuts)) m
   pub clear : Clear halves bytes (min (16 * done) (length cuts)) (length cuts)
 
 module _ {probe : Probe} {cuts : List Cut} {lows highs : List Float} {alone : Alone} {masks halves l₀ g₀ : List ℕ} where
@@ -76,31 +76,31 @@ module _ {probe : Probe} {cuts : List Cut} {lows highs : List Float} {alone : Al
         crosses = crosses;
         lessers-beside = beside-starts;
         greaters-beside = beside-starts;
-        going = subst (λ (i : ℕ). Going 16 cuts bytes keys i 0) e (going-starts 16 cuts bytes keys s k);
+        going = subst (λ (i : ℕ). Going 256 16 cuts bytes keys i 0) e (going-starts 16 cuts bytes keys s k);
         clear = record { zero = λ j h l z. clear .zero j (omega arith) (omega (arith, crosses .counted)) z };
       }
 
   module _ {l g bytes keys : List ℕ} {rest m : ℕ} (at : Gathering probe cuts lows highs alone masks halves l₀ g₀ l g bytes keys rest m) where
     -- up to a shape before which the sixteens have nothing left over
-    past : (i : ℕ) → min (16 * at .done) (length cuts) ≤ i → i ≤ length cuts → ((b : ℕ) → at .done ≤ b → 16 * b < i → bit (alone .left) b ≡ false) → Going 16 cuts bytes keys i m
+    past : (i : ℕ) → min (16 * at .done) (length cuts) ≤ i → i ≤ length cuts → ((b : ℕ) → at .done ≤ b → 16 * b < i → bit (alone .left) b ≡ false) → Going 256 16 cuts bytes keys i m
     past i up short off =
         let a = min (16 * at .done) (length cuts) in
         let e : a + (i - a) ≡ i = omega arith in
-        subst (λ (k : ℕ). Going 16 cuts bytes keys k m) e
+        subst (λ (k : ℕ). Going 256 16 cuts bytes keys k m) e
         (going-past 16 cuts bytes keys (at .crosses .few) m a (i - a) (at .going) (omega arith)
         (λ j h k.
         let n : j < length cuts = omega arith in
         let p = at .crosses .over j n (off (j / 16) (omega arith) (omega arith)) in
         (p .1, at .clear .zero j h n (p .0))))
 
-    gathered : ((b : ℕ) → at .done ≤ b → 16 * b < length cuts → bit (alone .left) b ≡ false) → Ends 16 cuts bytes keys (row.Count m)
+    gathered : ((b : ℕ) → at .done ≤ b → 16 * b < length cuts → bit (alone .left) b ≡ false) → Ends 256 16 cuts bytes keys (row.Count m)
     gathered off = going-ends 16 cuts bytes keys (length cuts) m (past (length cuts) (omega arith) (omega arith) off) (omega arith)
 
-    pub gather-none : rest ≡ 0 → Ends 16 cuts bytes keys (row.Count m)
+    pub gather-none : rest ≡ 0 → Ends 256 16 cuts bytes keys (row.Count m)
     gather-none e = gathered (λ b h k. rest-ends (subst (λ (r : ℕ). Rest (alone .left) r (at .done)) e (at .walked)) b h)
 
     module _ {b : ℕ} (low : Lowest rest b) where
-      pub gather-last : alone .shapes ≤ 16 * b → Ends 16 cuts bytes keys (row.Count m)
+      pub gather-last : alone .shapes ≤ 16 * b → Ends 256 16 cuts bytes keys (row.Count m)
       gather-last over = gathered (λ c h k. rest-none (at .walked) low c h (omega (arith, at .crosses .counted)))
 
       module _ (more : 16 * b < alone .shapes) where
@@ -125,13 +125,13 @@ module _ {probe : Probe} {cuts : List Cut} {lows highs : List Float} {alone : Al
                   subst (λ (i : ℕ). finite (getD highs i nan) ≡ true) e (c .high (k - alone .start) (omega arith));
             }
 
-        block-going : Going 16 cuts bytes keys (16 * b) m
+        block-going : Going 256 16 cuts bytes keys (16 * b) m
         block-going =
             let n = at .crosses .counted in
             let up = rest-up (at .walked) low in
             past (16 * b) (omega arith) (omega arith) (λ c h k. rest-none (at .walked) low c h (omega arith))
 
-        pub block-held : Held bytes keys (16 * b) m
+        pub block-held : Held 256 bytes keys (16 * b) m
         block-held = block-going .held
 
         module _ {l′ g′ : List ℕ} (asked mask hits size : ℕ) (told : Told probe cuts alone halves lows l′ g′ (16 * b) (min 16 (alone .shapes - 16 * b)) asked) (masked : mask ≡ getD masks b 0) (both : hits ≡ bitAnd asked mask)
@@ -191,9 +191,9 @@ module _ {probe : Probe} {cuts : List Cut} {lows highs : List Float} {alone : Al
                 crosses = crosses-still (at .crosses) bl bg;
                 lessers-beside = lessers-further;
                 greaters-beside = greaters-further;
-                going = subst (λ (i : ℕ). Going 16 cuts bytes′ keys′ i k) e (reached .0);
+                going = subst (λ (i : ℕ). Going 256 16 cuts bytes′ keys′ i k) e (reached .0);
                 clear = subst (λ (i : ℕ). Clear halves bytes′ i (length cuts)) e (reached .1);
               }
 
-pub fault-ends : (cuts : List Cut) (halves bytes keys : List ℕ) (stop : ℕ) (found : Row) → Reached cuts halves bytes keys stop found → (i : ℕ) → found ≡ row.Fault i → Ends 16 cuts bytes keys (row.Fault i)
+pub fault-ends : (cuts : List Cut) (halves bytes keys : List ℕ) (stop : ℕ) (found : Row) → Reached cuts halves bytes keys stop found → (i : ℕ) → found ≡ row.Fault i → Ends 256 16 cuts bytes keys (row.Fault i)
 fault-ends cuts halves bytes keys stop found reached i e = rw e at reached

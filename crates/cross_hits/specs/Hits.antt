@@ -89,12 +89,12 @@ pub record Clear (halves bytes : List ℕ) (start stop : ℕ) : Type 0 where
 -- The first shape at fault; or the shapes below stop are gathered, and no byte of a box from there on is set.
 abbrev pub Reached : List Cut → List ℕ → List ℕ → List ℕ → ℕ → Row → Type 0
 Reached all halves bytes keys stop (row.Fault i) = faultless 16 0 all ≡ refused 16 i
-Reached all halves bytes keys stop (row.Count m) = Going 16 all bytes keys stop m × Clear halves bytes stop (length all)
+Reached all halves bytes keys stop (row.Count m) = Going 256 16 all bytes keys stop m × Clear halves bytes stop (length all)
 
 -- A block before it is gathered: the shapes before it are.
 pub record Begun (probe : Probe) (cuts : List Cut) (alone : Alone) (halves : List ℕ) (lows : List Float) (lessers greaters bytes keys : List ℕ) (block : Block) : Type 0 where
   pub few : length cuts ≤ 256
   pub within : block .start + block .size ≤ length cuts
   pub told : Told probe cuts alone halves lows lessers greaters (block .start) (block .size) (block .hits)
-  pub going : Going 16 cuts bytes keys (block .start) (block .count)
+  pub going : Going 256 16 cuts bytes keys (block .start) (block .count)
   pub clear : Clear halves bytes (block .start) (length cuts)

@@ -211,7 +211,7 @@ fn visit(
     keys: &mut [u64],
 ) -> Row
     requires { ⌜ (block .start + block .size ≤ 256) × (length (now lows) ≡ 768) × Sized alone (now halves) (now lessers) (now greaters) ⌝ }
-    requires { ⌜ Held (now bytes) (now keys) (block .start) (block .count) ⌝ }
+    requires { ⌜ Held 256 (now bytes) (now keys) (block .start) (block .count) ⌝ }
     ensures { λ r. ⌜ ((cuts : List Cut) → Begun probe cuts alone (now (halves .entry)) (now (lows .entry)) (now (lessers .entry)) (now (greaters .entry)) (now (bytes .entry)) (now (keys .entry)) block
         → Reached cuts (now (halves .entry)) (now (bytes .exit)) (now (keys .exit)) (block .start + block .size) r) ⌝ }
     ensures { λ _. ⌜ (length (now (bytes .exit)) ≡ 256) × (length (now (keys .exit)) ≡ 512) ⌝ }
@@ -226,9 +226,7 @@ fn visit(
         let i = block.start + c;
         let met = met_at(probe, i, alone, halves, lows, lessers, greaters);
         match cross_cuts::add(met, i, m, bytes, keys) {
-            Added::Fault => {
-                return Row::Fault(i);
-            }
+            Added::Fault => return Row::Fault(i),
             Added::Count(n) => {
                 m = n;
                 rest = word_bits::others(rest);
@@ -297,7 +295,7 @@ pub fn gather(
 ) -> Row
     requires { ⌜ (length (now bytes) ≡ 256) × (length (now keys) ≡ 512) × Clear (now halves) (now bytes) 0 (alone .shapes) ⌝ }
     requires { ⌜ Crosses probe (cutsIn probe (alone .shapes) (now lows) (now highs) (now halves)) (now lows) (now highs) alone (now masks) (now halves) (now lessers) (now greaters) ⌝ }
-    ensures { λ r. ⌜ Ends 16 (cutsIn probe (alone .shapes) (now (lows .entry)) (now (highs .entry)) (now (halves .entry))) (now (bytes .exit)) (now (keys .exit)) r ⌝ }
+    ensures { λ r. ⌜ Ends 256 16 (cutsIn probe (alone .shapes) (now (lows .entry)) (now (highs .entry)) (now (halves .entry))) (now (bytes .exit)) (now (keys .exit)) r ⌝ }
     ensures { λ _. ⌜ Beside (alone .start) (alone .start + 256) (now (lessers .entry)) (now (lessers .exit)) × Beside (alone .start) (alone .start + 256) (now (greaters .entry)) (now (greaters .exit)) ⌝ }
 {
     let mut rest = alone.left;
@@ -326,9 +324,7 @@ pub fn gather(
             bytes,
             keys,
         ) {
-            Row::Fault(i) => {
-                return Row::Fault(i);
-            }
+            Row::Fault(i) => return Row::Fault(i),
             Row::Count(k) => {
                 m = k;
                 rest = word_bits::others(rest);

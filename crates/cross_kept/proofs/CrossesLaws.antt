@@ -13,7 +13,6 @@ use lib.IntN.{ℤ, pos, negsuc}
 use lib.Signed.{ltZ}
 use lib.ListN.{getD}
 use lib.Ieee.{Float, nan, lt}
-use Rattle.outcome.specs.Outcome.{given}
 use Rattle.cross_ranks.specs.Ranks.{unrank}
 use Rattle.cross_ranks.proofs.RankLaws.{unrank-lt}
 use Rattle.cross_positions.specs.Positions.{allowed, inRange, nearestWhole, distance, position}

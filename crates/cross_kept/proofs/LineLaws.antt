@@ -36,11 +36,11 @@ isRefused (given a) = false
 isRefused (refused number place) = true
 isRefused (unfit number place) = true
 
-complete : (cuts : List Cut) (shapes : ℕ) → length cuts ≡ shapes → (bytes keys : List ℕ) → faultless 16 0 cuts ≡ given tt → (r : Row) (n : ℕ) → Ends 16 cuts bytes keys r → Counted r n → Complete 16 cuts bytes keys shapes n
+complete : (cuts : List Cut) (shapes : ℕ) → length cuts ≡ shapes → (bytes keys : List ℕ) → faultless 16 0 cuts ≡ given tt → (r : Row) (n : ℕ) → Ends 256 16 cuts bytes keys r → Counted r n → Complete 256 16 cuts bytes keys shapes n
 unfolding isRefused
 complete cuts shapes long bytes keys no-fault (row.Fault i) n ends counted = absurd (true≢false (ap isRefused (sym ends ∙ no-fault)))
 complete cuts shapes long bytes keys no-fault (row.Count m) n ends counted =
-    subst (λ (k : ℕ). Complete 16 cuts bytes keys k n) long (subst (λ (k : ℕ). Complete 16 cuts bytes keys (length cuts) k) (sym (counted .is m refl)) ends)
+    subst (λ (k : ℕ). Complete 256 16 cuts bytes keys k n) long (subst (λ (k : ℕ). Complete 256 16 cuts bytes keys (length cuts) k) (sym (counted .is m refl)) ends)
 
 -- ---- a line starts outside of every box
 twice-outside : (r : Range) → startOf (crossedTwice r) ≡ 0
@@ -61,7 +61,7 @@ box-outside probe a b c d e f = by (goodPair a d && (goodPair b e && goodPair c 
     by true = twice-outside (boxRange probe a b c d e f)
     by false = refl
 
-clear-after : (probe : Probe) (shapes : ℕ) (lows highs : List Float) (halves bytes keys : List ℕ) (m : ℕ) → Complete 16 (cutsIn probe shapes lows highs halves) bytes keys shapes m → Clear halves bytes 0 shapes
+clear-after : (probe : Probe) (shapes : ℕ) (lows highs : List Float) (halves bytes keys : List ℕ) (m : ℕ) → Complete 256 16 (cutsIn probe shapes lows highs halves) bytes keys shapes m → Clear halves bytes 0 shapes
 clear-after probe shapes lows highs halves bytes keys m done = record {
   zero = λ j h l box.
       let whole = boxCut probe (getD lows j nan) (getD lows (256 + j) nan) (getD lows (512 + j) nan) (getD highs j nan) (getD highs (256 + j) nan) (getD highs (512 + j) nan) in
@@ -75,7 +75,7 @@ clear-after probe shapes lows highs halves bytes keys m done = record {
 
 -- ---- the line, over its axes
 module _ {probe : Probe} {kept : Kept} {halves : List ℕ} {lows highs : List Float} {l₀ g₀ bytes₀ keys₀ : List ℕ} (over : Over probe kept halves lows highs l₀ g₀ bytes₀ keys₀) where
-  pub over-crossed : {l g bytes keys : List ℕ} → Beside (kept .alone) (kept .alone + 256) l₀ l → Beside (kept .alone) (kept .alone + 256) g₀ g → (r : Row) (n : ℕ) → Ends 16 (cutsIn probe (kept .shapes) lows highs halves) bytes keys r → Counted r n
+  pub over-crossed : {l g bytes keys : List ℕ} → Beside (kept .alone) (kept .alone + 256) l₀ l → Beside (kept .alone) (kept .alone + 256) g₀ g → (r : Row) (n : ℕ) → Ends 256 16 (cutsIn probe (kept .shapes) lows highs halves) bytes keys r → Counted r n
       → Crossed probe kept halves lows highs l g bytes keys n
   over-crossed {l} {g} {bytes} {keys} bl bg r n ends counted =
       let done = complete (cutsIn probe (kept .shapes) lows highs halves) (kept .shapes) (cuts-length probe lows highs halves (kept .shapes)) bytes keys (over .lent .no-fault) r n ends counted in

@@ -127,7 +127,7 @@ pub record Over (probe : Probe) (kept : Kept) (halves : List ℕ) (lows highs : 
 -- All of its shapes are gathered, and what is kept is kept.
 pub record Crossed (probe : Probe) (kept : Kept) (halves : List ℕ) (lows highs : List Float) (lessers greaters bytes keys : List ℕ) (count : ℕ) : Type 0 where
   pub ranked : Ranked kept halves lows highs lessers greaters
-  pub gathered : Complete 16 (cutsIn probe (kept .shapes) lows highs halves) bytes keys (kept .shapes) count
+  pub gathered : Complete 256 16 (cutsIn probe (kept .shapes) lows highs halves) bytes keys (kept .shapes) count
   pub clear : Clear halves bytes 0 (kept .shapes)
 
 pub record Counted (r : Row) (n : ℕ) : Type 0 where

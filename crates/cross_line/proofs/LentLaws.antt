@@ -4,7 +4,7 @@ use Prim.Native.Nat.{ℕ, zero, suc, _+_, _*_, _<_, _≤_}
 use native.Mathlib.Omega.{arith}
 use mathlib.Core.Bool.{Bool, true, false, not}
 use mathlib.Core.List.{List, [], _∷_, map}
-use borrow.Author.Tests.{eq-eqb, ne-eqb}
+use borrow.Author.Tests.{ne-eqb}
 use lib.ListN.{length, drop, getD, length-map, List·getD-eq-default}
 use lib.Seq.{drop-drop, getD-drop}
 use lib.Ieee.{Float, nan, binary64, div, ofBits}
@@ -27,17 +27,20 @@ pub number-past : (l : List Float) (k : ℕ) → length l ≤ k → div binary64
 number-past l k h = nan-is ∙ sym (List·getD-eq-default l nan h)
 
 -- ---- one shape
-module _ (kinds : List ℕ) (numbers : List Float) (i : ℕ) (a : Float) (first : a ≡ getD numbers (6 * i) nan) where
-  first-is : getD (drop (6 * i) numbers) 0 nan ≡ a
-  first-is = getD-drop (6 * i) numbers 0 nan ∙ ap (λ k. getD numbers k nan) (omega arith) ∙ sym first
+pub block : (numbers : List Float) (n : ℕ) (a b c d e f : Float) → a ≡ getD numbers n nan → b ≡ getD numbers (n + 1) nan → c ≡ getD numbers (n + 2) nan → d ≡ getD numbers (n + 3) nan → e ≡ getD numbers (n + 4) nan → f ≡ getD numbers (n + 5) nan
+    → Block a b c d e f ≡ shapeFrom 255 (drop n numbers)
+block numbers n a b c d e f ea eb ec ed ee ef =
+    let zero-on : n + 0 ≡ n = omega arith in
+    sym (rw (getD-drop n numbers 0 nan, zero-on, getD-drop n numbers 1 nan, getD-drop n numbers 2 nan, getD-drop n numbers 3 nan, getD-drop n numbers 4 nan, getD-drop n numbers 5 nan, ← ea, ← eb, ← ec, ← ed, ← ee, ← ef))
 
-  pub half-space : (getD kinds i 0 ≡ 255 → ⊥) → HalfSpace (getD kinds i 0) a ≡ shapeFrom (getD kinds i 0) (drop (6 * i) numbers)
-  half-space other = sym (rw (ne-eqb (getD kinds i 0) 255 other, first-is))
+module _ (kinds : List ℕ) (numbers : List Float) (i : ℕ) where
+  pub is-block : (shape : Shape) → shape ≡ shapeFrom 255 (drop (6 * i) numbers) → getD kinds i 0 ≡ 255 → shape ≡ shapeFrom (getD kinds i 0) (drop (6 * i) numbers)
+  is-block shape e is = rw is e
 
-  pub block : (b c d e f : Float) → b ≡ getD numbers (6 * i + 1) nan → c ≡ getD numbers (6 * i + 2) nan → d ≡ getD numbers (6 * i + 3) nan → e ≡ getD numbers (6 * i + 4) nan → f ≡ getD numbers (6 * i + 5) nan
-      → getD kinds i 0 ≡ 255 → Block a b c d e f ≡ shapeFrom (getD kinds i 0) (drop (6 * i) numbers)
-  block b c d e f eb ec ed ee ef is =
-      sym (rw (eq-eqb (getD kinds i 0) 255 is, first-is, getD-drop (6 * i) numbers 1 nan, getD-drop (6 * i) numbers 2 nan, getD-drop (6 * i) numbers 3 nan, getD-drop (6 * i) numbers 4 nan, getD-drop (6 * i) numbers 5 nan, ← eb, ← ec, ← ed, ← ee, ← ef))
+  pub half-space : (face : Float) → face ≡ getD numbers (6 * i) nan → (getD kinds i 0 ≡ 255 → ⊥) → HalfSpace (getD kinds i 0) face ≡ shapeFrom (getD kinds i 0) (drop (6 * i) numbers)
+  half-space face first other =
+      let zero-on : 6 * i + 0 ≡ 6 * i = omega arith in
+      sym (rw (ne-eqb (getD kinds i 0) 255 other, getD-drop (6 * i) numbers 0 nan, zero-on, ← first))
 
 -- ---- all of them
 length-shapes : (kinds : List ℕ) (numbers : List Float) → length (shapesOf kinds numbers) ≡ length kinds

@@ -49,9 +49,7 @@ fn judge_alone(k: usize, probe: Probe, kinds: &[u8], numbers: &[f64]) -> Judged
                 line: k,
             };
         }
-        Row::Count(_) => {
-            return Judged::Right;
-        }
+        Row::Count(_) => return Judged::Right,
     }
 }
 
@@ -188,20 +186,16 @@ pub fn cross(
         return refused(14, 0, 0);
     }
     match judge_lines(kinds, numbers, lines, count) {
-        Judged::Wrong { place, line } => {
-            return refused(16, place, line);
-        }
-        Judged::Right => {
-            return give_lines(
-                kinds,
-                numbers,
-                lines,
-                count,
-                rows,
-                line_numbers,
-                positions,
-                shapes,
-            );
-        }
+        Judged::Wrong { place, line } => return refused(16, place, line),
+        Judged::Right => return give_lines(
+            kinds,
+            numbers,
+            lines,
+            count,
+            rows,
+            line_numbers,
+            positions,
+            shapes,
+        ),
     }
 }

@@ -54,10 +54,10 @@ module _ {kinds : List ℕ} {numbers : List Float} {kept : Kept} {lows highs : L
   drawing-taken follows = record { columns = drawing .columns; shapes = follows .shapes-still ∙ drawing .shapes; ranked = follows .ranked; clear = drawing .clear }
 
   module _ {bytes keys : List ℕ} {m : ℕ} (crossed : Crossed probe kept halves lows highs l g bytes keys m) where
-    pub line-gathered : Complete 16 (shapeCuts probe kinds numbers) bytes keys (length kinds) m
+    pub line-gathered : Complete 256 16 (shapeCuts probe kinds numbers) bytes keys (length kinds) m
     line-gathered =
-        subst (λ (cuts : List Cut). Complete 16 cuts bytes keys (length kinds) m) (columns-cuts probe lows highs halves (drawing .columns))
-        (subst (λ (n : ℕ). Complete 16 (cutsIn probe n lows highs halves) bytes keys n m) (drawing .shapes) (crossed .gathered))
+        subst (λ (cuts : List Cut). Complete 256 16 cuts bytes keys (length kinds) m) (columns-cuts probe lows highs halves (drawing .columns))
+        (subst (λ (n : ℕ). Complete 256 16 (cutsIn probe n lows highs halves) bytes keys n m) (drawing .shapes) (crossed .gathered))
 
     pub drawing-next : Drawing kinds numbers kept lows highs halves l g bytes
     drawing-next = record {
@@ -155,7 +155,7 @@ module _ (kinds : List ℕ) (numbers lines : List Float) (count : ℕ) (bytes₀
     pub more-lines : k < length (probesOf lines)
     more-lines = omega (arith, counting .all)
 
-    module _ (bytes keys : List ℕ) (m : ℕ) (gathered : Complete 16 (shapeCuts probe kinds numbers) bytes keys (length kinds) m) where
+    module _ (bytes keys : List ℕ) (m : ℕ) (gathered : Complete 256 16 (shapeCuts probe kinds numbers) bytes keys (length kinds) m) where
       pub sound-here : Sound kinds numbers probe bytes keys m
       sound-here = record { not-at-fault = line-sound; gathered = gathered }
 

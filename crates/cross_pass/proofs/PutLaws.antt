@@ -85,7 +85,7 @@ pub line-put : (k at n m : ℕ) (bytes keys : List ℕ) (R N : List ℕ) (P : Li
 line-put k at n m bytes keys R N P S yR yN yP yS w numbered probe kinds numbers sound same =
     let in-range = cuts-in-range probe kinds numbers in
     let lent = madeLists (take (length R - n * k) (drop (n * k) R)) (take (length P - at) (drop at P)) (take (length S - at) (drop at S)) in
-    let whole : Complete 16 (shapeCuts probe kinds numbers) bytes keys n m = rw same (sound .gathered) in
+    let whole : Complete 256 16 (shapeCuts probe kinds numbers) bytes keys n m = rw same (sound .gathered) in
     record {
       rows = filled-part (startRow (shapeCuts probe kinds numbers)) R yR (n * k) (starts-written whole in-range lent (madeLists yR yP yS) w);
       numbers =
@@ -132,7 +132,7 @@ writing-starts kinds numbers lines count R N P S bytes keys all few shapes-few j
 module _ (kinds : List ℕ) (numbers lines : List Float) (count : ℕ) (R₀ N₀ : List ℕ) (P₀ : List ℤ) (S₀ R N : List ℕ) (P : List ℤ) (S bytes₀ keys₀ : List ℕ) (k at : ℕ)
     (writing : Writing kinds numbers lines count (lineLists R₀ N₀ P₀ S₀) (lineLists R N P S) bytes₀ keys₀ k at) where
   module _ (more : k < count) (probe : Probe) (read : probe ≡ probeFrom (drop (6 * k) lines)) where
-    module _ (bytes keys : List ℕ) (m : ℕ) (gathered : Complete 16 (shapeCuts probe kinds numbers) bytes keys (length kinds) m) where
+    module _ (bytes keys : List ℕ) (m : ℕ) (gathered : Complete 256 16 (shapeCuts probe kinds numbers) bytes keys (length kinds) m) where
       before-here : k < length (probesOf lines)
       before-here = more-lines kinds numbers lines count bytes₀ keys₀ k at (writing .counting) more probe read
 
@@ -199,7 +199,7 @@ module _ (kinds : List ℕ) (numbers lines : List Float) (count : ℕ) (R₀ N�
             sound-count kinds numbers probe bytes keys m sound,
           )
 
-      pub line-held : Held bytes keys (length kinds) m
+      pub line-held : Held 256 bytes keys (length kinds) m
       line-held = sound-held kinds numbers probe bytes keys m sound
 
       pub line-room : RoomFor k at (length kinds) m (lineLists R N P S)

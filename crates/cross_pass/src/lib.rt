@@ -94,7 +94,7 @@ fn write_line(
     positions: &mut [i32],
     shapes: &mut [u16],
 )
-    requires { ⌜ Held (now bytes) (now keys) n m × RoomFor k at n m (lineLists (now rows) (now «line_numbers») (now positions) (now shapes)) ⌝ }
+    requires { ⌜ Held 256 (now bytes) (now keys) n m × RoomFor k at n m (lineLists (now rows) (now «line_numbers») (now positions) (now shapes)) ⌝ }
     ensures { λ _. ⌜ ((probe : Probe) (kinds : List ℕ) (numbers : List Float) → Sound kinds numbers probe (now (bytes .entry)) (now (keys .entry)) m → n ≡ length kinds
         → LinePut (shapeCuts probe kinds numbers) k at (n * k) (lineLists (now (rows .entry)) (now («line_numbers» .entry)) (now (positions .entry)) (now (shapes .entry))) (lineLists (now (rows .exit)) (now («line_numbers» .exit)) (now (positions .exit)) (now (shapes .exit)))) ⌝ }
 {

@@ -4,7 +4,6 @@ use native.Mathlib.Numerals.{add-one}
 use native.Mathlib.Omega.{arith}
 use mathlib.Core.Path.{_≡_, refl, sym, ap, _∙_, fun-ext}
 use mathlib.Core.List.{List, [], _∷_, _++_, map, append-assoc}
-use lib.IntN.{ℤ}
 use lib.ListN.{length, getD, take, List·getD-append}
 use Rattle.outcome.specs.Outcome.{Outcome, given, _>>_}
 use Rattle.outcome.specs.Lent.{filled}

@@ -1,6 +1,6 @@
 -- Judging another ray caster's wall list: the opinion means what document 02 says of the right wall list, and demand 2 carries over to a list judged right.
-use Prim.Native.Nat.{ℕ, _≤_}
-use mathlib.Core.Path.{_≡_, refl, sym, ap, _∙_}
+use Prim.Native.Nat.{ℕ}
+use mathlib.Core.Path.{_≡_, sym, _∙_}
 use mathlib.Core.Bool.{_&&_}
 use mathlib.Core.List.{List, map}
 use lib.Dec.{eqb}

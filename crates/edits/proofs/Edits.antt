@@ -1,5 +1,5 @@
 -- One operation changed: the dwarf tree is the same but for the kind of one record, that of the operation's node.
-use Prim.Native.Nat.{ℕ, zero, suc, _+_, _-_, _<_}
+use Prim.Native.Nat.{ℕ, zero, suc, _+_, _<_}
 use native.Mathlib.Nat.{add-zero, zero-add}
 use native.Mathlib.Omega.{arith}
 use mathlib.Core.Path.{_≡_, refl, sym, ap, ap₂, _∙_}
@@ -9,7 +9,7 @@ use lib.Dec.{eqb}
 use lib.ListN.{length, getD, set}
 use borrow.Author.Tests.{eqb-true, eq-eqb}
 use Rattle.formula.specs.Formula.{Op, union, intersection, Formula, leaf, node}
-use Rattle.contraction.specs.Records.{left, right, Kind, leaf as leafKind, E, R, S, C, number, Rec, absent, leafRec, below, children}
+use Rattle.contraction.specs.Records.{left, right, Kind, leaf as leafKind, E, R, S, C, number, Rec, absent, below, children}
 use Rattle.contraction.specs.Rounds.{dwarf, roundsOf}
 use Rattle.contraction.specs.Height.{worked, longest, path, height, last}
 use Rattle.edits.specs.Edits.{size, remade, only, edited, apart, nodeAt}

@@ -1,7 +1,8 @@
 // The walls that two lines find in a bored block: the first answer of `./try`, before anything is proved.
 use job_classify::ClassifyAnswer;
+ghost use Prim.Native.Nat.{_<_};
 
-fn number(n: usize) {
+fn number(n: u32) {
     io::print_decimal(1, n as u64);
     io::write_all(1, b",");
 }
@@ -10,9 +11,9 @@ fn position(z: i32) {
     let m = cross_ranks::rank_of(z);
     if m < 2147483648 {
         io::write_all(1, b"-");
-        number((2147483648 - m) as usize);
+        number(2147483648 - m);
     } else {
-        number((m - 2147483648) as usize);
+        number(m - 2147483648);
     }
 }
 
@@ -21,12 +22,22 @@ fn name(sheet: &[u8], shape: u16, end: &[u8]) {
     io::write_all(1, end);
 }
 
-fn wall(sheet: &[u8], line: u32, start: i32, end: i32, start_shape: u16, end_shape: u16) {
-    number(line as usize);
-    position(start);
-    position(end);
-    name(sheet, start_shape, b",");
-    name(sheet, end_shape, b"\n");
+fn wall(
+    sheet: &[u8],
+    k: usize,
+    lines: &[u32; 6],
+    starts: &[i32; 6],
+    ends: &[i32; 6],
+    start_shapes: &[u16; 6],
+    end_shapes: &[u16; 6],
+)
+    requires { ⌜ k < 6 ⌝ }
+{
+    number(lines[k]);
+    position(starts[k]);
+    position(ends[k]);
+    name(sheet, start_shapes[k], b",");
+    name(sheet, end_shapes[k], b"\n");
 }
 
 // Line 0 meets nothing; line 1 goes through block and bore, line 2 through the block alone.
@@ -57,14 +68,8 @@ fn classify(
         end_shapes,
     ) {
         ClassifyAnswer::Walls { walls } => walls,
-        ClassifyAnswer::Refused {
-            number: _,
-            place: _,
-        } => 0,
-        ClassifyAnswer::Unfit {
-            number: _,
-            place: _,
-        } => 0,
+        ClassifyAnswer::Refused { .. } => 0,
+        ClassifyAnswer::Unfit { .. } => 0,
     }
 }
 
@@ -86,29 +91,8 @@ fn main() {
     );
     io::write_all(1, b"line,start,end,start_shape,end_shape\n");
     if walls == 3 {
-        wall(
-            sheet,
-            lines[0],
-            starts[0],
-            ends[0],
-            start_shapes[0],
-            end_shapes[0],
-        );
-        wall(
-            sheet,
-            lines[1],
-            starts[1],
-            ends[1],
-            start_shapes[1],
-            end_shapes[1],
-        );
-        wall(
-            sheet,
-            lines[2],
-            starts[2],
-            ends[2],
-            start_shapes[2],
-            end_shapes[2],
-        );
+        wall(sheet, 0, &lines, &starts, &ends, &start_shapes, &end_shapes);
+        wall(sheet, 1, &lines, &starts, &ends, &start_shapes, &end_shapes);
+        wall(sheet, 2, &lines, &starts, &ends, &start_shapes, &end_shapes);
     }
 }

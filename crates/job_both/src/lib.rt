@@ -60,11 +60,7 @@ pub fn run_both(
     match accepting::prepare(fitted, fittings, sheet, &mut codes, &mut k, &mut f, &mut s) {
         Prepared::Refused { number, place } => both_refused(number, place),
         Prepared::Unfit { number, place } => both_unfit(number, place),
-        Prepared::Ready {
-            names,
-            codes: _,
-            built,
-        } => {
+        Prepared::Ready { names, built, .. } => {
             if mixes(order, first.len(), second.len()) {
                 let to_first = run_toggles(
                     &k,

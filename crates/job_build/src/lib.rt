@@ -92,10 +92,6 @@ pub fn build(
     match accepting::prepare(fitted, fittings, sheet, &mut codes, &mut k, &mut f, &mut s) {
         Prepared::Refused { number, place } => BuildAnswer::Refused { number, place },
         Prepared::Unfit { number, place } => BuildAnswer::Unfit { number, place },
-        Prepared::Ready {
-            names: _,
-            codes: _,
-            built,
-        } => give_built(&k, &f, &s, built, kinds, firsts, seconds),
+        Prepared::Ready { built, .. } => give_built(&k, &f, &s, built, kinds, firsts, seconds),
     }
 }

@@ -5,10 +5,10 @@ use mathlib.Core.Path.{_≡_, sym, ap, _∙_, subst}
 use mathlib.Core.List.{List}
 use lib.ListN.{length, take}
 use lib.Seq.{length-take-le}
-use Rattle.outcome.specs.Outcome.{Outcome, given, refused, unfit}
+use Rattle.outcome.specs.Outcome.{given, refused, unfit}
 use Rattle.formula.specs.Formula.{Formula, leaf, node, Over}
 use Rattle.sheet.specs.Sheet.{Sheets, Sheet}
-use Rattle.lines.specs.Lines.{LineLists, AnswerLists, Wall, classified}
+use Rattle.lines.specs.Lines.{LineLists, AnswerLists, classified}
 use Rattle.line_blocks.specs.Blocks.{FewCodes}
 use Rattle.line_walls.specs.Answers.{answered, LinesAnswered, JobDone}
 use Rattle.line_walls.specs.declared.LinesAnswer.{LinesAnswer}

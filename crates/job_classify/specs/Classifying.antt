@@ -1,5 +1,4 @@
 -- Classifying lines: what the job gives for the sheets of a call, the start rows and the crossing lists, and the answer lists as lent.
-use Prim.Native.Nat.{ℕ}
 use mathlib.Core.List.{List}
 use lib.ListN.{length}
 use Rattle.outcome.specs.Outcome.{Outcome, _>>=_}

@@ -1,8 +1,8 @@
 -- The sheet given in the other edition: where its formula begins, and what is written.
-use Prim.Native.Nat.{ℕ, _+_, _-_, _*_, _%_, _≤_, _<_}
+use Prim.Native.Nat.{ℕ, _+_, _-_, _*_, _≤_, _<_}
 use native.Mathlib.Omega.{arith}
-use mathlib.Core.Path.{_≡_, refl, sym, ap, _∙_}
-use mathlib.Core.List.{List, [], _∷_, _++_}
+use mathlib.Core.Path.{_≡_, sym, ap, _∙_}
+use mathlib.Core.List.{List, [], _++_}
 use lib.ListN.{length, getD, take, drop, set, length-set, length-take, length-drop, length-append}
 use lib.Seq.{sets, sets-eq, length-sets, set-append-left, take-at, drop-append-add, drop-drop, length-take-le}
 use Rattle.outcome.specs.Lent.{filled}

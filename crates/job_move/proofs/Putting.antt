@@ -1,13 +1,12 @@
 -- A formula's codes in the order of the edition that it has not.
 use Prim.Native.Nat.{ℕ, _-_, _≤_}
 use native.Mathlib.Omega.{arith}
-use mathlib.Core.Path.{_≡_, ap, _∙_}
+use mathlib.Core.Path.{_≡_, _∙_}
 use mathlib.Core.List.{List}
 use borrow.Author.Tests.{eq-eqb, ne-eqb}
-use Rattle.formula.specs.Formula.{postfix}
 use Rattle.sheet.specs.Sheet.{codesOf, formulaIn}
 use Rattle.sheet_codes.specs.Codes.{CodesStand}
-use Rattle.sheet_descent.specs.Descent.{inPostfix, GoodIn}
+use Rattle.sheet_descent.specs.Descent.{inPostfix}
 use Rattle.sheet_laying.specs.Laid.{Laid}
 use Rattle.job_move.specs.Putting.{OtherCodes}
 

@@ -104,9 +104,9 @@ pub fn move_sheet(fitted: bool, fittings: &[u8], sheet: &[u8], moved: &mut [u8])
         ReadAnswer::Unfit { number, place } => MoveAnswer::Unfit { number, place },
         ReadAnswer::Read {
             names,
-            leaves: _,
             first,
             past,
+            ..
         } => {
             let mut codes = [0u16; 2048];
             let n = other_codes(sheet[4], &sheet[first..past], names, &mut codes);

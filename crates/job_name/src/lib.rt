@@ -1,7 +1,7 @@
 // Asking for a shape's name: where it stands, and its bytes as a part of whichever of two lent sheets holds it.
 use sheet_reading::ReadAnswer;
 ghost use mathlib.Core.Path.{_≡_};
-ghost use Prim.Native.Nat.{suc, _+_, _≤_};
+ghost use Prim.Native.Nat.{_+_, _≤_};
 ghost use lib.ListN.{length};
 ghost use Rattle.sheet.specs.Sheet.{sheetsOf};
 ghost use Rattle.sheet.specs.Walk.{walkEnd};
@@ -97,12 +97,7 @@ pub fn place_name(fitted: bool, fittings: &[u8], sheet: &[u8], shape: usize) -> 
     ensures { λ r. ⌜ placedOf r ≡ placing (sheetsOf fitted (now (fittings .entry)) (now (sheet .entry))) shape ⌝ }
 {
     match sheet_reading::read_sheets(fitted, fittings, sheet) {
-        ReadAnswer::Read {
-            names,
-            leaves: _,
-            first: _,
-            past: _,
-        } => in_sheets(fitted, fittings, sheet, names, shape),
+        ReadAnswer::Read { names, .. } => in_sheets(fitted, fittings, sheet, names, shape),
         ReadAnswer::Refused { number, place } => NameAnswer::Refused { number, place },
         ReadAnswer::Unfit { number, place } => NameAnswer::Unfit { number, place },
     }
@@ -116,14 +111,8 @@ fn part_of<'a>(fittings: &'a [u8], sheet: &'a [u8], found: NameAnswer) -> &'a [u
     match found {
         NameAnswer::Fitting { first, past } => &fittings[first..past],
         NameAnswer::Own { first, past } => &sheet[first..past],
-        NameAnswer::Refused {
-            number: _,
-            place: _,
-        } => &sheet[0..0],
-        NameAnswer::Unfit {
-            number: _,
-            place: _,
-        } => &sheet[0..0],
+        NameAnswer::Refused { .. } => &sheet[0..0],
+        NameAnswer::Unfit { .. } => &sheet[0..0],
     }
 }
 

@@ -48,6 +48,7 @@ use Rattle.cross_drawn.specs.Refusing.{OfLines}
 use Rattle.cross_many.specs.Answer.{manyOf, CrossedMany}
 use Rattle.cross_many.specs.declared.ManyAnswer.{ManyAnswer}
 use Rattle.kressedach.specs.Report.{sheetOf, readReport, nameReport, namesReport, moveReport, buildReport, runReport, classifyReport, judgeReport, crossReport, crossManyReport, NamesReported, MoveReported, BuildReported, RunReported, EditReported, BothReported, ClassifyReported, CrossReported, CrossManyReported}
+use Rattle.kressedach.specs.declared.JudgeReport.{JudgeReport}
 use Rattle.kressedach.specs.declared.CrossReport.{CrossReport}
 use Rattle.kressedach.specs.declared.CrossManyReport.{CrossManyReport}
 use Rattle.kressedach.specs.declared.RunReport.{RunReport}
@@ -177,18 +178,21 @@ module _ {o : Outcome (List Wall)} {lent : AnswerLists} {a : ClassifyAnswer} {af
   classify-unfit {k} {p} is = classify-as (unfit k p) (ap classifiedOf is)
 
 -- of their list's n entries
-module _ (n : ℕ) {o : Outcome Opinion} {a : JudgeAnswer} (said : judgedOf a ≡ o) where
-  pub judge-right : a ≡ judge.Right → judgeReport n (given right) ≡ judgeReport n o
-  judge-right is = ap (judgeReport n) (sym (ap judgedOf is) ∙ said)
+module _ (n : ℕ) {a : JudgeAnswer} where
+  pub judge-right : a ≡ judge.Right → judgeReport n (given right) ≡ judgeReport n (judgedOf a)
+  judge-right is = ap (λ x. judgeReport n (judgedOf x)) (sym is)
 
-  pub judge-wrong : {k : ℕ} → a ≡ judge.Wrong k → judgeReport n (given (wrongAt k)) ≡ judgeReport n o
-  judge-wrong is = ap (judgeReport n) (sym (ap judgedOf is) ∙ said)
+  pub judge-wrong : {k : ℕ} → a ≡ judge.Wrong k → judgeReport n (given (wrongAt k)) ≡ judgeReport n (judgedOf a)
+  judge-wrong is = ap (λ x. judgeReport n (judgedOf x)) (sym is)
 
-  pub judge-refused : {k p v : ℕ} → v ≡ sheetOf k → a ≡ judge.Refused k p → record { number = k; sheet = v; right = false; place = p; index = 0 } ≡ judgeReport n o
-  judge-refused in-sheet is = rw in-sheet (ap (judgeReport n) (sym (ap judgedOf is) ∙ said))
+  pub judge-refused : {k p v : ℕ} → v ≡ sheetOf k → a ≡ judge.Refused k p → record { number = k; sheet = v; right = false; place = p; index = 0 } ≡ judgeReport n (judgedOf a)
+  judge-refused in-sheet is = rw in-sheet (ap (λ x. judgeReport n (judgedOf x)) (sym is))
 
-  pub judge-unfit : {k p : ℕ} → a ≡ judge.Unfit k p → judgeReport n (unfit k p) ≡ judgeReport n o
-  judge-unfit is = ap (judgeReport n) (sym (ap judgedOf is) ∙ said)
+  pub judge-unfit : {k p : ℕ} → a ≡ judge.Unfit k p → judgeReport n (unfit k p) ≡ judgeReport n (judgedOf a)
+  judge-unfit is = ap (λ x. judgeReport n (judgedOf x)) (sym is)
+
+pub judge-reported : (n : ℕ) (a : JudgeAnswer) {o : Outcome Opinion} {r : JudgeReport} → judgedOf a ≡ o → r ≡ judgeReport n (judgedOf a) → r ≡ judgeReport n o
+judge-reported n a said is = is ∙ ap (judgeReport n) said
 
 -- a case of the answer, told as it is reported
 pub cross-case : {a b : CrossAnswer} → a ≡ b → crossReport (crossedOf b) ≡ crossReport (crossedOf a)

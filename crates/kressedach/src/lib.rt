@@ -17,6 +17,7 @@ ghost use Rattle.lines.specs.Lines.{lineLists, answerLists};
 ghost use Rattle.job_classify.specs.Classifying.{classifying};
 ghost use Rattle.line_opinion.specs.Judging.{theirLists};
 ghost use Rattle.job_judge.specs.Judging.{judging};
+ghost use Rattle.job_judge.specs.Judged.{judgedOf};
 ghost use Rattle.cross_answer.specs.Answer.{crossedOf, madeLists};
 ghost use Rattle.cross_line.specs.Crossing.{crossingShapes};
 ghost use Rattle.cross_balls.specs.Balls.{crossingBalls};
@@ -525,40 +526,17 @@ pub extern "C" fn kressedach_classify(
     }
 }
 
-// Judges another ray caster's wall list.
-#[no_mangle]
-pub extern "C" fn kressedach_judge(
-    fitted: bool,
-    fittings: &[u8],
-    sheet: &[u8],
-    rows: &[u8],
-    lines: &[u32],
-    positions: &[i32],
-    shapes: &[u16],
-    their_lines: &[u32],
-    their_starts: &[i32],
-    their_ends: &[i32],
-) -> JudgeReport
-    ensures { λ r. ⌜ r ≡ judgeReport (length (now («their_lines» .entry))) (judging (sheetsOf fitted (now (fittings .entry)) (now (sheet .entry))) (lineLists (now (rows .entry)) (now (lines .entry)) (now (positions .entry)) (now (shapes .entry))) (theirLists (now («their_lines» .entry)) (now («their_starts» .entry)) (now («their_ends» .entry)))) ⌝ }
+// What is reported of the opinion on a list of so many entries.
+fn judge_report(count: usize, answer: JudgeAnswer) -> JudgeReport
+    ensures { λ r. ⌜ r ≡ judgeReport count (judgedOf answer) ⌝ }
 {
-    match job_judge::judge(
-        fitted,
-        fittings,
-        sheet,
-        rows,
-        lines,
-        positions,
-        shapes,
-        their_lines,
-        their_starts,
-        their_ends,
-    ) {
+    match answer {
         JudgeAnswer::Right => JudgeReport {
             number: 0,
             sheet: 0,
             right: true,
             place: 0,
-            index: their_lines.len(),
+            index: count,
         },
         JudgeAnswer::Wrong { index } => JudgeReport {
             number: 0,
@@ -582,6 +560,37 @@ pub extern "C" fn kressedach_judge(
             index: 0,
         },
     }
+}
+
+// Judges another ray caster's wall list.
+#[no_mangle]
+pub extern "C" fn kressedach_judge(
+    fitted: bool,
+    fittings: &[u8],
+    sheet: &[u8],
+    rows: &[u8],
+    lines: &[u32],
+    positions: &[i32],
+    shapes: &[u16],
+    their_lines: &[u32],
+    their_starts: &[i32],
+    their_ends: &[i32],
+) -> JudgeReport
+    ensures { λ r. ⌜ r ≡ judgeReport (length (now («their_lines» .entry))) (judging (sheetsOf fitted (now (fittings .entry)) (now (sheet .entry))) (lineLists (now (rows .entry)) (now (lines .entry)) (now (positions .entry)) (now (shapes .entry))) (theirLists (now («their_lines» .entry)) (now («their_starts» .entry)) (now («their_ends» .entry)))) ⌝ }
+{
+    let answer = job_judge::judge(
+        fitted,
+        fittings,
+        sheet,
+        rows,
+        lines,
+        positions,
+        shapes,
+        their_lines,
+        their_starts,
+        their_ends,
+    );
+    judge_report(their_lines.len(), answer)
 }
 
 fn cross_report(answer: CrossAnswer) -> CrossReport
@@ -643,7 +652,7 @@ pub extern "C" fn kressedach_cross_balls(
     ensures { λ r. ⌜ CrossReported (crossingBalls (now (numbers .entry)) (length (now (starts .entry))) (length (now (positions .entry))) (length (now (shapes .entry))))
         (madeLists (now (starts .entry)) (now (positions .entry)) (now (shapes .entry))) r (madeLists (now (starts .exit)) (now (positions .exit)) (now (shapes .exit))) ⌝ }
 {
-    cross_report(cross_balls::cross(numbers, starts, positions, shapes))
+    cross_report(cross_line::cross_balls(numbers, starts, positions, shapes))
 }
 
 fn cross_many_report(answer: ManyAnswer) -> CrossManyReport

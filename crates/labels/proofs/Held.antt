@@ -5,10 +5,10 @@ use native.Mathlib.Omega.{arith}
 use mathlib.Core.Path.{_≡_, refl, sym, ap, _∙_}
 use mathlib.Core.Bool.{true}
 use mathlib.Core.List.{List, [], _∷_, _++_, map}
-use lib.ListN.{length, getD, take, length-append, length-map, List·getD-append, List·getD-map}
-use lib.Seq.{take-all, getD-take, getD-append-add}
+use lib.ListN.{length, getD, take, length-append, List·getD-append, List·getD-map}
+use lib.Seq.{getD-take, getD-append-add}
 use Rattle.formula.specs.Formula.{Formula, leaf, node, Over, leaves as leavesOf}
-use Rattle.contraction.specs.Records.{leaf as leafKind, number, Rec, kindsOf, firstsOf, secondsOf, isLeaf, over}
+use Rattle.contraction.specs.Records.{leaf as leafKind, number, Rec, isLeaf, over}
 use Rattle.contraction.specs.Rounds.{dwarf, leafRecs, enough, planted}
 use Rattle.contraction.proofs.Worked.{each-append}
 use Rattle.contraction.proofs.Rounds.{allMade, dwarf-all, length-leafRecs, root}

@@ -9,7 +9,7 @@ use borrow.Author.Tests.{eq-eqb, ne-eqb}
 use lib.Dec.{eqb}
 use lib.IntN.{ℤ}
 use lib.ListN.{length, getD, length-drop}
-use Rattle.lines.specs.Lines.{LineLists, lineLists, rowCount}
+use Rattle.lines.specs.Lines.{lineLists, rowCount}
 use Rattle.lines.proofs.Items.{accepted-whole, accepted-few, accepted-bytes}
 use Rattle.line_lists.specs.Block.{wide, columns, cell, planned, SaidNumbered, SaidAlone}
 use Rattle.line_strips.specs.Filling.{Fillable}
@@ -22,7 +22,7 @@ use Rattle.line_columns.specs.declared.Ended.{Ended}
 use Rattle.line_events.specs.Events.{endsIn}
 use Rattle.line_events.specs.Noted.{Listed}
 use Rattle.line_sweeping.specs.Sweeping.{Sweepable}
-use Rattle.line_blocks.specs.Blocks.{RowMade, Sized, leftOf, Going, BlockAsk, BlockMade}
+use Rattle.line_blocks.specs.Blocks.{RowMade, Sized, leftOf, BlockAsk, BlockMade}
 use Rattle.line_blocks.specs.declared.Pass.{Pass}
 use Rattle.line_blocks.proofs.BlockLaws.{block-fillable, block-sweepable, block-few, block-each, block-next}
 

@@ -19,12 +19,12 @@ use Rattle.line_checking.specs.Verdicts.{verdict, Judged}
 use Rattle.line_checking.specs.declared.Verdict.{Verdict}
 use Rattle.line_checking.specs.declared.Verdict.the-variants as verdicts
 use Rattle.line_lists.specs.Block.{wide, columns}
-use Rattle.line_words.specs.Stretches.{Workable, StandFor}
 use Rattle.line_words.specs.declared.Arranged.{Arranged}
 use Rattle.line_columns.specs.Planning.{WholeRows, NextInside}
 use Rattle.line_columns.specs.declared.Cursor.{Cursor}
 use Rattle.line_columns.proofs.CursorLaws.{cursor-first, first-left, cursor-some, cursor-over, air-first}
-use Rattle.line_blocks.specs.Blocks.{Standing, Sized, leftOf, PassingAt, Going, BlockAsk, SaidOf, Begun, CanPass, FewCodes}
+use Rattle.line_blocks.specs.Blocks.{Sized, leftOf, PassingAt, Going, BlockAsk, SaidOf, Begun, CanPass, FewCodes, CallMade}
+use Rattle.line_blocks.specs.declared.Call.{Call}
 use Rattle.line_blocks.specs.declared.Pass.{Pass}
 
 pub said-first : (names : ℕ) (rows : List ℕ) (count : ℕ) (air : Bool) → WholeRows names rows count → SaidOf air rows → air ≡ true → NextInside names rows 0 count
@@ -81,25 +81,22 @@ passing-room {names = names} {c = c} {p = p} g f from done q = pass-room f names
 
 -- ---- the formula arranged
 
-standing : {codes : List ℕ} {names : ℕ} {table : List ℕ} {arranged : Arranged} → FewCodes codes names → StandFor codes table arranged → Standing table arranged names
-standing ok stand = record { formula = ok .formula; stands = rw (ok .are) at stand; over = ok .over }
-
-module _ {codes : List ℕ} {names : ℕ} {air : Bool} {c : LineLists} {table : List ℕ} {arranged : Arranged} {words : List ℕ}
-    (ok : FewCodes codes names) (stand : StandFor codes table arranged) (taken : Accepted names c) (said : SaidOf air (c .rows)) (w : Workable table arranged) where
-  can-pass : (256 + arranged .rows) * wide ≤ length words → CanPass table arranged names air c words
+module _ {codes : List ℕ} {names : ℕ} {air : Bool} {c : LineLists} {table : List ℕ} {call : Call} {words : List ℕ} (ok : FewCodes codes names) (m : CallMade codes names air (c .rows) table call) (taken : Accepted names c) (said : SaidOf air (c .rows)) where
+  can-pass : (256 + call .arranged .rows) * wide ≤ length words → CanPass table (call .arranged) (call .names) (call .air) c words
   can-pass room =
-      record {
-        evaluable = record { workable = w; room = room };
-        standing = standing ok stand;
+      rw (m .named, m .said)
+      (record {
+        evaluable = record { workable = m .workable; room = room };
+        standing = record { formula = ok .formula; stands = rw (ok .are) at (m .stands); over = ok .over };
         taken = taken;
         said = said;
-      }
+      })
 
-  pub few-rows : arranged .rows ≤ 16 → length words ≡ 272 * wide → CanPass table arranged names air c words
+  pub few-rows : call .arranged .rows ≤ 16 → length words ≡ 272 * wide → CanPass table (call .arranged) (call .names) (call .air) c words
   few-rows few long = can-pass (omega (arith, few, long))
 
-  pub all-rows : length words ≡ 938 * wide + 1 → CanPass table arranged names air c words
-  all-rows long = can-pass (omega (arith, w .enough, long))
+  pub all-rows : length words ≡ 938 * wide + 1 → CanPass table (call .arranged) (call .names) (call .air) c words
+  all-rows long = can-pass (omega (arith, m .workable .enough, long))
 
 -- ---- the judgement
 

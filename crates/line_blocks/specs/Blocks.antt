@@ -1,5 +1,5 @@
 -- What a block of the pass is made of, and what the pass over the blocks keeps, whatever is done with the walls.
-use Prim.Native.Nat.{ℕ, _+_, _*_, _/_, _<_, _≤_}
+use Prim.Native.Nat.{ℕ, _+_, _*_, _<_, _≤_}
 use mathlib.Core.Path.{_≡_}
 use mathlib.Core.Bool.{Bool, true, false}
 use mathlib.Core.List.{List, _++_}
@@ -7,7 +7,7 @@ use mathlib.Core.Option.{Option}
 use lib.ListN.{length, take, getD}
 use Rattle.formula.specs.Formula.{Formula, postfix, Over}
 use Rattle.formula.specs.States.{State}
-use Rattle.lines.specs.Lines.{LineLists, startState, Wall, Edge}
+use Rattle.lines.specs.Lines.{LineLists, rowCount, startState, Wall, Edge}
 use Rattle.lines.specs.AtIndex.{Accepted}
 use Rattle.lines.specs.Columns.{Column}
 use Rattle.lines.specs.Views.{Passed}
@@ -15,13 +15,14 @@ use Rattle.line_checking.specs.Verdicts.{InAir}
 use Rattle.line_lists.specs.Block.{columns, planned, SaidNumbered}
 use Rattle.line_strips.specs.Strips.{flipsAt, lastAt, Filled}
 use Rattle.line_strips.specs.Filling.{Entered}
-use Rattle.line_words.specs.Stretches.{StandFor}
+use Rattle.line_words.specs.Stretches.{Workable, StandFor}
 use Rattle.line_words.specs.Evaluating.{Evaluable, Root}
 use Rattle.line_words.specs.declared.Arranged.{Arranged}
 use Rattle.line_columns.specs.Planned.{leftAt, PlanSized}
 use Rattle.line_columns.specs.Planning.{AtCursor, NextInside}
 use Rattle.line_writing.specs.Finishing.{Held, held, eventEdge, eventLine, wallsBy, openBy, isOpen}
 use Rattle.line_writing.specs.Spots.{EventHeld}
+use Rattle.line_blocks.specs.declared.Call.{Call}
 use Rattle.line_blocks.specs.declared.Pass.{Pass}
 
 -- ---- a block's row
@@ -120,3 +121,11 @@ pub record FewCodes (codes : List ℕ) (names : ℕ) : Type 0 where
   pub formula : Formula
   pub are : codes ≡ postfix formula
   pub over : Over names formula
+
+-- their call, with the formula arranged in a table
+pub record CallMade (codes : List ℕ) (names : ℕ) (air : Bool) (rows table : List ℕ) (call : Call) : Type 0 where
+  pub workable : Workable table (call .arranged)
+  pub stands : StandFor codes table (call .arranged)
+  pub named : call .names ≡ names
+  pub counted : call .count ≡ rowCount (call .names) rows
+  pub said : call .air ≡ air

@@ -13,7 +13,7 @@ ghost use Rattle.line_lists.specs.Block.{wide, columns, cell};
 ghost use Rattle.line_strips.specs.Filling.{Fillable};
 ghost use Rattle.line_words.specs.Evaluating.{Evaluable};
 ghost use Rattle.line_columns.specs.Planning.{WholeRows, NextInside};
-ghost use Rattle.line_blocks.specs.Blocks.{RowMade, Sized, SaidOf, Begun};
+ghost use Rattle.line_blocks.specs.Blocks.{RowMade, Sized, SaidOf, Begun, FewCodes, CallMade};
 ghost use Rattle.line_blocks.specs.Walls.{StepAsk, StepDone, NothingDone};
 
 const LAST: usize = W - 1;
@@ -120,16 +120,9 @@ pub fn step(
     let pass = p.pass;
     let run = p.run;
     let from = pass.cursor;
-    let ended = line_columns::plan(
-        cols,
-        lasts,
-        rows,
-        call.names,
-        call.count,
-        line,
-        from,
-        pass.numbered,
-    );
+    let names = call.names;
+    let count = call.count;
+    let ended = line_columns::plan(cols, lasts, rows, names, count, line, from, pass.numbered);
     let next = ended.next;
     let b = Part {
         first: from.i,
@@ -155,14 +148,34 @@ pub fn step(
         wf,
         wt,
     );
-    let onward = goes_past(lasts, next.c);
     Progress {
         pass: Pass {
             cursor: next,
-            onward,
+            onward: goes_past(lasts, next.c),
             numbered: ended.alone,
         },
         run: after,
+    }
+}
+
+// The call of a formula by its codes, which are arranged in the table.
+pub fn call_of(
+    codes: &[u16],
+    names: usize,
+    air: bool,
+    rows: &[u8],
+    table: &mut [u32; line_words::TABLE],
+) -> Call
+    requires { ⌜ FewCodes (now codes) names × (length (now table) ≡ 2048) ⌝ }
+    ensures { λ r. ⌜ CallMade (now (codes .entry)) names air (now (rows .entry)) (now (table .exit)) r ⌝ }
+{
+    let arranged = line_words::arrange(codes, table);
+    let count = rows.len() / names;
+    Call {
+        arranged,
+        names,
+        count,
+        air,
     }
 }
 

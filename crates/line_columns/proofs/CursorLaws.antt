@@ -1,13 +1,12 @@
 -- A pass over the columns by its cursor: where it begins, that something is left, and where it ends.
-use Prim.Native.Nat.{ℕ, zero, suc, _+_, _-_, _*_, _<_, _≤_}
+use Prim.Native.Nat.{ℕ, zero, suc, _+_, _-_, _*_, _<_}
 use native.Mathlib.Omega.{arith}
-use mathlib.Core.Path.{_≡_, refl, sym, ap, _∙_}
+use mathlib.Core.Path.{_≡_, refl, ap}
 use mathlib.Core.Bool.{Bool, true, false, _||_, _&&_, true≢false, false≢true}
-use mathlib.Core.List.{List, [], _∷_}
-use borrow.Author.Tests.{ltb-true, ltb-false, ne-eqb}
-use lib.Dec.{eqb, ltb}
-use lib.ListN.{getD, length, drop}
-use Rattle.formula.specs.States.{State}
+use mathlib.Core.List.{List, []}
+use borrow.Author.Tests.{ltb-true, ltb-false}
+use lib.Dec.{ltb}
+use lib.ListN.{length, drop}
 use Rattle.lines.specs.Lines.{LineLists, entries, rowCount, startState}
 use Rattle.lines.specs.AtIndex.{Accepted}
 use Rattle.lines.specs.Columns.{anyInside, columnsOf, allColumns}

@@ -3,7 +3,7 @@ use Prim.Native.Nat.{ℕ, _+_, _-_, _%_, _<_, _≤_}
 use native.Mathlib.Omega.{arith}
 use mathlib.Core.Path.{_≡_, refl, sym, ap, _∙_}
 use mathlib.Core.Bool.{Bool, true, false}
-use mathlib.Core.List.{List, [], _∷_}
+use mathlib.Core.List.{List, _∷_}
 use borrow.Author.Tests.{ltb-true, ltb-false, le-leb, lt-leb}
 use lib.Dec.{ltb}
 use lib.IntN.{ℤ}
@@ -17,7 +17,7 @@ use Rattle.line_lists.specs.Block.{Plan, columns, cell, startLine}
 use Rattle.line_strips.specs.Strips.{lastAt}
 use Rattle.line_columns.specs.Planned.{leftAt, startHeld, crossingHeld, heldAt, HeldWithin, PlanSized, BlockPlanned}
 use Rattle.line_runs.specs.Runs.{overAt}
-use Rattle.line_columns.specs.Planning.{AtCursor, NextInside, WholeRows, StartsNext, Planning, PlanningOf, CanPlan, WordNext, WordPlanned, PlanMade}
+use Rattle.line_columns.specs.Planning.{AtCursor, NextInside, StartsNext, Planning, PlanningOf, CanPlan, WordNext, WordPlanned, PlanMade}
 use Rattle.line_columns.proofs.Lefts.{crossing-first, crossing-last, crossing-ends, start-first, start-last, start-ends, none-left}
 
 -- a plan's first n columns stay

@@ -2,7 +2,7 @@
 use Prim.Native.Nat.{ℕ, _+_, _-_, _<_, _≤_}
 use mathlib.Core.Path.{_≡_}
 use mathlib.Core.Bool.{true, cond}
-use mathlib.Core.List.{List, []}
+use mathlib.Core.List.{List}
 use lib.ListN.{getD, length, drop}
 use Rattle.lines.specs.Lines.{LineLists, entries, rowCount, startState, shapeAt}
 use Rattle.lines.specs.Columns.{Column, startColumn, crossingColumn, startsFrom, columnsOf}

@@ -7,7 +7,7 @@ ghost use Prim.Native.Nat.{_+_, _<_, _≤_};
 ghost use lib.ListN.{length};
 ghost use Rattle.lines.specs.Lines.{startState};
 ghost use Rattle.lines.specs.Columns.{anyInside};
-ghost use Rattle.line_lists.specs.Block.{columns, planned, SaidNumbered, SaidAlone};
+ghost use Rattle.line_lists.specs.Block.{planned, SaidNumbered, SaidAlone};
 ghost use Rattle.line_columns.specs.Planning.{NextInside, WholeRows, RowThere, Occupied, StartsNext, LastPut, StartReady, StartPut, CrossingReady, CrossingPut, UntilReady, UntilPut, CrossingsReady, CrossingsPut, CanPlan, WordNext, WordPlanned, PlanMade, RunsOn};
 
 // Beyond every line.

@@ -1,6 +1,6 @@
 -- The events of a block, by its columns: where metal changes, and where it goes on past the last column of its line.
 use Prim.Native.Nat.{ℕ, zero, suc, _+_}
-use mathlib.Core.Bool.{Bool, true, false, not, _&&_, cond, Bool·beq}
+use mathlib.Core.Bool.{Bool, true, not, _&&_, cond, Bool·beq}
 use mathlib.Core.List.{List, [], _∷_, _++_}
 use lib.IntN.{ℤ}
 use lib.ListN.{getD}

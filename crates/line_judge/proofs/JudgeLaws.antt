@@ -19,7 +19,8 @@ use Rattle.line_checking.specs.declared.Verdict.the-variants as verdicts
 use Rattle.line_lists.specs.Block.{columns}
 use Rattle.line_words.specs.Stretches.{StandFor}
 use Rattle.line_words.specs.declared.Arranged.{Arranged}
-use Rattle.line_blocks.specs.Blocks.{Sized, leftOf, PassingAt, Going, CanPass}
+use Rattle.line_blocks.specs.Blocks.{Sized, leftOf, PassingAt, Going, CanPass, CallMade}
+use Rattle.line_blocks.specs.declared.Call.{Call}
 use Rattle.line_blocks.proofs.PassLaws.{going-start, sized-start, passing-start, going-ask, passing-end, verdict-told}
 use Rattle.line_writing.specs.Writing.{openOf, Put, HasRoom}
 use Rattle.line_blocks.specs.Walls.{StepAsk, StepDone, NothingDone}
@@ -181,9 +182,11 @@ module _ {table : List ℕ} {arranged : Arranged} {names : ℕ} {c : LineLists} 
       pub looping-right : length (t .lines) ≤ next → OpinionFound table arranged names c t Right
       looping-right h = record { is = λ f st o. ap given (sym (over f st o ∙ opinion-done t (l .same) next h)) }
 
-pub opinion-given : {codes : List ℕ} {names : ℕ} {c : LineLists} {t : TheirLists} {r : TheirAnswer} {table : List ℕ} {arranged : Arranged} → StandFor codes table arranged → OpinionFound table arranged names c t r
+pub opinion-given : {codes : List ℕ} {names : ℕ} {air : Bool} {rows table : List ℕ} {call : Call} {c : LineLists} {t : TheirLists} {r : TheirAnswer} → CallMade codes names air rows table call → OpinionFound table (call .arranged) (call .names) c t r
     → OpinionGiven codes names c t r
-opinion-given stand w = record { is = λ f q o. w .is f (rw q at stand) o }
+opinion-given {names = names} {table = table} {call = call} {c = c} {t = t} {r = r} m w =
+    let g : OpinionFound table (call .arranged) names c t r = rw (m .named) at w in
+    record { is = λ f q o. g .is f (rw q at (m .stands)) o }
 
 -- ---- the judgement
 

@@ -63,16 +63,9 @@ fn blocks(
             &mut wf,
             &mut wt,
         );
-        let run = p.run;
-        let eaten = line_opinion::eat_all(tl, ts, te, next, &wl, &ws, &we, run.count);
-        match eaten {
-            line_opinion::Eaten::Whole(after) => {
-                next = after;
-                continue;
-            }
-            line_opinion::Eaten::Wrong(index) => {
-                return TheirAnswer::Wrong(index);
-            }
+        match line_opinion::eat_all(tl, ts, te, next, &wl, &ws, &we, p.run.count) {
+            line_opinion::Eaten::Whole(after) => next = after,
+            line_opinion::Eaten::Wrong(index) => return TheirAnswer::Wrong(index),
         }
     }
     if next < tl.len() {
@@ -98,15 +91,8 @@ fn opine(
     ensures { λ r. ⌜ OpinionGiven (now (codes .entry)) names (lineLists (now (rows .entry)) (now (line .entry)) (now (at .entry)) (now (shape .entry))) (theirLists (now (tl .entry)) (now (ts .entry)) (now (te .entry))) r ⌝ }
 {
     let mut table = [0u32; line_words::TABLE];
-    let arranged = line_words::arrange(codes, &mut table);
-    let count = rows.len() / names;
-    let call = line_blocks::Call {
-        arranged,
-        names,
-        count,
-        air,
-    };
-    if arranged.rows <= 16 {
+    let call = line_blocks::call_of(codes, names, air, rows, &mut table);
+    if call.arranged.rows <= 16 {
         let mut words = [0u64; line_words::FEW];
         return blocks(&table, call, &mut words, rows, line, at, shape, tl, ts, te);
     }

@@ -1,12 +1,11 @@
 -- No refusal of judging has number 0.
 use Prim.Native.Nat.{ℕ}
 use native.Mathlib.Omega.{arith}
-use mathlib.Core.Path.{_≡_}
 use mathlib.Core.Bool.{_&&_}
 use mathlib.Core.List.{[]}
 use lib.Dec.{eqb}
 use lib.ListN.{length}
-use Rattle.outcome.specs.Outcome.{given, refused, unfit, _>>_}
+use Rattle.outcome.specs.Outcome.{given, _>>_}
 use Rattle.outcome.specs.Numbered.{Numbered}
 use Rattle.outcome.proofs.NumberedLaws.{given-numbered, asks, then-numbered}
 use Rattle.formula.specs.Formula.{Formula}

@@ -5,9 +5,7 @@ use line_lists::spot;
 ghost use mathlib.Core.Path.{_≡_};
 ghost use mathlib.Core.List.{[], _∷_};
 ghost use Prim.Native.Nat.{_<_};
-ghost use lib.IntN.{pos};
-ghost use lib.ListN.{getD, length, take};
-ghost use lib.Signed.{leZ};
+ghost use lib.ListN.{take};
 ghost use Rattle.line_opinion.specs.Judging.{theirLists, theirs, samePlace, fits};
 ghost use Rattle.line_opinion.specs.Eating.{SameLength, entryAt, needed, EntryThere, Ours, Ate};
 
@@ -114,9 +112,7 @@ pub fn eat_all(
                 k += 1;
                 continue;
             }
-            Eaten::Wrong(index) => {
-                return Eaten::Wrong(index);
-            }
+            Eaten::Wrong(index) => return Eaten::Wrong(index),
         }
     }
     Eaten::Whole(j)

@@ -1,5 +1,5 @@
 -- The whole pass: the walls from the first block to the last.
-use Prim.Native.Nat.{ℕ, _*_}
+use Prim.Native.Nat.{ℕ, _+_, _*_}
 use native.Mathlib.Omega.{arith}
 use mathlib.Core.Path.{_≡_, refl, _∙_}
 use mathlib.Core.Bool.{Bool, true, false, _||_}
@@ -11,7 +11,8 @@ use Rattle.lines.specs.Lines.{LineLists, rowCount, AnswerLists, Wall}
 use Rattle.line_lists.specs.Block.{columns}
 use Rattle.line_words.specs.Stretches.{StandFor}
 use Rattle.line_words.specs.declared.Arranged.{Arranged}
-use Rattle.line_blocks.specs.Blocks.{Sized, PassingAt, Going, CanPass}
+use Rattle.line_blocks.specs.Blocks.{Sized, PassingAt, Going, CanPass, CallMade}
+use Rattle.line_blocks.specs.declared.Call.{Call}
 use Rattle.line_blocks.proofs.PassLaws.{going-start, sized-start, passing-start, going-ask, passing-end}
 use Rattle.line_writing.specs.Writing.{openOf, SameLengths, HasRoom, Written}
 use Rattle.line_blocks.specs.Walls.{roomFor, StepAsk, StepDone, NothingDone}
@@ -89,6 +90,13 @@ module _ {table : List ℕ} {arranged : Arranged} {names : ℕ} {c : LineLists} 
               rw (passing-end (l .going) count (l .counted) t is f (openOf (p .run)) (q .done) none-left (q .passing)) (q .written);
         }
 
-pub walls-given : {codes : List ℕ} {names : ℕ} {c : LineLists} {lent : AnswerLists} {k : ℕ} {after : AnswerLists} {table : List ℕ} {arranged : Arranged} → StandFor codes table arranged → WallsWritten table arranged names c lent k after
-    → WallsGiven codes names c lent k after
-walls-given stand w = record { written = λ f q o. w .written f (rw q at stand) o }
+-- ---- the call of a formula by its codes
+
+module _ {codes : List ℕ} {names : ℕ} {air : Bool} {rows table : List ℕ} {call : Call} {lent : AnswerLists} (m : CallMade codes names air rows table call) where
+  pub call-room : (n : ℕ) → HasRoom (n + rowCount names rows) lent → HasRoom (n + rowCount (call .names) rows) lent
+  call-room n room = rw (m .named) room
+
+  pub walls-given : {c : LineLists} {k : ℕ} {after : AnswerLists} → WallsWritten table (call .arranged) (call .names) c lent k after → WallsGiven codes names c lent k after
+  walls-given {c} {k} {after} w =
+      let g : WallsWritten table (call .arranged) names c lent k after = rw (m .named) at w in
+      record { written = λ f q o. g .written f (rw q at (m .stands)) o }

@@ -81,15 +81,8 @@ fn write(
     ensures { λ r. ⌜ WallsGiven (now (codes .entry)) names (lineLists (now (rows .entry)) (now (line .entry)) (now (at .entry)) (now (shape .entry))) (answerLists (now (wl .entry)) (now (ws .entry)) (now (we .entry)) (now (wf .entry)) (now (wt .entry))) r (answerLists (now (wl .exit)) (now (ws .exit)) (now (we .exit)) (now (wf .exit)) (now (wt .exit))) ⌝ }
 {
     let mut table = [0u32; line_words::TABLE];
-    let arranged = line_words::arrange(codes, &mut table);
-    let count = rows.len() / names;
-    let call = line_blocks::Call {
-        arranged,
-        names,
-        count,
-        air,
-    };
-    if arranged.rows <= 16 {
+    let call = line_blocks::call_of(codes, names, air, rows, &mut table);
+    if call.arranged.rows <= 16 {
         let mut words = [0u64; line_words::FEW];
         return blocks(
             &table,

@@ -6,12 +6,11 @@ use mathlib.Core.Path.{_≡_, refl, sym, ap, _∙_}
 use mathlib.Core.Bool.{Bool, true, false, cond}
 use mathlib.Core.List.{List, [], _∷_, _++_, append-assoc, append-nil}
 use mathlib.Core.Option.{Option, none, some}
-use lib.IntN.{ℤ}
 use lib.ListN.{length, take, getD}
 use lib.Seq.{take-suc}
 use Rattle.lines.specs.Lines.{Wall, Edge}
-use Rattle.line_writing.specs.Finishing.{held, columnOf, ending, beginning, wallsBy, openBy, isOpen}
-use Rattle.line_writing.specs.Spots.{openFrom, ColumnHeld, EventHeld}
+use Rattle.line_writing.specs.Finishing.{ending, beginning, wallsBy, openBy, isOpen}
+use Rattle.line_writing.specs.Spots.{openFrom}
 use Rattle.line_writing.specs.declared.spots.Spot.{Spot}
 
 module _ (edge : ℕ → Edge) (line : ℕ → ℕ) where
@@ -49,8 +48,3 @@ module _ (edge : ℕ → Edge) (line : ℕ → ℕ) where
 pub open-metal : (t : Bool) (p : Spot) → isOpen (openFrom t p) ≡ t
 open-metal true p = refl
 open-metal false p = refl
-
--- ---- an event's line
-
-pub event-column : (ls : List ℕ) (ps : List ℤ) (ss : List ℕ) (a : ℕ) (cols : List ℕ) (e : ℕ) → EventHeld (held ls ps ss a cols) e → ColumnHeld (held ls [] [] a cols) (columnOf e)
-event-column ls ps ss a cols e t = record { narrow = t .column .narrow; sized = t .column .sized; inside = t .column .inside; line = t .column .line }

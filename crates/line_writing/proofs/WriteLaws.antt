@@ -3,32 +3,27 @@ use Prim.Native.Nat.{ℕ, _+_, _-_, _*_, _<_, _≤_}
 use native.Mathlib.Omega.{arith}
 use mathlib.Core.Path.{_≡_, refl, sym, _∙_}
 use mathlib.Core.Bool.{Bool, true, false, cond}
-use mathlib.Core.List.{List, [], _++_}
-use lib.IntN.{ℤ}
+use mathlib.Core.List.{List, _++_}
 use lib.ListN.{length, take, getD, length-append}
 use Rattle.formula.specs.States.{State}
 use Rattle.lines.specs.Lines.{AnswerLists, Wall, Edge}
 use Rattle.line_lists.specs.Block.{columns}
-use Rattle.line_writing.specs.Finishing.{Held, held, columnOf, eventLine, eventEdge, ending, wallsBy}
-use Rattle.line_writing.specs.Spots.{edgeOf, openFrom, ColumnHeld, EventHeld, EventSpot, EventListed, EventBound}
-use Rattle.line_writing.specs.declared.spots.Spot.{Spot}
+use Rattle.line_writing.specs.Finishing.{Held, eventLine, eventEdge, ending, wallsBy}
+use Rattle.line_writing.specs.Spots.{edgeOf, openFrom, EventHeld, EventListed, EventBound}
 use Rattle.line_writing.specs.declared.spots.Bound.{Bound}
-use Rattle.line_writing.proofs.FinishLaws.{walls-next, open-next, event-column}
+use Rattle.line_writing.proofs.FinishLaws.{walls-next, open-next}
 use Rattle.line_writing.specs.Writing.{openOf, openCount, HasRoom, Finishes, Switched, wallCount, Delivering, Made, Delivered}
 use Rattle.line_writing.specs.declared.writing.Course.{Course}
 use Rattle.line_writing.proofs.ListLaws.{put-none, put-more, put-same, same-none, same-more, room-same}
 
 -- ---- one event
 
-pub listed-column : (ls : List ℕ) (ps : List ℤ) (ss : List ℕ) (a : ℕ) (cols events : List ℕ) (k : ℕ) → EventListed (held ls ps ss a cols) events k → (e : ℕ) → e ≡ getD events k 0 → ColumnHeld (held ls [] [] a cols) (columnOf e)
-listed-column ls ps ss a cols events k t e is = rw is (event-column ls ps ss a cols (getD events k 0) (t .event))
-
 module _ (events : List ℕ) (k : ℕ) {b : Held} {e : ℕ} (at : e ≡ getD events k 0) where
   pub listed-event : EventListed b events k → EventHeld b e
   listed-event t = rw at (t .event)
 
-  pub bound-listed : {l : ℕ} {p : Spot} → l ≡ eventLine b e → EventSpot b e p → EventBound b (getD events k 0) (record { line = l; here = p })
-  bound-listed line spot = record { line = rw at at line; spot = rw at at spot }
+  pub bound-listed : {p : Bound} → EventBound b e p → EventBound b (getD events k 0) p
+  bound-listed is = rw at at is
 
 pub switch-room : (r : Course) (lent : AnswerLists) → HasRoom (r .count + openCount r) lent → r .metal ≡ true → HasRoom (r .count + 1) lent
 switch-room r lent room metal = rw metal at room
@@ -92,7 +87,7 @@ module _ {b : Held} {events : List ℕ} {m : ℕ} {r₀ : Course} {lent : Answer
             let line : ℕ → ℕ = eventLine b in
             let p = v .done .made start in
             let e : ℕ = getD events k 0 in
-            let here : edgeOf (x .here) ≡ edge e = is .spot .is start in
+            let here : edgeOf (x .here) ≡ edge e = is .edge start in
             let there : k < length events = omega (arith, v .ok .sized, index) in
             let old : List Wall = wallsBy edge line (openOf r₀) (take k events) in
             let new : List Wall = ending (line e) (edge e) (openOf r) in

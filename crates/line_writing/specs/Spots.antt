@@ -10,7 +10,7 @@ use Rattle.formula.specs.States.{State}
 use Rattle.lines.specs.Lines.{Edge}
 use Rattle.line_lists.specs.Block.{columns, startLine}
 use Rattle.line_writing.specs.Groups.{GroupEnd, GroupShape}
-use Rattle.line_writing.specs.Finishing.{Held, crossingOf, columnOf, edgeThere, eventLine, eventEdge}
+use Rattle.line_writing.specs.Finishing.{Held, crossingOf, columnLine, columnOf, edgeThere, eventLine, eventEdge}
 use Rattle.line_writing.specs.declared.spots.Spot.{Spot}
 use Rattle.line_writing.specs.declared.spots.Bound.{Bound}
 
@@ -41,20 +41,22 @@ pub record CrossingSpot (ls : List ℕ) (ps : List ℤ) (ss : List ℕ) (i : ℕ
   pub at : p .at ≡ getD ps i (pos 0)
   pub shape : GroupShape ls ps ss i (p .shape)
 
--- whatever states the lines start in
-pub record ColumnSpot (b : Held) (j : ℕ) (p : Spot) : Type 0 where
-  pub is : (start : ℕ → State) → edgeOf p ≡ edgeThere start b j
+-- a bound at this crossing
+pub record CrossingBound (ls : List ℕ) (ps : List ℤ) (ss : List ℕ) (i : ℕ) (p : Bound) : Type 0 where
+  pub line : p .line ≡ getD ls i 0
+  pub spot : CrossingSpot ls ps ss i (p .here)
 
-pub record EventSpot (b : Held) (e : ℕ) (p : Spot) : Type 0 where
-  pub is : (start : ℕ → State) → edgeOf p ≡ eventEdge start b e
+-- at this column, and at this event: its line, and the edge there, whatever states the lines start in
+pub record ColumnBound (b : Held) (j : ℕ) (p : Bound) : Type 0 where
+  pub line : p .line ≡ columnLine b j
+  pub edge : (start : ℕ → State) → edgeOf (p .here) ≡ edgeThere start b j
+
+pub record EventBound (b : Held) (e : ℕ) (p : Bound) : Type 0 where
+  pub line : p .line ≡ eventLine b e
+  pub edge : (start : ℕ → State) → edgeOf (p .here) ≡ eventEdge start b e
 
 -- event k of those listed can be looked up
 pub record EventListed (b : Held) (events : List ℕ) (k : ℕ) : Type 0 where
   pub index : k < 2 * columns
   pub sized : length events ≡ 2 * columns
   pub event : EventHeld b (getD events k 0)
-
--- its line, and the edge there
-pub record EventBound (b : Held) (e : ℕ) (p : Bound) : Type 0 where
-  pub line : p .line ≡ eventLine b e
-  pub spot : EventSpot b e (p .here)

@@ -8,8 +8,8 @@ ghost use Prim.Native.Nat.{_*_, _<_};
 ghost use lib.ListN.{length, getD};
 ghost use Rattle.line_lists.specs.Block.{columns};
 ghost use Rattle.line_writing.specs.Groups.{GroupEnd};
-ghost use Rattle.line_writing.specs.Finishing.{held, columnOf, columnLine, eventLine};
-ghost use Rattle.line_writing.specs.Spots.{ColumnHeld, ChangeHeld, EventHeld, CrossingSpot, ColumnSpot, EventSpot, EventListed, EventBound};
+ghost use Rattle.line_writing.specs.Finishing.{held, columnLine};
+ghost use Rattle.line_writing.specs.Spots.{ColumnHeld, ChangeHeld, EventHeld, CrossingSpot, CrossingBound, ColumnBound, EventListed, EventBound};
 
 // Where a wall begins or ends, and the shape there.
 pub struct Spot {
@@ -39,57 +39,43 @@ fn crossing_spot(line: &[u32], at: &[i32], shape: &[u16], i: usize) -> Spot
     Spot { at: p, shape: s }
 }
 
-// The edge at column j of the block whose first crossing is a.
-fn column_spot(
+// What the crossing at i bounds, the last at its position.
+fn crossing_bound(line: &[u32], at: &[i32], shape: &[u16], i: usize) -> Bound
+    requires { ⌜ GroupEnd (now line) (now at) (now shape) i ⌝ }
+    ensures { λ r. ⌜ CrossingBound (now (line .entry)) (now (at .entry)) (now (shape .entry)) i r ⌝ }
+{
+    let here = crossing_spot(line, at, shape, i);
+    Bound {
+        line: line[i],
+        here,
+    }
+}
+
+// What column j bounds, in the block whose first crossing is a.
+fn column_bound(
     line: &[u32],
     at: &[i32],
     shape: &[u16],
     a: usize,
     cols: &[usize; COLUMNS],
     j: usize,
-) -> Spot
+) -> Bound
     requires { ⌜ ChangeHeld (held (now line) (now at) (now shape) a (now cols)) j ⌝ }
-    ensures { λ r. ⌜ ColumnSpot (held (now (line .entry)) (now (at .entry)) (now (shape .entry)) a (now (cols .entry))) j r ⌝ }
+    ensures { λ r. ⌜ ColumnBound (held (now (line .entry)) (now (at .entry)) (now (shape .entry)) a (now (cols .entry))) j r ⌝ }
 {
     let o = cols[j];
     if COLUMNS <= o {
-        return Spot {
-            at: -2147483648,
-            shape: 65535,
+        let l = (o - COLUMNS) as u32;
+        return Bound {
+            line: l,
+            here: Spot {
+                at: -2147483648,
+                shape: 65535,
+            },
         };
     }
     let i = line_lists::crossing_at(a, o, line.len());
-    crossing_spot(line, at, shape, i)
-}
-
-// The edge at event e of such a block.
-fn event_spot(
-    line: &[u32],
-    at: &[i32],
-    shape: &[u16],
-    a: usize,
-    cols: &[usize; COLUMNS],
-    e: usize,
-) -> Spot
-    requires { ⌜ EventHeld (held (now line) (now at) (now shape) a (now cols)) e ⌝ }
-    ensures { λ r. ⌜ EventSpot (held (now (line .entry)) (now (at .entry)) (now (shape .entry)) a (now (cols .entry))) e r ⌝ }
-{
-    if e < COLUMNS {
-        return column_spot(line, at, shape, a, cols, e);
-    }
-    Spot {
-        at: 2147483647,
-        shape: 65535,
-    }
-}
-
-fn column_of(e: usize) -> usize
-    ensures { λ r. ⌜ r ≡ columnOf e ⌝ }
-{
-    if e < COLUMNS {
-        return e;
-    }
-    e - COLUMNS
+    crossing_bound(line, at, shape, i)
 }
 
 fn column_line(line: &[u32], a: usize, cols: &[usize; COLUMNS], j: usize) -> u32
@@ -104,15 +90,32 @@ fn column_line(line: &[u32], a: usize, cols: &[usize; COLUMNS], j: usize) -> u32
     line[i]
 }
 
-// The line on which event e stands.
-fn event_line(line: &[u32], a: usize, cols: &[usize; COLUMNS], e: usize) -> u32
-    requires { ⌜ ColumnHeld (held (now line) [] [] a (now cols)) (columnOf e) ⌝ }
-    ensures { λ r. ⌜ r ≡ eventLine (held (now (line .entry)) [] [] a (now (cols .entry))) e ⌝ }
+// What event e bounds: metal changes at its column, or goes on past its line's end.
+fn event_bound(
+    line: &[u32],
+    at: &[i32],
+    shape: &[u16],
+    a: usize,
+    cols: &[usize; COLUMNS],
+    e: usize,
+) -> Bound
+    requires { ⌜ EventHeld (held (now line) (now at) (now shape) a (now cols)) e ⌝ }
+    ensures { λ r. ⌜ EventBound (held (now (line .entry)) (now (at .entry)) (now (shape .entry)) a (now (cols .entry))) e r ⌝ }
 {
-    column_line(line, a, cols, column_of(e))
+    if e < COLUMNS {
+        return column_bound(line, at, shape, a, cols, e);
+    }
+    let l = column_line(line, a, cols, e - COLUMNS);
+    Bound {
+        line: l,
+        here: Spot {
+            at: 2147483647,
+            shape: 65535,
+        },
+    }
 }
 
-// Where event k of those listed stands.
+// What event k of those listed bounds.
 pub fn bound_at(
     events: &[u16; EVENTS],
     k: usize,
@@ -126,7 +129,5 @@ pub fn bound_at(
     ensures { λ r. ⌜ EventBound (held (now (line .entry)) (now (at .entry)) (now (shape .entry)) a (now (cols .entry))) (getD (now (events .entry)) k 0) r ⌝ }
 {
     let e = event_at(events, k);
-    let here = event_spot(line, at, shape, a, cols, e);
-    let l = event_line(line, a, cols, e);
-    Bound { line: l, here }
+    event_bound(line, at, shape, a, cols, e)
 }

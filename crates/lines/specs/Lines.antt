@@ -7,7 +7,7 @@ use lib.Dec.{ltb, leb, eqb}
 use lib.IntN.{ℤ, pos, negsuc}
 use lib.ListN.{length, getD}
 use lib.Signed.{ltZ, leZ}
-use Rattle.outcome.specs.Outcome.{Outcome, given, refused, _>>_, need, room}
+use Rattle.outcome.specs.Outcome.{Outcome, given, _>>_, need, room}
 use Rattle.formula.specs.Formula.{Formula, inside}
 use Rattle.formula.specs.States.{State, changedBy, flipped}
 

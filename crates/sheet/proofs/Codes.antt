@@ -1,15 +1,15 @@
 -- Codes are judged good exactly if they are some formula's, in postfix order, over the names.
 use Prim.Native.Nat.{ℕ, _+_, _*_, _≤_}
 use native.Mathlib.Omega.{arith}
-use mathlib.Core.Path.{_≡_, refl, sym, ap, _∙_}
+use mathlib.Core.Path.{_≡_, refl, sym, _∙_}
 use mathlib.Core.Bool.{Bool, true, false, cond}
 use mathlib.Core.List.{List, [], _∷_, _++_, append-assoc, append-nil}
 use mathlib.Core.Option.{Option, none, some}
 use lib.ListN.{length, length-append}
-use lib.Dec.{ltb, eqb}
-use borrow.Author.Tests.{ltb-true, eqb-true, eqb-false, lt-ltb, le-ltb}
+use lib.Dec.{ltb}
+use borrow.Author.Tests.{ltb-true, lt-ltb, le-ltb}
 use Rattle.outcome.specs.Outcome.{given}
-use Rattle.formula.specs.Formula.{Op, union, intersection, difference, exclusive, firstOperation, code, Formula, leaf, node, postfix, Over}
+use Rattle.formula.specs.Formula.{Op, firstOperation, code, Formula, leaf, node, postfix, Over}
 use Rattle.formula.specs.Codes.{operation}
 use Rattle.formula.proofs.Codes.{operation-which, operation-code, code-operation}
 use Rattle.sheet.specs.Sheet.{codesOf, joined, oneCode, allCodes, onlyOne, formulaOf}

@@ -77,28 +77,14 @@ fn fit_fields(sheet: &[u8], keys: &mut [u32; 256]) -> Fittings
     let mut names: usize = 0;
     loop {
         match sheet_fields::one_fitting(sheet, at, names, keys) {
-            Field::Name {
-                first: _,
-                past,
-                key,
-            } => {
+            Field::Name { past, key, .. } => {
                 keys[names] = key;
                 at = past;
                 names += 1;
             }
-            Field::Formula {
-                first: _,
-                past: _,
-                leaves: _,
-            } => {
-                return Fittings::Refused(2, at);
-            }
-            Field::End => {
-                return Fittings::Names(names);
-            }
-            Field::Refused(number, place) => {
-                return Fittings::Refused(number, place);
-            }
+            Field::Formula { .. } => return Fittings::Refused(2, at),
+            Field::End => return Fittings::Names(names),
+            Field::Refused(number, place) => return Fittings::Refused(number, place),
         }
     }
 }
@@ -129,11 +115,7 @@ fn read_fields(
     let mut names: usize = 0;
     loop {
         match sheet_fields::one_field(edition, fittings, fitted, sheet, at, names, keys, false) {
-            Field::Name {
-                first: _,
-                past,
-                key,
-            } => {
+            Field::Name { past, key, .. } => {
                 keys[fitted + names] = key;
                 at = past;
                 names += 1;
@@ -142,28 +124,22 @@ fn read_fields(
                 first,
                 past,
                 leaves,
-            } => {
-                return closed(
-                    edition,
-                    fittings,
-                    fitted,
-                    sheet,
-                    names,
-                    keys,
-                    leaves,
-                    first,
-                    past,
-                );
-            }
-            Field::End => {
-                return ReadAnswer::Refused {
-                    number: 1,
-                    place: sheet.len(),
-                };
-            }
-            Field::Refused(number, place) => {
-                return ReadAnswer::Refused { number, place };
-            }
+            } => return closed(
+                edition,
+                fittings,
+                fitted,
+                sheet,
+                names,
+                keys,
+                leaves,
+                first,
+                past,
+            ),
+            Field::End => return ReadAnswer::Refused {
+                number: 1,
+                place: sheet.len(),
+            },
+            Field::Refused(number, place) => return ReadAnswer::Refused { number, place },
         }
     }
 }
@@ -191,19 +167,11 @@ fn closed(
             past,
         },
         Field::Refused(number, place) => ReadAnswer::Refused { number, place },
-        Field::Name {
-            first: _,
-            past: _,
-            key: _,
-        } => ReadAnswer::Refused {
+        Field::Name { .. } => ReadAnswer::Refused {
             number: 2,
             place: past,
         },
-        Field::Formula {
-            first: _,
-            past: _,
-            leaves: _,
-        } => ReadAnswer::Refused {
+        Field::Formula { .. } => ReadAnswer::Refused {
             number: 2,
             place: past,
         },

@@ -3,20 +3,20 @@ use Prim.Native.Nat.{ℕ, zero, suc, _+_, _-_, _<_, _≤_}
 use native.Mathlib.Nat.{add-zero, zero-add, add-suc, suc-add}
 use native.Mathlib.Omega.{arith}
 use mathlib.Core.Path.{_≡_, refl, sym, ap, _∙_}
-use mathlib.Core.Bool.{Bool, true, false, not, _&&_, _||_, or-false, true≢false}
+use mathlib.Core.Bool.{Bool, true, false, not, _&&_, _||_}
 use mathlib.Core.List.{List, [], _∷_}
 use lib.Dec.{eqb}
 use borrow.Author.Tests.{eqb-true, eqb-false, eq-eqb, ne-eqb}
 use lib.ListN.{length, getD, set, take, length-set}
 use lib.Seq.{getD-set-same, getD-set-other, getD-take, take-set-lt, set-getD}
 use Rattle.formula.specs.States.{outside}
-use Rattle.contraction.specs.Records.{Rec, children, listed, over}
+use Rattle.contraction.specs.Records.{children, listed, over}
 use Rattle.contraction.specs.Entries.{entries, recAt, recs}
 use Rattle.contraction.proofs.EntryLaws.{recs-more}
 use Rattle.labels.specs.Labels.{label}
 use Rattle.labels.specs.Linked.{Shaped, Linked}
 use Rattle.labels.proofs.Rules.{label-local}
-use Rattle.labels.proofs.Links.{cases, parent-is, parent-after}
+use Rattle.labels.proofs.Links.{parent-is, parent-after}
 use Rattle.toggle_passes.specs.Reworking.{Steps, steps, changed, reworked, rework}
 use Rattle.toggle_passes.specs.Upwards.{Alone}
 use Rattle.toggle_passes.proofs.Reworking.{rework-skip, rework-here}

@@ -1,7 +1,7 @@
 -- What a run leaves in the lent lists, and the room that it needs.
 use Prim.Native.Nat.{ℕ, _<_, _≤_}
 use mathlib.Core.Path.{_≡_}
-use mathlib.Core.List.{List, []}
+use mathlib.Core.List.{List}
 use lib.ListN.{length, getD}
 use Rattle.outcome.specs.Lent.{filled}
 use Rattle.formula.specs.Formula.{Formula}

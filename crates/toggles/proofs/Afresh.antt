@@ -5,7 +5,7 @@ use mathlib.Core.Path.{_≡_, refl, sym, ap, _∙_}
 use mathlib.Core.Bool.{Bool, true, false, not, cond, _&&_, _||_, true≢false, false≢true}
 use mathlib.Core.List.{List, [], _∷_}
 use lib.Dec.{eqb}
-use borrow.Author.Tests.{eqb-true, eqb-false}
+use borrow.Author.Tests.{eqb-true}
 use lib.ListN.{length, getD, set, length-set}
 use lib.Seq.{getD-set-same, getD-set-other}
 use Rattle.formula.specs.Formula.{Formula}
@@ -15,7 +15,6 @@ use Rattle.contraction.specs.Rounds.{dwarf}
 use Rattle.contraction.specs.Terms.{Each, ChildrenBelow}
 use Rattle.contraction.proofs.Worked.{Good}
 use Rattle.contraction.proofs.Order.{children-smaller}
-use Rattle.contraction.proofs.Over.{over-below}
 use Rattle.labels.specs.Labels.{bit, label, labels, isOf}
 use Rattle.labels.proofs.Rules.{on-bit, label-leaf, label-inner, label-local}
 use Rattle.labels.proofs.Links.{cases}

@@ -64,6 +64,27 @@ same-length-3 c = search needs
 returns-3 : tie.Need-returns-3
 returns-3 c = search (ordered, needs)
 
+sub-sort-3 : tie.Need-sub-sort-3
+sub-sort-3 c = search needs
+
+part-sort-start-3 : tie.Need-part-sort-start-3
+part-sort-start-3 c = search needs
+
+part-sort-end-3 : tie.Need-part-sort-end-3
+part-sort-end-3 c = search needs
+
+slice-aggregate-sort-3 : tie.Need-slice-aggregate-sort-3
+slice-aggregate-sort-3 c = search needs
+
+sort-requires-3 : tie.Need-sort-requires-3
+sort-requires-3 c κs = search needs
+
+same-length-4 : tie.Need-same-length-4
+same-length-4 c = search needs
+
+returns-4 : tie.Need-returns-4
+returns-4 c = search (ordered, needs)
+
 pub order-spec : {M : Type 1} → statement M
 order-spec =
     tie.close
@@ -87,4 +108,11 @@ order-spec =
     slice-aggregate-sort-2
     sort-requires-2
     same-length-3
-    returns-3)
+    returns-3
+    sub-sort-3
+    part-sort-start-3
+    part-sort-end-3
+    slice-aggregate-sort-3
+    sort-requires-3
+    same-length-4
+    returns-4)

@@ -2,7 +2,7 @@
 use borrow.Author.Needs.{needs}
 use native.Mathlib.Omega.{arith}
 use Rattle.word_bits.proofs.OthersLaws.{others-less}
-use Rattle.cross_hits.proofs.VisitLaws.{Walked, walk-starts, walk-held, walk-on, Visits, visit-starts, visit-fault, visit-on, visit-last, visit-none}
+use Rattle.cross_hits.proofs.VisitLaws.{Walked, walk-starts, walk-held, walk-here, walk-on, Visits, visit-starts, visit-fault, visit-on, visit-last, visit-none}
 use Rattle.cross_hits.proofs.visit.Statement.{statement}
 use Rattle.cross_hits.proofs.visit.Tie as tie
 
@@ -34,7 +34,7 @@ met-at-requires : tie.Need-met-at-requires Inv-loop μ-loop
 met-at-requires c κs = search needs
 
 add-requires : tie.Need-add-requires Inv-loop μ-loop
-add-requires c κs = (search (walk-held, needs), omega arith)
+add-requires c κs = (search (walk-held, needs), omega arith, search (walk-here, needs))
 
 enum-told : tie.Need-enum-told Inv-loop μ-loop
 enum-told c = search needs

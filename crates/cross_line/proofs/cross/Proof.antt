@@ -1,41 +1,20 @@
--- `cross_line::cross` meets its contract: refused 16 in order, or what is gathered is given.
-use Rattle.cross_line.proofs.LineLaws.{too-many, bad-line, bad-shape, line-held, all-given}
+-- `cross_line::cross` meets its contract: refused 16 in order, or the answer of both makers.
+use Rattle.cross_line.proofs.LineLaws.{too-many-shapes, bad-line, shapes-counted, shapes-answered}
 use borrow.Author.Needs.{needs}
 use Rattle.cross_line.proofs.cross.Statement.{statement}
 use Rattle.cross_line.proofs.cross.Tie as tie
 
 returns : tie.Need-returns
-returns c = search (too-many, needs)
+returns c = search (too-many-shapes, needs)
 
 good-probe-requires : tie.Need-good-probe-requires
 good-probe-requires c κs = search needs
 
-slice-aggregate-gather : tie.Need-slice-aggregate-gather
-slice-aggregate-gather c = search needs
+slice-aggregate-answer : tie.Need-slice-aggregate-answer
+slice-aggregate-answer c = search needs
 
-slice-aggregate-gather-2 : tie.Need-slice-aggregate-gather-2
-slice-aggregate-gather-2 c = search needs
-
-gather-requires : tie.Need-gather-requires
-gather-requires c κs = search needs
-
-enum-known-i : tie.Need-enum-known-i
-enum-known-i c = search needs
-
-returns-2 : tie.Need-returns-2
-returns-2 c = search (bad-shape, needs)
-
-enum-known-m : tie.Need-enum-known-m
-enum-known-m c = search needs
-
-slice-aggregate-give : tie.Need-slice-aggregate-give
-slice-aggregate-give c = search needs
-
-slice-aggregate-give-2 : tie.Need-slice-aggregate-give-2
-slice-aggregate-give-2 c = search needs
-
-give-requires : tie.Need-give-requires
-give-requires c κs = search (line-held, needs)
+answer-requires : tie.Need-answer-requires
+answer-requires c κs = (search shapes-counted, search needs)
 
 same-length : tie.Need-same-length
 same-length c = search needs
@@ -46,11 +25,11 @@ same-length-2 c = search needs
 same-length-3 : tie.Need-same-length-3
 same-length-3 c = search needs
 
-returns-3 : tie.Need-returns-3
-returns-3 c = search (all-given, needs)
+returns-2 : tie.Need-returns-2
+returns-2 c = search (shapes-answered, needs)
 
-returns-4 : tie.Need-returns-4
-returns-4 c = search (bad-line, needs)
+returns-3 : tie.Need-returns-3
+returns-3 c = search (bad-line, needs)
 
 pub cross-spec : {M : Type 1} → statement M
 cross-spec =
@@ -58,17 +37,10 @@ cross-spec =
     (tie.spec
     returns
     good-probe-requires
-    slice-aggregate-gather
-    slice-aggregate-gather-2
-    gather-requires
-    enum-known-i
-    returns-2
-    enum-known-m
-    slice-aggregate-give
-    slice-aggregate-give-2
-    give-requires
+    slice-aggregate-answer
+    answer-requires
     same-length
     same-length-2
     same-length-3
-    returns-3
-    returns-4)
+    returns-2
+    returns-3)

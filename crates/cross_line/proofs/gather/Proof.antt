@@ -1,31 +1,27 @@
--- `cross_line::gather` meets its contract: the first i shapes are gathered, and what is left decides which is at fault.
+-- `cross_line::gather` meets its contract: the first i are gathered, and what is left decides which is at fault.
 use borrow.Author.Needs.{needs}
-use Rattle.cross_line.proofs.LineLaws.{line-fault, line-on, line-ends}
+use Rattle.cross_line.proofs.LineLaws.{row-starts, row-held, row-fault, row-on, row-ends}
 use Rattle.cross_cuts.specs.Keys.{Going}
-use Rattle.cross_cuts.proofs.GatherLaws.{going-starts}
-use Rattle.cross_line.specs.Crossing.{shapeCuts}
+use Rattle.cross_line.specs.Making.{cutsOf, numberOf}
 use Prim.Native.Nat.{_-_}
 use lib.ListN.{length}
 use Rattle.cross_line.proofs.gather.Statement.{statement}
 use Rattle.cross_line.proofs.gather.Tie as tie
 
 abbrev Inv-loop : tie.InvT-loop
-Inv-loop probe kinds numbers bytes₀ keys₀ i₀ m₀ bytes keys i m = Going 16 (shapeCuts probe kinds numbers) bytes keys i m
+Inv-loop maker kinds numbers balls n bytes₀ keys₀ i₀ m₀ bytes keys i m = Going (length bytes₀) (numberOf maker) (cutsOf maker kinds numbers balls) bytes keys i m
 
 abbrev μ-loop : tie.MeasureT-loop
-μ-loop probe kinds numbers bytes₀ keys₀ i₀ m₀ bytes keys i m = length kinds - i
+μ-loop maker kinds numbers balls n bytes₀ keys₀ i₀ m₀ bytes keys i m = n - i
 
 loop-holds : tie.Need-loop-holds Inv-loop μ-loop
-loop-holds c = search (going-starts, needs)
+loop-holds c = search (row-starts, needs)
 
-shape-at-requires : tie.Need-shape-at-requires Inv-loop μ-loop
-shape-at-requires c κs = search needs
-
-meet-shape-requires : tie.Need-meet-shape-requires Inv-loop μ-loop
-meet-shape-requires c κs = search needs
+meet-at-requires : tie.Need-meet-at-requires Inv-loop μ-loop
+meet-at-requires c κs = search needs
 
 add-requires : tie.Need-add-requires Inv-loop μ-loop
-add-requires c κs = search needs
+add-requires c κs = search (row-held, needs)
 
 enum-told : tie.Need-enum-told Inv-loop μ-loop
 enum-told c = search needs
@@ -37,10 +33,10 @@ same-length-2 : tie.Need-same-length-2 Inv-loop μ-loop
 same-length-2 c = search needs
 
 returns : tie.Need-returns Inv-loop μ-loop
-returns c = search (line-fault, needs)
+returns c = search (row-fault, needs)
 
-enum-known-n : tie.Need-enum-known-n Inv-loop μ-loop
-enum-known-n c = search needs
+enum-known-k : tie.Need-enum-known-k Inv-loop μ-loop
+enum-known-k c = search needs
 
 add-i : tie.Need-add-i Inv-loop μ-loop
 add-i c = search needs
@@ -49,7 +45,7 @@ loop-less : tie.Need-loop-less Inv-loop μ-loop
 loop-less c = search needs
 
 loop-again : tie.Need-loop-again Inv-loop μ-loop
-loop-again c = search (line-on, needs)
+loop-again c = search (row-on, needs)
 
 same-length-3 : tie.Need-same-length-3 Inv-loop μ-loop
 same-length-3 c = search needs
@@ -58,7 +54,7 @@ same-length-4 : tie.Need-same-length-4 Inv-loop μ-loop
 same-length-4 c = search needs
 
 returns-2 : tie.Need-returns-2 Inv-loop μ-loop
-returns-2 c = search (line-ends, needs)
+returns-2 c = search (row-ends, needs)
 
 pub gather-spec : {M : Type 1} → statement M
 gather-spec =
@@ -67,14 +63,13 @@ gather-spec =
     Inv-loop
     μ-loop
     loop-holds
-    shape-at-requires
-    meet-shape-requires
+    meet-at-requires
     add-requires
     enum-told
     same-length
     same-length-2
     returns
-    enum-known-n
+    enum-known-k
     add-i
     loop-less
     loop-again

@@ -4,8 +4,8 @@ use borrow.Author.Needs.{needs}
 use Rattle.kressedach.proofs.kressedach_cross_balls.Statement.{statement}
 use Rattle.kressedach.proofs.kressedach_cross_balls.Tie as tie
 
-cross-requires : tie.Need-cross-requires
-cross-requires c κs = search needs
+cross-balls-requires : tie.Need-cross-balls-requires
+cross-balls-requires c κs = search needs
 
 cross-report-requires : tie.Need-cross-report-requires
 cross-report-requires c κs = search needs
@@ -25,4 +25,4 @@ returns c = search (cross-reported, needs)
 pub kressedach-cross-balls-spec : {M : Type 1} → statement M
 kressedach-cross-balls-spec =
     tie.close
-    (tie.spec cross-requires cross-report-requires same-length same-length-2 same-length-3 returns)
+    (tie.spec cross-balls-requires cross-report-requires same-length same-length-2 same-length-3 returns)

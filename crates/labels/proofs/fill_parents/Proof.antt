@@ -1,5 +1,4 @@
 -- `labels::fill_parents` meets its contract. The loop keeps: the parents among the nodes from j on are filled.
-use Prim.Native.Nat.{_-_}
 use borrow.Author.Needs.{needs}
 use Rattle.labels.proofs.Fills.{ParentsFrom, parents-start, parents-more, parents-end, parents-kept}
 use Rattle.labels.proofs.fill_parents.Statement.{statement}

@@ -77,8 +77,8 @@ eat-all-requires c κs =
     let l = kept-of s in
     (l .loop .inv .same, looping-ours (l .loop .inv) refl (s .step .ensures))
 
-enum-known-eaten : tie.Need-enum-known-eaten Inv-loop μ-loop
-enum-known-eaten c = search needs
+enum-known-after : tie.Need-enum-known-after Inv-loop μ-loop
+enum-known-after c = search needs
 
 loop-less : tie.Need-loop-less Inv-loop μ-loop
 loop-less c =
@@ -89,14 +89,14 @@ loop-less c =
 
 loop-again : tie.Need-loop-again Inv-loop μ-loop
 loop-again c =
-    let w : tie.After-eaten Inv-loop μ-loop = search in
+    let w : tie.After-after Inv-loop μ-loop = search in
     let e : tie.After-eat-all Inv-loop μ-loop = search in
     let s = step-of e in
     let l = kept-of s in
-    looping-more (l .loop .inv) refl (s .step .ensures) (e .eat-all .ensures) (w .eaten .given .1)
+    looping-more (l .loop .inv) refl (s .step .ensures) (e .eat-all .ensures) (w .after .given .1)
 
-enum-known-eaten-2 : tie.Need-enum-known-eaten-2 Inv-loop μ-loop
-enum-known-eaten-2 c = search needs
+enum-known-index : tie.Need-enum-known-index Inv-loop μ-loop
+enum-known-index c = search needs
 
 same-length : tie.Need-same-length Inv-loop μ-loop
 same-length c =
@@ -107,11 +107,11 @@ same-length c =
 
 returns : tie.Need-returns Inv-loop μ-loop
 returns c =
-    let w : tie.After-eaten2 Inv-loop μ-loop = search in
+    let w : tie.After-index Inv-loop μ-loop = search in
     let e : tie.After-eat-all Inv-loop μ-loop = search in
     let s = step-of e in
     let l = kept-of s in
-    looping-wrong (l .loop .inv) refl (s .step .ensures) (e .eat-all .ensures) (w .eaten2 .given .1)
+    looping-wrong (l .loop .inv) refl (s .step .ensures) (e .eat-all .ensures) (w .index .given .1)
 
 same-length-2 : tie.Need-same-length-2 Inv-loop μ-loop
 same-length-2 c = search needs
@@ -144,10 +144,10 @@ blocks-spec =
     slice-aggregate-eat-all-2
     slice-aggregate-eat-all-3
     eat-all-requires
-    enum-known-eaten
+    enum-known-after
     loop-less
     loop-again
-    enum-known-eaten-2
+    enum-known-index
     same-length
     returns
     same-length-2

@@ -5,11 +5,8 @@ use borrow.Author.Needs.{needs}
 use Rattle.line_judge.proofs.opine.Statement.{statement}
 use Rattle.line_judge.proofs.opine.Tie as tie
 
-arrange-requires : tie.Need-arrange-requires
-arrange-requires c κs = search needs
-
-div-count : tie.Need-div-count
-div-count c = search needs
+call-of-requires : tie.Need-call-of-requires
+call-of-requires c κs = search needs
 
 slice-aggregate-blocks : tie.Need-slice-aggregate-blocks
 slice-aggregate-blocks c = search needs
@@ -39,8 +36,7 @@ pub opine-spec : {M : Type 1} → statement M
 opine-spec =
     tie.close
     (tie.spec
-    arrange-requires
-    div-count
+    call-of-requires
     slice-aggregate-blocks
     slice-aggregate-blocks-2
     blocks-requires

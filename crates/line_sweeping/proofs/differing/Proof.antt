@@ -1,6 +1,5 @@
 -- Inverted where there is metal.
 use Rattle.line_sweeping.proofs.BitLaws.{differs-on, differs-off}
-use borrow.Author.Needs.{needs}
 use Rattle.line_sweeping.proofs.differing.Statement.{statement}
 use Rattle.line_sweeping.proofs.differing.Tie as tie
 

@@ -1,15 +1,12 @@
 -- The formula arranged, in few rows or in as many as there can be, and the walls of the whole pass.
 use Rattle.line_blocks.proofs.PassLaws.{few-rows, all-rows}
-use Rattle.line_walls.proofs.LoopLaws.{walls-given}
+use Rattle.line_walls.proofs.LoopLaws.{call-room, walls-given}
 use borrow.Author.Needs.{needs}
 use Rattle.line_walls.proofs.write.Statement.{statement}
 use Rattle.line_walls.proofs.write.Tie as tie
 
-arrange-requires : tie.Need-arrange-requires
-arrange-requires c κs = search needs
-
-div-count : tie.Need-div-count
-div-count c = search needs
+call-of-requires : tie.Need-call-of-requires
+call-of-requires c κs = search needs
 
 slice-aggregate-blocks : tie.Need-slice-aggregate-blocks
 slice-aggregate-blocks c = search needs
@@ -18,7 +15,7 @@ slice-aggregate-blocks-2 : tie.Need-slice-aggregate-blocks-2
 slice-aggregate-blocks-2 c = search needs
 
 blocks-requires : tie.Need-blocks-requires
-blocks-requires c κs = (search few-rows, search needs, search needs)
+blocks-requires c κs = (search few-rows, search call-room, search needs)
 
 same-length : tie.Need-same-length
 same-length c = search needs
@@ -45,7 +42,7 @@ slice-aggregate-blocks-4 : tie.Need-slice-aggregate-blocks-4
 slice-aggregate-blocks-4 c = search needs
 
 blocks-requires-2 : tie.Need-blocks-requires-2
-blocks-requires-2 c κs = (search all-rows, search needs, search needs)
+blocks-requires-2 c κs = (search all-rows, search call-room, search needs)
 
 same-length-6 : tie.Need-same-length-6
 same-length-6 c = search needs
@@ -69,8 +66,7 @@ pub write-spec : {M : Type 1} → statement M
 write-spec =
     tie.close
     (tie.spec
-    arrange-requires
-    div-count
+    call-of-requires
     slice-aggregate-blocks
     slice-aggregate-blocks-2
     blocks-requires
