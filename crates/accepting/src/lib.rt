@@ -1,4 +1,6 @@
 // What every job does first: the sheets are read and judged, the formula's codes and its dwarf tree put into arrays.
+#![tactic(auto)]
+
 ghost use Rattle.std.specs.Prelude.{◌≡◌, length};
 ghost use Rattle.sheet.specs.Sheet.{sheets_of};
 ghost use Rattle.tree_tokens.specs.Tokens.{Shelves};

@@ -1,4 +1,6 @@
 // Small things that every room needs: a number in another width, the larger of two, the end of a part, entries given to a lent list.
+#![tactic(auto)]
+
 ghost use Rattle.std.specs.Prelude.{◌≡◌, ◌-◌, ◌<◌, ◌≤◌, max, length, take};
 ghost use Rattle.outcome.specs.Lent.{filled};
 

@@ -1,5 +1,7 @@
 // Reads cases from standard input, a line each, runs each through its job and prints the answer under the case's name. A line that is no
 // case prints `malformed`. How a case is written stands at the top of the file `stdin`.
+#![tactic(auto)]
+
 ghost use Rattle.std.specs.Prelude.{◌<◌, length};
 
 use case_answers::answering;

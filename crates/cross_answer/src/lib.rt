@@ -1,4 +1,6 @@
 // One line's answer, from what is gathered of its shapes to the lists that are lent.
+#![tactic(auto)]
+
 ghost use Rattle.std.specs.Prelude.{◌≡◌, List, ◌++◌, map, ℕ, ◌≤◌, length, take, drop};
 ghost use Rattle.outcome.specs.Lent.{filled};
 ghost use Rattle.cross_order.specs.Order.{rising};

@@ -1,4 +1,6 @@
 // What one axis of a line says of boxes: a lesser and a greater rank each, with no branch in the loop.
+#![tactic(auto)]
+
 ghost use Rattle.std.specs.Prelude.{◌≡◌, true, false, ◌≢◌, ◌+◌, ◌≤◌};
 ghost use Rattle.std.proofs.Math.Option.{none, some};
 ghost use Rattle.cross_ranks.specs.Ranks.{unrank};

@@ -1,4 +1,6 @@
 // A ball beside a line that is parallel to an axis: where the line meets it.
+#![tactic(auto)]
+
 ghost use Rattle.std.specs.Prelude.{◌≡◌, ◌*◌, ◌<◌, ◌≤◌, pos, length, get_or};
 ghost use Rattle.cross_ranks.specs.Ranks.{unrank};
 ghost use Rattle.cross_cuts.specs.Cuts.{fault};

@@ -1,4 +1,6 @@
 // A drawing in columns: each shape is read and matched once, and its faces are put by axis, each axis a part of 256.
+#![tactic(auto)]
+
 ghost use Rattle.std.specs.Prelude.{◌≡◌, ◌+◌, ◌<◌, ◌≤◌, length, set};
 ghost use Rattle.cross_columns.specs.Columns.{Column, Columns, Sized};
 

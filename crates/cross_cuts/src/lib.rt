@@ -1,4 +1,6 @@
 // What a line meets of each shape, gathered: the start row's bytes, and a key for each crossing.
+#![tactic(auto)]
+
 ghost use Rattle.std.specs.Prelude.{◌≡◌, ◌+◌, ◌*◌, ◌<◌, length};
 ghost use Rattle.cross_cuts.specs.Keys.{cut_of, key_of, bit_of, Held, Adds, Elsewhere};
 

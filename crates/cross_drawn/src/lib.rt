@@ -1,4 +1,6 @@
 // One of many lines: read as it is lent, judged, and what it has of its shapes gathered.
+#![tactic(auto)]
+
 ghost use Rattle.std.specs.Prelude.{◌≡◌, ◌*◌, ◌≤◌, length, drop};
 ghost use Rattle.cross_drawn.specs.Lent.{probe_from, probes_of};
 ghost use Rattle.cross_drawn.specs.Gathered.{LineEnds};

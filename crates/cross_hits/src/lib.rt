@@ -1,5 +1,7 @@
 // One line over its axes: of the shapes that two axes leave over the third is asked, sixteen at a time and without a branch, and the few
 // that are crossed are gathered as for one line.
+#![tactic(auto)]
+
 ghost use Rattle.std.specs.Prelude.{◌≡◌, List, ℕ, ◌+◌, ◌-◌, ◌<◌, ◌≤◌, min, length, get_or};
 ghost use Rattle.word_bits.specs.Words.{Picked};
 ghost use Rattle.cross_axis.specs.Axes.{Fillable, Beside};

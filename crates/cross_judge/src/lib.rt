@@ -1,4 +1,6 @@
 // A line judged by how far the drawing reaches, before its crossings are made: at most six divisions, however many shapes.
+#![tactic(auto)]
+
 ghost use Rattle.std.specs.Prelude.{◌≡◌, true, ◌≤◌, length};
 ghost use Rattle.cross_reach.specs.Reach.{Plain};
 ghost use Rattle.cross_shapes.specs.declared.Shape.TheVariants.{HalfSpace, Block};

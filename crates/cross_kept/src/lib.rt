@@ -1,5 +1,7 @@
 // One line of many over one drawing. Two axes of the line are put together and kept while both stay, with which of the shapes they leave
 // over; the third, which stands alone, is asked of those, and the shapes are gathered as for one line.
+#![tactic(auto)]
+
 ghost use Rattle.std.specs.Prelude.{◌≡◌, true, false, ◌+◌, ◌<◌, ◌≤◌, length};
 ghost use Rattle.word_bits.specs.Words.{Picked};
 ghost use Rattle.cross_line.specs.Crossing.{good_probe};

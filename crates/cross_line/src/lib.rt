@@ -1,4 +1,6 @@
 // One line's crossings, from the drawing's own numbers or of balls. The two jobs ask nothing of their caller.
+#![tactic(auto)]
+
 ghost use Rattle.std.specs.Prelude.{◌≡◌, ◌*◌, ◌<◌, ◌≤◌, length, drop, get_or};
 ghost use Rattle.std.specs.Float.{nan};
 ghost use Rattle.cross_cuts.specs.Cuts.{fault, answered};

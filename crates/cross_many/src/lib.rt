@@ -1,4 +1,6 @@
 // Many lines' crossings with one drawing. The job asks nothing of its caller.
+#![tactic(auto)]
+
 ghost use Rattle.std.specs.Prelude.{◌≡◌, ◌/◌, ◌≤◌, min, length};
 ghost use Rattle.lines.specs.Lines.{line_lists};
 ghost use Rattle.cross_drawn.specs.Asking.{line_judged};

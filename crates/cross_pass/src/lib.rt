@@ -1,4 +1,6 @@
 // The passes over many lines, none of which is at fault: their crossings counted, and all lines written one after another.
+#![tactic(auto)]
+
 ghost use Rattle.std.specs.Prelude.{◌≡◌, ℕ, ◌*◌, ◌≤◌, List, length, replicate, Float};
 ghost use Rattle.outcome.specs.Lent.{filled};
 ghost use Rattle.lines.specs.Lines.{line_lists};

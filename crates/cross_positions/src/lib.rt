@@ -1,5 +1,7 @@
 // The position of a face on a probe line, to the bit: the distance, each operation rounded once, and then the nearest whole number,
 // halves to even, worked out from the bits.
+#![tactic(auto)]
+
 ghost use Rattle.std.specs.Prelude.{◌≡◌, ◌^◌, ◌<◌};
 ghost use Rattle.std.specs.Float.Ieee.Nearest.{closest};
 ghost use Rattle.cross_positions.specs.Positions.{distance, nearest_whole, in_range, position as position_of};

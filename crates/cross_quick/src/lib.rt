@@ -1,4 +1,6 @@
 // A face's position on a line without a branch: one sum of floats rounds to the nearest whole number.
+#![tactic(auto)]
+
 ghost use Rattle.std.specs.Prelude.{◌≡◌, true, false};
 ghost use Rattle.std.proofs.Math.Option.{some};
 ghost use Rattle.std.specs.Float.Ieee.{is_nan};

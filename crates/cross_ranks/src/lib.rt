@@ -1,4 +1,6 @@
 // The bridge between signed numbers and unsigned ones: all else counts without signs.
+#![tactic(auto)]
+
 ghost use Rattle.std.specs.Prelude.{◌≡◌};
 ghost use Rattle.cross_ranks.specs.Ranks.{unrank};
 

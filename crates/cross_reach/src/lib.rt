@@ -1,5 +1,7 @@
 // Whether the positions of every face of a drawing on one axis may be given, by how far the drawing reaches: two divisions, and no face is
 // looked at.
+#![tactic(auto)]
+
 ghost use Rattle.std.specs.Prelude.{◌≡◌, true, false, ◌&&◌};
 ghost use Rattle.std.specs.Float.Ieee.{neg};
 ghost use Rattle.cross_shapes.specs.Shapes.{finite, is_zero};

@@ -1,4 +1,6 @@
 // A whole number's square root, rounded down.
+#![tactic(auto)]
+
 ghost use Rattle.std.specs.Prelude.{◌<◌};
 ghost use Rattle.cross_root.specs.Root.{Root};
 

@@ -1,4 +1,6 @@
 // What a probe line meets of a half-space or a box.
+#![tactic(auto)]
+
 ghost use Rattle.std.specs.Prelude.{◌≡◌, min, max};
 ghost use Rattle.cross_positions.specs.Found.{found_of};
 ghost use Rattle.cross_cuts.specs.Keys.{cut_of};

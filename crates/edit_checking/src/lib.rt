@@ -1,4 +1,6 @@
 // The judgement of edits, one by one: the first that does not fit.
+#![tactic(auto)]
+
 ghost use Rattle.std.specs.Prelude.{◌≡◌, take};
 ghost use Rattle.formula.specs.Codes.{is_operation};
 ghost use Rattle.edit_checking.specs.Fits.{operates_at, in_time, fits as fitsIn, first_unfit};

@@ -1,4 +1,6 @@
 // One edit on a dwarf tree in arrays: the kind of its node changes, and labels are reworked from that node up.
+#![tactic(auto)]
+
 ghost use Rattle.std.specs.Prelude.{◌<◌};
 ghost use Rattle.edit_labels.specs.Edited.{Rekinded, Editable, EditDone};
 

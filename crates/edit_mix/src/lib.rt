@@ -1,4 +1,6 @@
 // One act of a run on a dwarf tree in arrays: the edit whose moment has come, or the next toggle.
+#![tactic(auto)]
+
 ghost use Rattle.std.specs.Prelude.{◌≡◌, ◌+◌, ◌<◌, length, set};
 ghost use Rattle.edit_moments.specs.Waiting.{desk};
 ghost use Rattle.edit_mix.specs.Acting.{CanToggle, ToggleDone, CanAct, Acted};

@@ -1,4 +1,6 @@
 // The edit that acts next in a run: the node of its position and its operation.
+#![tactic(auto)]
+
 ghost use Rattle.edit_moments.specs.Waiting.{Readable, NextSays};
 
 // An edit of an operation, or none before the next toggle.

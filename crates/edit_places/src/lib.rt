@@ -1,4 +1,6 @@
 // The node of each position of a formula: one pass over the codes, one over the records, one that enters the nodes at their positions.
+#![tactic(auto)]
+
 ghost use Rattle.std.specs.Prelude.{◌≡◌, ◌+◌, ◌-◌, ◌<◌, ◌≤◌, length, get_or, set};
 ghost use Rattle.contraction.specs.Entries.{kind_at};
 ghost use Rattle.edits.specs.Spots.{works};

@@ -1,4 +1,6 @@
 // A toggle run with edits on a dwarf tree, on lent lists: places and tables filled, edits and toggles each in its time, the labels at the end.
+#![tactic(auto)]
+
 ghost use Rattle.std.specs.Prelude.{◌≡◌, ◌+◌, length};
 ghost use Rattle.edit_run.specs.Ran.{EditRoom, EditedRuns};
 

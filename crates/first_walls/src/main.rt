@@ -1,4 +1,6 @@
 // The walls that two lines find in a bored block: the first answer of `./try`, before anything is proved.
+#![tactic(auto)]
+
 ghost use Rattle.std.specs.Prelude.{◌<◌};
 
 use job_classify::ClassifyAnswer;

@@ -1,4 +1,6 @@
 // Two foundries on one sheet: the tree is built once, and each foundry's toggles are run on it with labels and lists of its own.
+#![tactic(auto)]
+
 ghost use Rattle.std.specs.Prelude.{◌≡◌};
 ghost use Rattle.sheet.specs.Sheet.{sheets_of};
 ghost use Rattle.job_both.specs.Shared.{lists, Shared};

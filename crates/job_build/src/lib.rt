@@ -1,4 +1,6 @@
 // The job of building: the contracted tree of a sheet's formula, its records given to the caller's lists.
+#![tactic(auto)]
+
 ghost use Rattle.std.specs.Prelude.{◌≤◌, length};
 ghost use Rattle.formula.specs.Formula.{Formula};
 ghost use Rattle.tree_tokens.specs.Tokens.{Shelves};

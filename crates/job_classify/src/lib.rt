@@ -1,4 +1,6 @@
 // The job of classifying lines: where there is metal, given to the caller's lists.
+#![tactic(auto)]
+
 ghost use Rattle.lines.specs.Lines.{line_lists, answer_lists};
 ghost use Rattle.sheet.specs.Sheet.{sheets_of};
 ghost use Rattle.job_classify.specs.Classifying.{classifying};

@@ -1,4 +1,6 @@
 // The job of a toggle run with edits: a root and a count for each toggle, the labels after the last, and a count for each edit, given to the caller's lists.
+#![tactic(auto)]
+
 ghost use Rattle.sheet.specs.Sheet.{sheets_of};
 ghost use Rattle.job_edit.specs.Editing.{lists, running_edited};
 ghost use Rattle.job_edit.specs.Edited.{Edited};

@@ -1,4 +1,6 @@
 // The job of judging another ray caster's wall list: whether it is right, or the first entry at which it is not.
+#![tactic(auto)]
+
 ghost use Rattle.std.specs.Prelude.{◌≡◌};
 ghost use Rattle.lines.specs.Lines.{line_lists};
 ghost use Rattle.sheet.specs.Sheet.{sheets_of};

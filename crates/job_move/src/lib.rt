@@ -1,4 +1,6 @@
 // The move: the customer's sheet in the edition that it has not. Document 02, K10 and K11.
+#![tactic(auto)]
+
 ghost use Rattle.std.specs.Prelude.{◌≡◌, ◌≤◌, length};
 ghost use Rattle.sheet.specs.Sheet.{sheets_of, codes_of};
 ghost use Rattle.sheet_descent.specs.Descent.{GoodIn};

@@ -1,4 +1,6 @@
 // Asking for a shape's name: where it stands, and its bytes as a part of whichever of two lent sheets holds it.
+#![tactic(auto)]
+
 ghost use Rattle.std.specs.Prelude.{◌≡◌, ◌+◌, ◌≤◌, length};
 ghost use Rattle.sheet.specs.Sheet.{sheets_of};
 ghost use Rattle.sheet.specs.Walk.{walk_end};

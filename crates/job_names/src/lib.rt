@@ -1,4 +1,6 @@
 // Asking for all names at once: where each stands, the sheets read once. The lists are filled from the front, a name an entry.
+#![tactic(auto)]
+
 ghost use Rattle.std.specs.Prelude.{◌+◌, ◌≤◌, ◌++◌, length};
 ghost use Rattle.outcome.specs.Outcome.{given};
 ghost use Rattle.sheet.specs.Sheet.{sheets_of};

@@ -1,4 +1,6 @@
 // The job of a toggle run: a root and a count for each toggle, and the labels after the last, given to the caller's lists.
+#![tactic(auto)]
+
 ghost use Rattle.std.specs.Prelude.{◌≤◌, length};
 ghost use Rattle.formula.specs.Formula.{Formula};
 ghost use Rattle.labels.specs.Arrays.{Tree, Holds};

@@ -1,6 +1,8 @@
 // The jobs for C and Rust: each is one call of a proved job, and a struct of numbers, which is what an exported function may return. Beside
 // them the library's version.
 // The header and the Rust crate in bindings/ declare the same again; their tests compare the declarations with this file.
+#![tactic(auto)]
+
 ghost use Rattle.std.specs.Prelude.{◌≡◌, length};
 ghost use Rattle.sheet.specs.Sheet.{sheets_of};
 ghost use Rattle.sheet_reading.specs.Reading.{told};

@@ -1,4 +1,6 @@
 // Labels: one by its kind, all of them afresh; the links of the nodes: each node's parent and the leaves of each shape.
+#![tactic(auto)]
+
 ghost use Rattle.std.specs.Prelude.{◌≡◌, true, false, [], ◌∷◌, ◌<◌, ◌≤◌, length, get_or, set, take};
 ghost use Rattle.formula.specs.Formula.{meaning as meaningOf, op_at};
 ghost use Rattle.formula.specs.States.{outside};

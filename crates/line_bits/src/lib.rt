@@ -1,4 +1,6 @@
 // Bits of words: from one to the next, the last, and bytes woven into them.
+#![tactic(auto)]
+
 ghost use Rattle.std.specs.Prelude.{◌+◌, ◌^◌, ◌≤◌, ◌<◌, length};
 ghost use Rattle.line_bits.specs.Bits.{Inner, Spans, Moved, Masked, Since, Binary, Woven};
 

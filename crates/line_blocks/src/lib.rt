@@ -1,4 +1,6 @@
 // The pass over a call's columns, block by block: a block's columns, its row of metal, its events, and the walls that they finish, put into five lists. Whose lists they are is the caller's.
+#![tactic(auto)]
+
 ghost use Rattle.std.specs.Prelude.{◌≡◌, not, ◌&&◌, ◌||◌, eqb, ltb, ◌-◌, length};
 ghost use Rattle.lines.specs.Lines.{line_lists, row_count, answer_lists};
 ghost use Rattle.line_lists.specs.Block.{wide, columns, cell};

@@ -1,4 +1,6 @@
 // Judges start rows and crossing lists, and the room in the answer lists: refusals 13, 14, 10, 15, 11 and 9.
+#![tactic(auto)]
+
 ghost use Rattle.std.specs.Prelude.{◌≡◌, ◌<◌, max, length};
 ghost use Rattle.lines.specs.Lines.{line_lists, roomy};
 ghost use Rattle.line_checking.specs.Verdicts.{verdict, RowsJudged, ItemsJudged, Judged};

@@ -1,4 +1,6 @@
 // The columns of a block, from a cursor in the lists: a crossing, or the start of a line with a shape inside. See specs/Planned.antt.
+#![tactic(auto)]
+
 ghost use Rattle.std.specs.Prelude.{◌≡◌, cond, ◌+◌, ◌<◌, ◌≤◌, length};
 ghost use Rattle.lines.specs.Lines.{start_state};
 ghost use Rattle.lines.specs.Columns.{any_inside};

@@ -1,4 +1,6 @@
 // The events of a word at once, where each of its columns stands alone; what a block's events are is in specs/Events.antt.
+#![tactic(auto)]
+
 ghost use Rattle.std.specs.Prelude.{◌≡◌, not, ◌++◌, ◌+◌, ◌*◌, ◌≤◌, ◌<◌, eqb, length};
 ghost use Rattle.lines.specs.AtIndex.{group_ends_at};
 ghost use Rattle.word_bits.specs.Words.{bit};

@@ -1,4 +1,6 @@
 // Another ray caster's wall list judged for a formula in an array of codes: the pass of classifying, where a block's walls are put into lists of our own and compared with their entries.
+#![tactic(auto)]
+
 ghost use Rattle.std.specs.Prelude.{◌≡◌};
 ghost use Rattle.lines.specs.Lines.{line_lists, row_count};
 ghost use Rattle.lines.specs.AtIndex.{Accepted};

@@ -1,4 +1,6 @@
 // The lists of a call at an index, and the arrays of a block: what the passes share.
+#![tactic(auto)]
+
 ghost use Rattle.std.specs.Prelude.{◌≡◌, cond, ◌+◌, ◌<◌, max, pos, get_or, length};
 ghost use Rattle.std.specs.Int.Signed.{lt_z, le_z};
 ghost use Rattle.line_lists.specs.Greatest.{Greatest};

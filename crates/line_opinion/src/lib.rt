@@ -1,4 +1,6 @@
 // Their wall list against one wall of ours after another.
+#![tactic(auto)]
+
 ghost use Rattle.std.specs.Prelude.{◌≡◌, [], ◌∷◌, ◌<◌, take};
 ghost use Rattle.line_opinion.specs.Judging.{their_lists, theirs, same_place, fits};
 ghost use Rattle.line_opinion.specs.Eating.{SameLength, entry_at, needed, EntryThere, Ours, Ate};

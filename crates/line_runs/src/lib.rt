@@ -1,4 +1,6 @@
 // Crossings alone: which of them are their lines' last, a bit each, and how many of them a block takes. See specs/Runs.antt.
+#![tactic(auto)]
+
 ghost use Rattle.std.specs.Prelude.{◌≡◌, ◌+◌, ◌<◌, ◌≤◌, length};
 ghost use Rattle.line_lists.specs.Block.{wide, columns, SaidNumbered};
 ghost use Rattle.line_runs.specs.Runs.{over_at, last_of_line, Ends, LineEnds, EndsNoted, Numbered, CutTo};

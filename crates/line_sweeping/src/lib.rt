@@ -1,4 +1,6 @@
 // A block's row gone through from one event to the next, or a word at a time where each column stands alone. See line_events/specs/Events.antt.
+#![tactic(auto)]
+
 ghost use Rattle.std.specs.Prelude.{◌≡◌, not, ℕ, ◌+◌, ◌*◌, ◌/◌, ◌^◌, ◌≤◌, ◌<◌, length};
 ghost use Rattle.std.specs.Bool.{beq};
 ghost use Rattle.std.specs.Int.Count.{count_trailing_zeros};

@@ -1,4 +1,6 @@
 // The line job for a formula in an array of codes: start rows and crossings judged, room asked for, then their walls written block by block.
+#![tactic(auto)]
+
 ghost use Rattle.std.specs.Prelude.{◌≡◌};
 ghost use Rattle.lines.specs.Lines.{line_lists, row_count, answer_lists};
 ghost use Rattle.lines.specs.AtIndex.{Accepted};

@@ -1,5 +1,7 @@
 // Reads one sheet from standard input and prints the leaves, dwarf nodes, rounds and height of its contracted tree, then each node's
 // record; or `refused`, number and place.
+#![tactic(auto)]
+
 use job_build::BuildAnswer;
 
 fn number(n: usize) {

@@ -1,4 +1,6 @@
 // The judgement of an order that mixes two foundries' toggle lists.
+#![tactic(auto)]
+
 ghost use Rattle.std.specs.Prelude.{◌≡◌};
 ghost use Rattle.order_mixing.specs.Order.{mixes as mixesOf};
 

@@ -1,4 +1,6 @@
 // A set of numbers below 3072, a bit each, from which the lowest is taken first. The word that holds the lowest is in hand.
+#![tactic(auto)]
+
 ghost use Rattle.std.specs.Prelude.{◌≡◌, ◌*◌, ◌/◌, ◌%◌, ◌<◌, ◌≤◌};
 ghost use Rattle.word_bits.specs.Words.{digit};
 ghost use Rattle.rising_set.specs.Members.{Rising, Put, Taken, Lowest, Opened};

@@ -1,4 +1,6 @@
 // A sheet's fields: two bytes as a number, and where a field ends. What a sheet is, and what reading it gives: specs/.
+#![tactic(auto)]
+
 ghost use Rattle.std.specs.Prelude.{◌≡◌, ◌+◌, ◌≤◌, ◌<◌, length};
 ghost use Rattle.sheet.specs.Sheet.{two_bytes_at, past_at};
 

@@ -1,4 +1,6 @@
 // A formula's codes: judged left to right, and put into an array.
+#![tactic(auto)]
+
 ghost use Rattle.std.specs.Prelude.{◌≡◌, ◌+◌, ◌<◌, ◌%◌, ◌^◌, length};
 ghost use Rattle.outcome.specs.Outcome.{part};
 ghost use Rattle.formula.specs.Formula.{leaves as leaves_of};

@@ -1,4 +1,6 @@
 // The formula of edition 2, operation first, read by recursive descent: document 02, K10. Its codes are put into an array in postfix order.
+#![tactic(auto)]
+
 ghost use Rattle.std.specs.Prelude.{◌≡◌, ◌+◌, ◌-◌, ◌/◌, ◌^◌, ◌≤◌, ◌<◌, length};
 ghost use Rattle.outcome.specs.Outcome.{part};
 ghost use Rattle.formula.specs.Formula.{leaves as leaves_of};

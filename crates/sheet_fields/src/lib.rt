@@ -1,4 +1,6 @@
 // One field of a sheet judged, question by question: document 01, 'Order of reading', and document 02, K10.
+#![tactic(auto)]
+
 ghost use Rattle.std.specs.Prelude.{◌≡◌, ◌+◌, ◌%◌, ◌^◌, ◌<◌, ◌≤◌, length};
 ghost use Rattle.outcome.specs.Outcome.{part};
 ghost use Rattle.formula.specs.Formula.{leaves as leaves_of};

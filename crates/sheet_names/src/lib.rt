@@ -1,4 +1,6 @@
 // A name judged: whether its bytes are good, and whether one of the names before it is equal.
+#![tactic(auto)]
+
 ghost use Rattle.std.specs.Prelude.{◌≡◌, not, ◌||◌, ◌≤◌, ◌<◌, length, take, eqb};
 ghost use Rattle.sheet.specs.Sheet.{all_good, same as sameBytes, taken as takenIn};
 ghost use Rattle.sheet.specs.Walk.{walk_names};

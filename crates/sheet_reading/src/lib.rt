@@ -1,4 +1,6 @@
 // Reads the sheets of a call, field after field: document 01, 'Order of reading', and document 02, K7 and K10.
+#![tactic(auto)]
+
 ghost use Rattle.std.specs.Prelude.{◌≡◌, [], ◌≤◌, length};
 ghost use Rattle.sheet.specs.Sheet.{sheets_of, fitting_fields, fitting_names};
 ghost use Rattle.sheet.specs.Walk.{walk_names, fitted_by};

@@ -1,4 +1,6 @@
 // The passes that rework labels upwards: straight up above one node, and above the nodes of a set in rising number.
+#![tactic(auto)]
+
 ghost use Rattle.std.specs.Prelude.{◌≡◌, List, ℕ, suc, ◌-◌, ◌≤◌, length, take};
 ghost use Rattle.contraction.specs.Entries.{recs};
 ghost use Rattle.rising_set.specs.Members.{all};

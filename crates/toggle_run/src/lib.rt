@@ -1,4 +1,6 @@
 // A run on lent lists: the toggles one after the other on a dwarf tree, with a root and a count for each, and the last labels.
+#![tactic(auto)]
+
 ghost use Rattle.std.specs.Prelude.{◌≡◌, ◌<◌, ◌≤◌, length, take};
 ghost use Rattle.formula.specs.Formula.{Formula};
 ghost use Rattle.contraction.specs.Height.{last};

@@ -1,4 +1,6 @@
 // One toggle: all leaves of a shape flipped, then the nodes above them reworked in rising number.
+#![tactic(auto)]
+
 ghost use Rattle.std.specs.Prelude.{◌≡◌, ◌<◌, ◌≤◌, length, take};
 ghost use Rattle.contraction.specs.Entries.{recs};
 ghost use Rattle.rising_set.specs.Members.{Rising};

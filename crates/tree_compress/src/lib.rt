@@ -1,4 +1,6 @@
 // Compress: pairs each longest chain of one-child nodes from the top, in one pass over the tokens of a tree.
+#![tactic(auto)]
+
 ghost use Rattle.std.specs.Prelude.{◌≡◌, List, ℕ, ◌+◌, ◌-◌, ◌≤◌, ◌<◌, length};
 ghost use Rattle.tree_tokens.specs.Tokens.{decode, Sized};
 ghost use Rattle.tree_compress.specs.Pairing.{chain_length, puts, pairs, pair_token, rest, RestIn, Counted, pairing_in, PairingRoom, PairingStep, CompressedTo};

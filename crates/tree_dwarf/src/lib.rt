@@ -1,4 +1,6 @@
 // Builds the dwarf tree of a formula from its codes in postfix order: leaves numbered, then rounds while more than one node remains.
+#![tactic(auto)]
+
 ghost use Rattle.std.specs.Prelude.{◌≡◌, ◌+◌, ◌≤◌, ◌<◌, length};
 ghost use Rattle.formula.specs.Formula.{Formula};
 ghost use Rattle.tree_tokens.specs.Tokens.{Shelves, Sized};

@@ -1,4 +1,6 @@
 // The height of a dwarf tree, by one pass over its records.
+#![tactic(auto)]
+
 ghost use Rattle.std.specs.Prelude.{◌≡◌, ◌+◌, ◌≤◌, ◌<◌, max, get_or, take};
 ghost use Rattle.contraction.specs.Height.{height as heightOf, path as pathOf};
 ghost use Rattle.contraction.specs.Entries.{entry, rec_of, recs};

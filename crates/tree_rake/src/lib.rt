@@ -1,4 +1,6 @@
 // Rake: takes every leaf of a tree away, judged as the round found it, in one pass over its tokens.
+#![tactic(auto)]
+
 ghost use Rattle.std.specs.Prelude.{◌≡◌, List, ℕ, ◌+◌, ◌≤◌, ◌<◌, length};
 ghost use Rattle.contraction.specs.Entries.{entry};
 ghost use Rattle.tree_tokens.specs.Tokens.{decode};

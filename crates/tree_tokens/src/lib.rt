@@ -1,4 +1,6 @@
 // The arrays that the passes of a contraction share: tokens and records put one after the other.
+#![tactic(auto)]
+
 ghost use Rattle.std.specs.Prelude.{◌≡◌, [], ◌∷◌, ◌++◌, ◌+◌, ◌<◌, length};
 ghost use Rattle.contraction.specs.Entries.{entry, entries};
 ghost use Rattle.tree_tokens.specs.Tokens.{decode, toks, Shelves};

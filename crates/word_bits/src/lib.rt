@@ -1,4 +1,6 @@
 // The bits of a word: the lowest that is on, the others, and one more.
+#![tactic(auto)]
+
 ghost use Rattle.std.specs.Prelude.{◌≡◌, ◌<◌, if◌then◌else◌};
 ghost use Rattle.word_bits.specs.Words.{WithBit};
 ghost use Rattle.word_bits.specs.Lowest.{Lowest, Others};
