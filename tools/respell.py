@@ -122,14 +122,14 @@ def used(path):
     return set(re.findall(r"\w+", called)) | {name for name in re.findall(NAME, text) if re.search("[A-Z-]", name)}
 
 
-def settled(table):
+def settled(table, fields):
     """The table without names that would fall together with another in some file; those stay. A lemma that would have its definition's name
-    gets `_lem`."""
+    gets `_lem`; a record's field may have it."""
     news = collections.Counter(table.values())
     for old, new in table.items():
-        if news[new] > 1 and "-" in old:
+        if news[new] > 1 and "-" in old and old not in fields:
             table[old] = new + "_lem"
-    news = collections.Counter(table.values())
+    news = collections.Counter(new for old, new in table.items() if old not in fields)
     clashes = {old: new for old, new in table.items() if news[new] > 1}
     for path in antt_files() + sorted(ROOT.glob("crates/*/src/**/*.rt")):
         words = used(path)
@@ -168,7 +168,7 @@ def split_comments(text, mark):
 
 def main():
     declared = Declared()
-    table, clashes = settled(spelled(declared))
+    table, clashes = settled(spelled(declared), declared.fields)
     for old, new in sorted(clashes.items()):
         print(f"stays: {old}, since {new} is there")
     if "--check" in sys.argv:

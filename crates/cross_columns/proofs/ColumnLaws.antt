@@ -17,7 +17,7 @@ use Rattle.cross_columns.specs.Columns.{Column, Sized, Columns}
 
 -- ---- one shape
 pub half_entry : (shape : Shape) (axis : ℕ) (face : Float) → shape ≡ HalfSpace axis face → Column shape face face face face face face (axis + 1)
-half_entry shape axis face e = rw e (record { is_half_lem = refl; is_lx = refl; is_ly = refl; is_lz = refl; is_hx = refl; is_hy = refl; is_hz = refl })
+half_entry shape axis face e = rw e (record { is_half = refl; is_lx = refl; is_ly = refl; is_lz = refl; is_hx = refl; is_hy = refl; is_hz = refl })
 
 pub box_entry : (shape : Shape) (a b c d e f : Float) → shape ≡ Block a b c d e f → Column shape a b c d e f 0
 box_entry shape a b c d e f is = rw is (record { no_half = refl; is_lx = refl; is_ly = refl; is_lz = refl; is_hx = refl; is_hy = refl; is_hz = refl })

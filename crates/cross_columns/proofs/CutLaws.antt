@@ -42,8 +42,8 @@ module _ (probe : Probe) (lows highs : List Float) (halves : List ℕ) where
   column_cut : (shape : Shape) (j : ℕ) → Column shape (get_or lows j nan) (get_or lows (256 + j) nan) (get_or lows (512 + j) nan) (get_or highs j nan) (get_or highs (256 + j) nan) (get_or highs (512 + j) nan) (get_or halves j 0)
       → shape_cut probe shape ≡ cut_in probe lows highs halves j
   column_cut (HalfSpace axis face) j c =
-      let some : get_or halves j 0 ≡ 0 → ⊥ = λ z. omega (arith, c.is_half_lem) in
-      let less : axis ≡ get_or halves j 0 - 1 = omega (arith, c.is_half_lem) in
+      let some : get_or halves j 0 ≡ 0 → ⊥ = λ z. omega (arith, c.is_half) in
+      let less : axis ≡ get_or halves j 0 - 1 = omega (arith, c.is_half) in
       sym (rw (ne_eqb (get_or halves j 0) 0 some, ← less, ← c.is_lx))
   column_cut (Block p q r s t u) j c = sym (rw (eq-eqb (get_or halves j 0) 0 c.no_half, ← c.is_lx, ← c.is_ly, ← c.is_lz, ← c.is_hx, ← c.is_hy, ← c.is_hz))
 

@@ -20,7 +20,7 @@ pub record Faces (a b c d e f lx ly lz hx hy hz : Float) (half : ℕ) : Type 0 w
 
 -- A half-space by its axis, 1 more, with its face on every axis.
 pub record Half (axis : ℕ) (face lx ly lz hx hy hz : Float) (half : ℕ) : Type 0 where
-  pub is_half_lem : half ≡ axis + 1
+  pub is_half : half ≡ axis + 1
   pub is_lx : face ≡ lx
   pub is_ly : face ≡ ly
   pub is_lz : face ≡ lz

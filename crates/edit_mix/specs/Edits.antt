@@ -26,10 +26,10 @@ pub record Answers : Type 0 where
   pub roots : List ℕ
   pub counts : List ℕ
   pub final : List ℕ
-  pub edit_counts_lem : List ℕ
+  pub edit_counts : List ℕ
 
 abbrev pub answers : List ℕ → List ℕ → List ℕ → List ℕ → Answers
-answers rs cs ls es = record { roots = rs; counts = cs; final = ls; edit_counts_lem = es }
+answers rs cs ls es = record { roots = rs; counts = cs; final = ls; edit_counts = es }
 
 -- The final labels are those of a build of the sheet as edited at the end, with the shapes then inside.
 abbrev pub answers_of : Formula → List ℕ → List Edit → Answers

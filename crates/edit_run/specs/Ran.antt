@@ -9,7 +9,7 @@ use Rattle.edit_moments.specs.Listed.{Rises, Listed}
 use Rattle.edit_mix.specs.Edits.{Answers, answers_of}
 
 -- What a run with edits on arrays asks for: a formula's codes and its dwarf tree in them, edits that fit, and room for each answer.
-pub record EditFits (formula : List ℕ) (n : ℕ) (ks fs ss : List ℕ) (leaves nodes : ℕ) (toggles ms ps cs roots counts labels edit_counts_lem : List ℕ) : Type 0 where
+pub record EditFits (formula : List ℕ) (n : ℕ) (ks fs ss : List ℕ) (leaves nodes : ℕ) (toggles ms ps cs roots counts labels edit_counts : List ℕ) : Type 0 where
   pub formula_long : length formula ≡ 2048
   pub formula_few : n ≤ 2047
   pub built : Buildable formula n ks fs ss leaves nodes
@@ -18,19 +18,19 @@ pub record EditFits (formula : List ℕ) (n : ℕ) (ks fs ss : List ℕ) (leaves
   pub operated : (k : ℕ) → k < length ms → first_operation ≤ get_or (take n formula) (get_or ps k 0) 0
   pub answers : ToggleRoom toggles roots counts
   pub for_labels : nodes ≤ length labels
-  pub for_edits : length ms ≤ length edit_counts_lem
+  pub for_edits : length ms ≤ length edit_counts
 
-pub data EditRoom (formula : List ℕ) (n : ℕ) (ks fs ss : List ℕ) (leaves nodes : ℕ) (toggles ms ps cs roots counts labels edit_counts_lem : List ℕ) : Type 0 where
-  edit-room : EditFits formula n ks fs ss leaves nodes toggles ms ps cs roots counts labels edit_counts_lem
-      → EditRoom formula n ks fs ss leaves nodes toggles ms ps cs roots counts labels edit_counts_lem
+pub data EditRoom (formula : List ℕ) (n : ℕ) (ks fs ss : List ℕ) (leaves nodes : ℕ) (toggles ms ps cs roots counts labels edit_counts : List ℕ) : Type 0 where
+  edit-room : EditFits formula n ks fs ss leaves nodes toggles ms ps cs roots counts labels edit_counts
+      → EditRoom formula n ks fs ss leaves nodes toggles ms ps cs roots counts labels edit_counts
 
 -- The answers are those of the formula.
-pub record EditedRun (a : Answers) (roots counts labels edit_counts_lem roots' counts' labels' edit-counts' : List ℕ) : Type 0 where
+pub record EditedRun (a : Answers) (roots counts labels edit_counts roots' counts' labels' edit_counts' : List ℕ) : Type 0 where
   pub roots_are : roots' ≡ filled a.roots roots
   pub counts_are : counts' ≡ filled a.counts counts
   pub labels_are : labels' ≡ filled a.final labels
-  pub edit_counts_are : edit-counts' ≡ filled a.edit_counts_lem edit_counts_lem
+  pub edit_counts_are : edit_counts' ≡ filled a.edit_counts edit_counts
 
-pub record EditedRuns (formula : List ℕ) (n : ℕ) (ks fs ss : List ℕ) (leaves nodes : ℕ) (toggles ms ps cs roots counts labels edit_counts_lem roots' counts' labels' edit-counts' : List ℕ) : Type 0 where
+pub record EditedRuns (formula : List ℕ) (n : ℕ) (ks fs ss : List ℕ) (leaves nodes : ℕ) (toggles ms ps cs roots counts labels edit_counts roots' counts' labels' edit_counts' : List ℕ) : Type 0 where
   pub so : (f : Formula) → Built formula n ks fs ss leaves nodes f
-      → EditedRun (answers_of f toggles (edits_of ms ps cs)) roots counts labels edit_counts_lem roots' counts' labels' edit-counts'
+      → EditedRun (answers_of f toggles (edits_of ms ps cs)) roots counts labels edit_counts roots' counts' labels' edit_counts'

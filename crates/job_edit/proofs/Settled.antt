@@ -29,7 +29,7 @@ use Rattle.job_edit.specs.Edited.{Edited}
 edit-settled : OnSheets Edited answer.Refused answer.Unfit
 edit-settled =
     on_sheets ran_of (λ v. length v.final) ran_of-same (λ k p. (refl, refl)) (λ o lent r after a. a.answer)
-    (λ o lent r after a i. record { roots = a.lists.roots_list i; counts = a.lists.counts_list i; labels = a.lists.labels_list i; edit_counts_lem = a.lists.edit_counts_list i }) (λ k p lent. (refl, refl))
+    (λ o lent r after a i. record { roots = a.lists.roots_list i; counts = a.lists.counts_list i; labels = a.lists.labels_list i; edit_counts = a.lists.edit_counts_list i }) (λ k p lent. (refl, refl))
 
 pub edit_unique : Unique Edited
 edit_unique = edit-settled.own.unique
@@ -67,5 +67,5 @@ edited-accepted s toggles ms ps cs lent v is =
     let r = (then_given (room (length toggles) (length lent.roots)) _ v c).2 in
     let n = (then_given (room (length toggles) (length lent.counts)) _ v r).2 in
     let l = (then_given (room (length (dwarf g)) (length lent.labels)) _ v n).2 in
-    let e = (then_given (room (length ms) (length lent.edit_counts_lem)) (given (answers_of g toggles (edits_of ms ps cs))) v l).2 in
+    let e = (then_given (room (length ms) (length lent.edit_counts)) (given (answers_of g toggles (edits_of ms ps cs))) v l).2 in
     (x.0, x.1, given-same (answers_of g toggles (edits_of ms ps cs)) v e)

@@ -12,7 +12,7 @@ pub record EditedLists (o : Outcome Answers) (lent after : Lists) : Type 0 where
   pub roots_list : after.roots ≡ after_call (part (λ a. a.roots) o) lent.roots
   pub counts_list : after.counts ≡ after_call (part (λ a. a.counts) o) lent.counts
   pub labels_list : after.labels ≡ after_call (part (λ a. a.final) o) lent.labels
-  pub edit_counts_list : after.edit_counts_lem ≡ after_call (part (λ a. a.edit_counts_lem) o) lent.edit_counts_lem
+  pub edit_counts_list : after.edit_counts ≡ after_call (part (λ a. a.edit_counts) o) lent.edit_counts
 
 -- And the answer r: how many labels there are.
 pub record Edited (o : Outcome Answers) (lent : Lists) (r : RunAnswer) (after : Lists) : Type 0 where

@@ -15,10 +15,10 @@ pub record Lists : Type 0 where
   pub roots : List ℕ
   pub counts : List ℕ
   pub labels : List ℕ
-  pub edit_counts_lem : List ℕ
+  pub edit_counts : List ℕ
 
 abbrev pub lists : List ℕ → List ℕ → List ℕ → List ℕ → Lists
-lists rs cs ls es = record { roots = rs; counts = cs; labels = ls; edit_counts_lem = es }
+lists rs cs ls es = record { roots = rs; counts = cs; labels = ls; edit_counts = es }
 
 -- 9 for roots, counts, labels, and last the edits' counts.
 unfoldable pub lending : Formula → List ℕ → List ℕ → List ℕ → List ℕ → Lists → Outcome Answers
@@ -26,7 +26,7 @@ lending f toggles moments positions codes lent = do
   room (length toggles) (length lent.roots)
   room (length toggles) (length lent.counts)
   room (length (dwarf f)) (length lent.labels)
-  room (length moments) (length lent.edit_counts_lem)
+  room (length moments) (length lent.edit_counts)
   given (answers_of f toggles (edits_of moments positions codes))
 
 -- 13, edit lists of unequal length, place 0; 10 at the first shape number not below the number of names;

@@ -75,7 +75,7 @@ run_report_unique = reported (λ o lent r after a. a.report) (λ o lent r after 
 pub edit_report_unique : Unique EditReported
 edit_report_unique =
     reported (λ o lent r after a. a.report)
-    (λ o lent r after a i. record { roots = a.lists.roots_list i; counts = a.lists.counts_list i; labels = a.lists.labels_list i; edit_counts_lem = a.lists.edit_counts_list i })
+    (λ o lent r after a i. record { roots = a.lists.roots_list i; counts = a.lists.counts_list i; labels = a.lists.labels_list i; edit_counts = a.lists.edit_counts_list i })
 
 pub both_report_unique : (c : Sheets) (order first second : List ℕ) (lent₁ lent₂ : Lists) (r q : BothReport) (after₁ after₂ other₁ other₂ : Lists)
     → BothReported c order first second lent₁ lent₂ r after₁ after₂ → BothReported c order first second lent₁ lent₂ q other₁ other₂ → (r ≡ q) × (after₁ ≡ other₁) × (after₂ ≡ other₂)

@@ -27,7 +27,7 @@ pub noted_one : {v count : ℕ} {metal : Bool} {events : List ℕ} {k x : ℕ} �
 noted_one {v} {count} {metal} {events} room at is =
     record {
       noted = rw (at, is) (record { sized = length-set events count v; count = refl; are = rw (add-one count) (take-suc-set events count v (omega (arith, room.few, room.sized))) });
-      metal_after_lem = refl;
+      metal_after = refl;
     }
 
 beq_same : (a : Bool) → beq a a ≡ true
@@ -67,13 +67,13 @@ pub leave_room : {c : ℕ} {events : List ℕ} {f : Found} → EventRoom c event
 leave_room room = record { narrow = omega (arith, room.narrow); few = omega (arith, room.few, room.narrow); sized = room.sized }
 
 pub changed-here : {ends now bit : Bool} {c : ℕ} {events events' : List ℕ} {f f' : Found} → now ≡ ends → now ≡ true → beq bit f.metal ≡ false → EventNoted c bit f.count events events' f' → Changed ends bit c events f events' f'
-changed-here {ends} {now} {bit} {f = f} is yes-now differs n = let e : ends ≡ true = sym is ∙ yes-now in record { noted = rw (e, beq_flip f.metal bit ∙ differs) n.noted; metal = rw e n.metal_after_lem }
+changed-here {ends} {now} {bit} {f = f} is yes-now differs n = let e : ends ≡ true = sym is ∙ yes-now in record { noted = rw (e, beq_flip f.metal bit ∙ differs) n.noted; metal = rw e n.metal_after }
 
 pub changed-later : (ends now bit : Bool) (c : ℕ) (events : List ℕ) (f : Found) → now ≡ ends → now ≡ false → Changed ends bit c events f events f
 changed-later ends now bit c events f is no-now = let e : ends ≡ false = sym is ∙ no-now in record { noted = rw e (noted_none f.count events); metal = rw e }
 
 pub left_open : {last : Bool} {c : ℕ} {events events' : List ℕ} {f f' : Found} → last ≡ true → f.metal ≡ true → EventNoted (columns + c) false f.count events events' f' → Left last c events f events' f'
-left_open e m n = record { noted = rw (e, m) n.noted; metal = rw e n.metal_after_lem }
+left_open e m n = record { noted = rw (e, m) n.noted; metal = rw e n.metal_after }
 
 pub left_air : (last : Bool) (c : ℕ) (events : List ℕ) (f : Found) → f.metal ≡ false → Left last c events f events f
 left_air last c events f m = record { noted = rw (m, and_no last) (noted_none f.count events); metal = rw (m, and_no (not last)) }

@@ -39,7 +39,7 @@ pub record Reached (ls : List ℕ) (ps : List ℤ) (a : ℕ) (cols : List ℕ) (
 -- v is one event more, after which there is metal or not
 pub record EventNoted (v : ℕ) (metal : Bool) (count : ℕ) (events events' : List ℕ) (f : Found) : Type 0 where
   pub noted : Noted (v ∷ []) count events f.count events'
-  pub metal_after_lem : f.metal ≡ metal
+  pub metal_after : f.metal ≡ metal
 
 pub record Changed (ends bit : Bool) (c : ℕ) (events : List ℕ) (f : Found) (events' : List ℕ) (f' : Found) : Type 0 where
   pub noted : Noted (changes_at ends bit f.metal c) f.count events f'.count events'

@@ -185,7 +185,7 @@ module _ (start : ℕ → State) (xs : List Crossing) where
 
     bounded_at : (l : ℕ) (p : ℤ) → (metal l (pred_ℤ p) ≡ metal l p → ⊥) → Bounds start xs l p (shape_at start xs l p)
     unfolding shape_at
-    bounded_at l p h = record { open_end_lem = view-shape rows l p all.kept; crossed_there = λ e. there (or_no (le_z p low) (le_z high p) e) }
+    bounded_at l p h = record { open_end = view-shape rows l p all.kept; crossed_there = λ e. there (or_no (le_z p low) (le_z high p) e) }
       where
         there : (le_z p low ≡ false) × (le_z high p ≡ false) → LowestChanged (state_before start xs l p) (state_at start xs l p) (lowest_from 256 0 (state_before start xs l p) (state_at start xs l p))
         there e =

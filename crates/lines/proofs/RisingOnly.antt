@@ -29,7 +29,7 @@ bounds_only : (start : ℕ → State) (xs : List Crossing) (l : ℕ) (p : ℤ) (
 bounds_only start xs l p s t a b = by (le_z p low || le_z high p) refl
   where
     by : (m : Bool) → (le_z p low || le_z high p) ≡ m → s ≡ t
-    by true e = a.open_end_lem e ∙ sym (b.open_end_lem e)
+    by true e = a.open_end e ∙ sym (b.open_end e)
     by false e = lowest_only (state_before start xs l p) (state_at start xs l p) s t (a.crossed_there e) (b.crossed_there e)
 
 same-walls : (start : ℕ → State) (xs : List Crossing) (vs ws : List Wall) → stretches vs ≡ stretches ws → Bounded start xs vs → Bounded start xs ws → vs ≡ ws

@@ -30,7 +30,7 @@ pub record LowestChanged (a b : State) (s : ℕ) : Type 0 where
 
 -- The shape at position p of line l; an open end's is 65535.
 pub record Bounds (start : ℕ → State) (xs : List Crossing) (l : ℕ) (p : ℤ) (s : ℕ) : Type 0 where
-  pub open_end_lem : (le_z p low || le_z high p) ≡ true → s ≡ 65535
+  pub open_end : (le_z p low || le_z high p) ≡ true → s ≡ 65535
   pub crossed_there : (le_z p low || le_z high p) ≡ false → LowestChanged (state_before start xs l p) (state_at start xs l p) s
 
 -- Each wall names the shape at its start and the one at its end.

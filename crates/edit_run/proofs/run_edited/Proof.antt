@@ -6,10 +6,10 @@ use Rattle.edit_run.proofs.run_edited.Statement.{statement}
 use Rattle.edit_run.proofs.run_edited.Tie as tie
 
 abbrev invariant-loop : tie.invariant-loop
-invariant-loop formula n kinds₀ firsts seconds size toggles moments positions codes roots₀ counts₀ labels edit-counts₀ places rules current₀ links all j₀ k₀ kinds roots counts edit_counts_lem current j k = Running formula n kinds₀ firsts seconds size toggles moments positions codes roots₀ counts₀ labels edit-counts₀ places rules current₀ links all j k kinds current roots counts edit_counts_lem
+invariant-loop formula n kinds₀ firsts seconds size toggles moments positions codes roots₀ counts₀ labels edit_counts₀ places rules current₀ links all j₀ k₀ kinds roots counts edit_counts current j k = Running formula n kinds₀ firsts seconds size toggles moments positions codes roots₀ counts₀ labels edit_counts₀ places rules current₀ links all j k kinds current roots counts edit_counts
 
 abbrev decreases-loop : tie.decreases-loop
-decreases-loop formula n kinds₀ firsts seconds size toggles moments positions codes roots₀ counts₀ labels edit-counts₀ places rules current₀ links all j₀ k₀ kinds roots counts edit_counts_lem current j k = all - j
+decreases-loop formula n kinds₀ firsts seconds size toggles moments positions codes roots₀ counts₀ labels edit_counts₀ places rules current₀ links all j₀ k₀ kinds roots counts edit_counts current j k = all - j
 
 fill-places-requires : tie.Need-fill-places-requires invariant-loop decreases-loop
 fill-places-requires c κs = ((search room-formula, search room_few), search room_built)
