@@ -22,6 +22,7 @@ operands_push : (l : List ℕ) (n v : ℕ) → n < length l → operands (set l 
 operands_push l n v h = rw (add-one, get_or-set_same l n v 0 h, operands_keep l n v n (omega arith))
 
 operands_pop : (l : List ℕ) (n : ℕ) → 0 < n → operands l n ≡ present (get_or l (n - 1) 0) ∷ operands l (n - 1)
+operands_pop l zero h = elim h [ ]
 operands_pop l (suc n) h = rw (sub-one)
 
 operands_pop2 : (l : List ℕ) (n : ℕ) → 2 ≤ n → operands l n ≡ present (get_or l (n - 1) 0) ∷ present (get_or l (n - 2) 0) ∷ operands l (n - 2)

@@ -1,0 +1,9 @@
+-- `labels::fill_parents` meets its contract. The loop keeps: the parents among the nodes from j on are filled.
+use Rattle.labels.proofs.Fills.{ParentsFrom}
+use Rattle.labels.proofs.fill_parents.Given as goal
+
+abbrev pub invariant-loop-j : goal.invariant-loop-j
+invariant-loop-j l = ParentsFrom l.kinds l.firsts l.seconds l.nodes l.j l.initial.links l.links
+
+abbrev pub decreases-loop-j : goal.decreases-loop-j
+decreases-loop-j l = l.j

@@ -1,0 +1,15 @@
+-- `labels::meaning` meets its contract.
+use Rattle.labels.proofs.Ranges.{meaning-rest}
+use Rattle.labels.proofs.meaning.Goals as goal
+
+pub returns-in-0 : goal.returns-in-0
+returns-in-0 c = rw c.in-0.is
+
+pub returns-in-1 : goal.returns-in-1
+returns-in-1 c = rw c.in-1.is
+
+pub returns-in-2 : goal.returns-in-2
+returns-in-2 c = rw c.in-2.is
+
+pub returns-in_default : goal.returns-in_default
+returns-in_default c = search meaning-rest

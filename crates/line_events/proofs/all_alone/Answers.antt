@@ -1,0 +1,10 @@
+-- Nothing is said of the list's last; and a position below the next is the last there, whatever the lines.
+use Rattle.line_events.proofs.EndLaws.{hold_not, rise_end}
+use borrow.Author.Rules.{rules}
+use Rattle.line_events.proofs.all_alone.Goals as goal
+
+pub returns-then-e-line : goal.returns-then-e-line
+returns-then-e-line c = search (hold_not, rules)
+
+pub returns-then-one_line : goal.returns-then-one_line
+returns-then-one_line c = search (rise_end, rules)

@@ -1,0 +1,11 @@
+-- One crossing after another.
+use Prim.Native.Nat.{◌-◌}
+use Rattle.line_events.proofs.EndLaws.{HoldTo}
+use Rattle.lines.specs.AtIndex.{group_ends_at}
+use Rattle.line_events.proofs.all_end.Given as goal
+
+abbrev pub invariant-loop-x : goal.invariant-loop-x
+invariant-loop-x l = HoldTo (group_ends_at l.line l.at) l.i l.e l.some l.x
+
+abbrev pub decreases-loop-x : goal.decreases-loop-x
+decreases-loop-x l = l.e - l.x

@@ -1,0 +1,11 @@
+-- Byte by byte.
+use Prim.Native.Nat.{◌-◌}
+use lib.ListN.{length}
+use Rattle.line_lists.proofs.GreatestLaws.{Sought}
+use Rattle.line_lists.proofs.greatest_byte.Given as goal
+
+abbrev pub invariant-loop-i : goal.invariant-loop-i
+invariant-loop-i l = Sought l.bytes l.i l.most
+
+abbrev pub decreases-loop-i : goal.decreases-loop-i
+decreases-loop-i l = length l.bytes - l.i

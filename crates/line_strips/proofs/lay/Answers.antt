@@ -1,0 +1,18 @@
+use borrow.Author.Rules.{rules}
+use Rattle.line_strips.proofs.Lays.{word_none, word_more, word_end, alone-named, alone_lays}
+use Rattle.line_strips.proofs.lay.Goals as goal
+
+pub lay_run-requires : goal.lay_run-requires
+lay_run-requires c = (search rules, search rules, search rules, search rules, search (alone-named, rules))
+
+pub returns-then-b : goal.returns-then-b
+returns-then-b c = search (alone_lays, rules)
+
+pub loop-j-init : goal.loop-j-init
+loop-j-init c = search (word_none, rules)
+
+pub loop-j-preserved : goal.loop-j-preserved
+loop-j-preserved c = search (word_more, rules)
+
+pub returns : goal.returns
+returns c = search (word_end, rules)

@@ -1,0 +1,13 @@
+-- The line of a start, or of a crossing.
+use Rattle.line_writing.proofs.SpotLaws.{column_inside, line-start-held, line_crossing-held}
+use borrow.Author.Rules.{rules}
+use Rattle.line_writing.proofs.spots.column_line.Goals as goal
+
+pub returns-then-o-ge-COLUMNS : goal.returns-then-o-ge-COLUMNS
+returns-then-o-ge-COLUMNS c = search (line-start-held, rules)
+
+pub crossing_at-i-requires : goal.crossing_at-i-requires
+crossing_at-i-requires c = search (column_inside, rules)
+
+pub returns : goal.returns
+returns c = search (line_crossing-held, rules)

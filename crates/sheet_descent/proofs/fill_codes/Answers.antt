@@ -1,0 +1,12 @@
+-- `sheet_descent::fill_codes` meets its contract.
+use Rattle.sheet_descent.proofs.Judged.{in-postfix, good_second, in-prefix}
+use Rattle.sheet_descent.proofs.fill_codes.Goals as goal
+
+pub returns-then-edition-eq1 : goal.returns-then-edition-eq1
+returns-then-edition-eq1 c = search in-postfix
+
+pub fill_first-requires : goal.fill_first-requires
+fill_first-requires c = search good_second
+
+pub returns : goal.returns
+returns c = search in-prefix
