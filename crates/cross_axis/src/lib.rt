@@ -9,7 +9,7 @@ ghost use Rattle.cross_shapes.specs.Shapes.{finite, is_zero, wrong, axis_range};
 ghost use Rattle.cross_axis.specs.Axes.{Codes, Sized, FiniteAlong, Fillable, Filled, SameNumbers};
 
 // The line's two numbers on an axis.
-#[derive(Drop)]
+#[derive(Clone, Copy, Drop)]
 pub struct Along {
     pub origin: f64,
     pub component: f64,

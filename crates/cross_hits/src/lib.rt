@@ -18,7 +18,7 @@ use cross_shapes::Probe;
 
 // The axis that stands alone: where its part starts, and the line's numbers on it; how many shapes there are; and of which sixteens the two
 // other axes leave something over, by bits.
-#[derive(Drop)]
+#[derive(Clone, Copy, Drop)]
 pub struct Alone {
     pub start: usize,
     pub along: Along,

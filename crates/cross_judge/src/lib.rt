@@ -10,7 +10,7 @@ ghost use Rattle.cross_judge.specs.Growing.{PlainAll, Widened, Spans, Grown};
 use cross_shapes::{Probe, Shape};
 
 // What is read of a drawing once: whether each of its shapes is sound, and how far from zero its faces reach on each axis.
-#[derive(Drop)]
+#[derive(Clone, Copy, Drop)]
 pub struct Reach {
     pub good: bool,
     pub x: f64,

@@ -14,7 +14,7 @@ use cross_shapes::Probe;
 
 // What is kept: the numbers of two axes; which one stands alone, by where its part starts; how many shapes there are; of which sixteens two
 // axes leave something over, and of which of their shapes, by bits; and whether anything is kept yet.
-#[derive(Drop)]
+#[derive(Clone, Copy, Drop)]
 pub struct Kept {
     pub one: Along,
     pub other: Along,

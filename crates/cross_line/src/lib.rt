@@ -17,7 +17,7 @@ use cross_cuts::{Added, Met, Row};
 use cross_shapes::{Probe, Shape};
 
 // Whose crossings are made: a drawing's shapes on a probe line, or balls beside a line.
-#[derive(Drop)]
+#[derive(Clone, Copy, Drop)]
 pub enum Maker {
     Drawn(Probe),
     Balls,

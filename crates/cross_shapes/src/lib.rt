@@ -11,7 +11,7 @@ use cross_cuts::Met;
 use cross_positions::Found;
 
 // A probe line: its origin and its direction, in millimetres.
-#[derive(Drop)]
+#[derive(Clone, Copy, Drop)]
 pub struct Probe {
     pub ox: f64,
     pub oy: f64,

@@ -83,7 +83,7 @@ fn label(kind: u16, inside: bool, x: u8, y: u8) -> u8
 }
 
 // How many leaves and how many nodes a tree has.
-#[derive(Drop)]
+#[derive(Clone, Copy, Drop)]
 pub struct Size {
     pub leaves: usize,
     pub nodes: usize,

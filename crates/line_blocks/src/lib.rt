@@ -15,7 +15,7 @@ use line_lists::{COLUMNS, EVENTS, Part, W};
 const LAST: usize = W - 1;
 
 // What a call is of: its formula, arranged, its names, the number of its rows, and whether they are said to be all outside.
-#[derive(Drop)]
+#[derive(Clone, Copy, Drop)]
 pub struct Call {
     pub arranged: line_words::Arranged,
     pub names: usize,
@@ -24,7 +24,7 @@ pub struct Call {
 }
 
 // How far the pass has come: the cursor of the next block, whether its first column is on the line of the last one before it, and whether the columns stand numbered, as a block of crossings alone leaves them.
-#[derive(Drop)]
+#[derive(Clone, Copy, Drop)]
 pub struct Pass {
     pub cursor: line_columns::Cursor,
     pub onward: bool,
@@ -32,7 +32,7 @@ pub struct Pass {
 }
 
 // How far the pass has come, and the walls.
-#[derive(Drop)]
+#[derive(Clone, Copy, Drop)]
 pub struct Progress {
     pub pass: Pass,
     pub run: line_writing::writing::Course,

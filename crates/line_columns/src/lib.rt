@@ -13,7 +13,7 @@ use line_lists::{COLUMNS, W};
 const NO_LINE: usize = 4294967296;
 
 // The next crossing, the next line with a shape inside at its start, or the number of lines, and the columns of the block so far.
-#[derive(Drop)]
+#[derive(Clone, Copy, Drop)]
 pub struct Cursor {
     pub i: usize,
     pub q: usize,

@@ -15,13 +15,13 @@ pub const COLUMNS: usize = 64 * W;
 pub const EVENTS: usize = 2 * COLUMNS;
 
 // A position by value: a signed number of a slice is not compared with a constant.
-#[derive(Drop)]
+#[derive(Clone, Copy, Drop)]
 pub struct Place {
     pub at: i32,
 }
 
 // A block: its first crossing, its number of columns, whether they are crossings alone, whether the first is on the line of the last one before it, and whether there is metal there.
-#[derive(Drop)]
+#[derive(Clone, Copy, Drop)]
 pub struct Part {
     pub first: usize,
     pub size: usize,

@@ -8,7 +8,7 @@ ghost use Rattle.line_opinion.specs.Eating.{SameLength, entry_at, needed, EntryT
 use line_lists::{Place, not_beyond, spot};
 
 // A wall of ours, or the part of it that their list has still to give.
-#[derive(Drop)]
+#[derive(Clone, Copy, Drop)]
 pub struct Need {
     pub line: u32,
     pub from: Place,

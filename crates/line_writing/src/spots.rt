@@ -9,7 +9,7 @@ use crate::shapes::group_shape;
 use line_lists::{COLUMNS, EVENTS};
 
 // Where a wall begins or ends, and the shape there.
-#[derive(Drop)]
+#[derive(Clone, Copy, Drop)]
 pub struct Spot {
     pub at: i32,
     pub shape: u16,

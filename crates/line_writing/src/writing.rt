@@ -15,7 +15,7 @@ struct Finished {
 }
 
 // Whether there is metal and where it began, and the number of walls put.
-#[derive(Drop)]
+#[derive(Clone, Copy, Drop)]
 pub struct Course {
     pub metal: bool,
     pub from: Spot,

@@ -6,7 +6,7 @@ ghost use Rattle.word_bits.specs.Words.{digit};
 ghost use Rattle.rising_set.specs.Members.{Rising, Put, Taken, Lowest, Opened};
 
 // Word `at` is in hand, `word` are its digits, and digit w of `held` says whether word w, a later one, has something in it.
-#[derive(Drop)]
+#[derive(Clone, Copy, Drop)]
 pub struct RisingSet {
     pub at: usize,
     pub word: u64,

@@ -11,7 +11,7 @@ ghost use Rattle.tree_dwarf.specs.Building.{plant_code, planting_in, PlantedTo, 
 use tree_tokens::Extent;
 
 // What a dwarf tree is told by, besides its records.
-#[derive(Drop)]
+#[derive(Clone, Copy, Drop)]
 pub struct Figures {
     pub leaves: usize,
     pub nodes: usize,
