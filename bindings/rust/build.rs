@@ -5,8 +5,8 @@
 //!    is none, or an old one, `bindings/archive` proves the library and compiles it: from nothing that takes as long as the proofs do,
 //!    afterwards seconds. Cargo hides what a build script prints, so what is proved is said on the terminal, where there is one.
 //!
-//! An archive of another kind of processor, or of another version, is refused. The archive is copied to `OUT_DIR`, since `rt ci` removes
-//! `target/`.
+//! An archive of another kind of processor, or of another version, is refused. The archive is copied to `OUT_DIR`, so that what was looked
+//! at is what is linked.
 
 use std::fs::OpenOptions;
 use std::io::{BufRead, BufReader, Write};
@@ -126,10 +126,14 @@ fn lent(dir: &Path, plain: &str, asked: Option<String>) -> (PathBuf, String) {
 
 /// The archive of the repository at `root`, made where there is none or an old one, and its processor.
 fn own(root: &Path, plain: &str, asked: Option<String>) -> (PathBuf, String) {
-    // A folder here stands for all that is below it. The archive itself must not be named: it is written while this runs, so cargo
-    // would take it for changed and run this again each time.
-    println!("cargo:rerun-if-changed={}", root.join("crates").display());
+    // A folder here stands for all that is below it. Neither the archive itself nor what rt makes in a crate's folder `out` may be named:
+    // they are written while this runs, so cargo would take them for changed and run this again each time.
     println!("cargo:rerun-if-changed={}", root.join("crates.txt").display());
+    for one in fs::read_dir(root.join("crates")).into_iter().flatten().flatten() {
+        for part in ["src", "specs", "proofs"].map(|part| one.path().join(part)).iter().filter(|part| part.is_dir()) {
+            println!("cargo:rerun-if-changed={}", part.display());
+        }
+    }
     let processor = if env::var("HOST") == env::var("TARGET") { runnable(root) } else { asked.unwrap_or(plain.to_string()) };
     make(root, &processor);
     let folder = if processor == "x86-64" { "target/staticlib".to_string() } else { format!("target/archive/{processor}") };
@@ -158,13 +162,15 @@ fn make(root: &Path, processor: &str) {
     let mut command = Command::new("sh");
     let started = command.args(["-c", "exec sh bindings/archive \"$0\" 2>&1", processor]).current_dir(root).stdout(Stdio::piped()).spawn();
     let mut child = started.unwrap_or_else(|e| missing(&format!("bindings/archive cannot be run: {e}.")));
-    let mut said = String::new();
+    let (mut said, mut name) = (String::new(), String::new());
     for line in child.stdout.take().into_iter().flat_map(|out| BufReader::new(out).lines()).map_while(Result::ok) {
-        if let Some(proved) = line.strip_prefix("rt: ").filter(|line| line.contains("proved")) {
-            if said.is_empty() {
-                tell("kressedach: proving the library; from nothing that takes minutes");
-            }
-            tell(&format!("kressedach: {proved}"));
+        // rt names a crate, and in a line further on it says whether it is proved
+        if let Some((named, _)) = line.strip_prefix("crate ").and_then(|line| line.split_once(": modules ")) {
+            name = named.to_string();
+        } else if let Some(verdict) = line.strip_prefix("logic=").and_then(|line| line.split(' ').next()) {
+            tell(&format!("kressedach: {name} {verdict}"));
+        } else if said.is_empty() {
+            tell("kressedach: proving the library; from nothing that takes long");
         }
         said += &(line + "\n");
     }

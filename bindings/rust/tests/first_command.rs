@@ -11,29 +11,34 @@ use std::process::Command;
 
 const ROOT: &str = concat!(env!("CARGO_MANIFEST_DIR"), "/../..");
 
-/// What stands for rt: it runs a program, proves two crates and then the library; or fails at the second.
-const PROVES: &str = r#"case $1 in
-doc) echo "$(dirname "$0")/kit/docs/START-HERE.md" ;;
-try) echo 'first_walls ran' ;;
-check) echo 'fn outcome::x: proved'; echo 'rt: outcome proved (1 s)'; echo 'rt: basics proved (2 s)' >&2 ;;
-staticlib)
-    echo 'rt: outcome proved (unchanged since it was last proved)'
-    [ -z "${RATTLE_HOME:-}" ] || "$RATTLE_HOME/on/aarch64/toolchain/bin/clang" module.bc -o module.o
-    mkdir -p target/staticlib; echo archive >target/staticlib/libkressedach.a
-    echo 'rt: target/staticlib/libkressedach.a has the functions of kressedach' ;;
+/// What stands for rt: it runs a program, proves two crates and then the library, and writes of it the words that it was told; or it fails
+/// at the second.
+const PROVES: &str = r#"words=$*
+case $1 in
+try) cat stdout ;;
+lib)
+    for crate in outcome basics kressedach; do
+        echo "fn $crate::x: proved"
+        echo "crate $crate: modules loaded=0 checked=9" >&2
+        echo 'logic=proved functions=1'
+    done
+    mkdir -p out; echo "$words" >out/libkressedach.a ;;
 esac
 "#;
-const FAILS: &str = "[ \"$1\" != try ] || exit 0; echo 'rt: outcome proved (1 s)'; echo 'fn basics::y: refused'; echo 'rt: basics NOT PROVED (exit 1, 2 s)'; exit 1\n";
-const WRONG: &str = "[ \"$1\" != try ] || { echo 'the interpreter wrote something else'; exit 1; }\n";
+const FAILS: &str = r#"if [ "$1" = try ]; then cat stdout; exit; fi
+echo 'crate outcome: modules loaded=0 checked=9'; echo 'logic=proved functions=1'
+echo 'fn basics::y: refused'; echo 'crate basics: modules loaded=0 checked=9'; echo 'logic=not-proved'; exit 1
+"#;
+const WRONG: &str = "[ \"$1\" != try ] || echo 'the interpreter wrote something else'\n";
 
 /// What stands for uname, on these machines.
 const X86_64: &str = "case $1 in -s) echo Linux ;; *) echo x86_64 ;; esac\n";
 const ARM: &str = "case $1 in -s) echo Linux ;; *) echo aarch64 ;; esac\n";
 const OTHER: &str = "case $1 in -s) echo Linux ;; *) echo riscv64 ;; esac\n";
 
-const SHELLS: [&str; 19] = [
-    "awk", "cat", "chmod", "cp", "date", "dirname", "find", "grep", "head", "ln", "mkdir", "mktemp", "mv", "rm", "sed", "sh", "tail",
-    "tee", "touch",
+const SHELLS: [&str; 20] = [
+    "awk", "cat", "chmod", "cmp", "cp", "date", "dirname", "find", "grep", "head", "ln", "mkdir", "mktemp", "mv", "rm", "sed", "sh",
+    "tail", "tee", "touch",
 ];
 
 /// A folder with what the command takes of the repository, the shell's own tools and these, each a text of shell.
@@ -41,6 +46,7 @@ fn tools(name: &str, machine: &str, tools: &[(&str, &str)]) -> PathBuf {
     let folder = Path::new(env!("CARGO_TARGET_TMPDIR")).join(name);
     let _ = fs::remove_dir_all(&folder);
     fs::create_dir_all(folder.join("crates/first_walls")).unwrap();
+    fs::create_dir_all(folder.join("crates/kressedach")).unwrap();
     fs::create_dir_all(folder.join("bindings")).unwrap();
     symlink(Path::new(ROOT).join("examples"), folder.join("examples")).unwrap();
     for file in ["try", "crates.txt", "bindings/archive", "bindings/processor", "crates/first_walls/stdout"] {
@@ -103,7 +109,8 @@ fn what_it_proves_and_prints() {
         assert_eq!(rest.matches(&line).count(), 1, "{line}{rest}");
     }
     assert!(rest.ends_with(&format!("examples/block.sheet:\n{}", walls())), "{rest}");
-    assert!(!folder.join("target/archive").exists());
+    let made = fs::read_to_string(folder.join("target/staticlib/libkressedach.a")).unwrap();
+    assert!(made.starts_with("lib ") && made.contains(" --cpu x86-64 "), "{made}");
 }
 
 /// What is proved already is not proved again; nor is anything where a library is lent.
@@ -118,24 +125,19 @@ fn nothing_is_proved_twice() {
     assert!(!said.contains("Proving") && said.ends_with("\n2,0,100000,Block,Block\n"), "{said}");
 }
 
-/// On Arm the module that was proved is compiled once more, and the archive for x86-64 that rt writes beside it is not taken for it.
+/// For Arm the toolchain is told so, and the archive for x86-64 is not taken for it.
 #[test]
 fn on_arm_the_archive_is_for_arm() {
     let cargo = cargo();
     let folder = tools("try-arm", ARM, &[("rt", PROVES), ("cargo", &cargo), ("cc", "")]);
-    let toolchain = folder.join("kit/on/aarch64/toolchain/bin");
-    fs::create_dir_all(folder.join("kit/docs")).unwrap();
-    fs::write(folder.join("module.bc"), "the module").unwrap();
-    // the last word after -o is what is written: the words that it was told
-    program(&toolchain.join("clang"), "all=$*; while [ \"$1\" != -o ]; do shift; done; echo \"$all\" >\"$2\"\n");
-    program(&toolchain.join("llvm-ar"), "cp \"$4\" \"$3\"\n");
+    fs::create_dir_all(folder.join("target/staticlib")).unwrap();
+    fs::write(folder.join("target/staticlib/libkressedach.a"), b"").unwrap();
     let (status, said, wrong) = tried(&folder, None);
     assert_eq!((status, wrong.as_str()), (Some(0), ""), "{said}");
     assert!(said.contains("Proving the library for aarch64, "), "{said}");
     let made = fs::read_to_string(folder.join("target/archive/aarch64/libkressedach.a")).unwrap();
-    assert!(made.contains("--target=aarch64-unknown-linux-gnu") && made.contains("-ffp-contract=off"), "{made}");
+    assert!(made.contains(" --target aarch64-unknown-linux-gnu "), "{made}");
     assert_eq!(fs::read_to_string(folder.join("target/archive/aarch64/processor")).unwrap(), "aarch64\n");
-    assert_eq!(fs::read_to_string(folder.join("target/archive/module.bc")).unwrap(), "the module");
     let (status, said, _) = tried(&folder, None);
     assert!(status == Some(0) && !said.contains("Proving"), "{said}");
 }
@@ -216,7 +218,7 @@ fn a_proof_that_fails_is_shown() {
     let cargo = cargo();
     let (status, said, wrong) = tried(&tools("try-fails", X86_64, &[("rt", FAILS), ("cargo", &cargo), ("cc", "")]), None);
     assert_eq!(status, Some(1));
-    assert!(said.contains("\n  outcome proved; ") && said.ends_with("\n  basics NOT PROVED (exit 1, 2 s)\n"), "{said}");
+    assert!(said.contains("\n  outcome proved; ") && said.ends_with("\n  basics NOT PROVED\n"), "{said}");
     assert!(wrong.contains("fn basics::y: refused") && wrong.contains("The library is not proved."), "{wrong}");
 }
 

@@ -4,8 +4,7 @@
 //! are compared over every form of formula with up to ten leaves, and some larger ones. The contraction does not depend on which
 //! operation stands where, so every operation is a union here, and every leaf the one shape.
 //!
-//! The program is the one that `rt check listing` leaves in `target/bin`, run by `.ci/listing`, or the file that
-//! `KRESSEDACH_LISTING` names.
+//! The program is the one that `.ci/bindings` leaves in `target/bin`, run by `.ci/listing`, or the file that `KRESSEDACH_LISTING` names.
 
 use peer::formula::{Formula, Op};
 use peer::sheet::Sheets;
@@ -24,7 +23,7 @@ fn listing(bytes: &[u8]) -> String {
         .stdin(Stdio::piped())
         .stdout(Stdio::piped())
         .spawn()
-        .unwrap_or_else(|e| panic!("{}: {e}: 'rt check listing' makes it", program.display()));
+        .unwrap_or_else(|e| panic!("{}: {e}: '.ci/bindings' makes it", program.display()));
     // the program may have ended before it is given all: that is no failure
     let _ = child.stdin.take().unwrap().write_all(bytes);
     String::from_utf8(child.wait_with_output().unwrap().stdout).unwrap()

@@ -11,15 +11,16 @@ use job_build::BuildAnswer;
 use job_classify::ClassifyAnswer;
 use job_run::RunAnswer;
 use sheet_reading::ReadAnswer;
+use std::io;
 
 // A refusal of the fittings sheet.
-fn unfit(number: u8, place: usize) {
-    say(b" fittings");
-    refused(number, place);
+fn unfit(rt: &impl Print, number: u8, place: usize) -> io::Result<()> {
+    say(rt, b" fittings")?;
+    refused(rt, number, place)
 }
 
 // Names, leaves, the formula's first offset and the one past its end.
-fn read(fitted: bool, fittings: &[u8], sheet: &[u8]) {
+fn read(rt: &impl Print, fitted: bool, fittings: &[u8], sheet: &[u8]) -> io::Result<()> {
     match sheet_reading::read_sheets(fitted, fittings, sheet) {
         ReadAnswer::Read {
             names,
@@ -27,19 +28,19 @@ fn read(fitted: bool, fittings: &[u8], sheet: &[u8]) {
             first,
             past,
         } => {
-            say(b" read");
-            next(names);
-            next(leaves);
-            next(first);
-            next(past);
+            say(rt, b" read")?;
+            next(rt, names)?;
+            next(rt, leaves)?;
+            next(rt, first)?;
+            next(rt, past)
         }
-        ReadAnswer::Refused { number, place } => refused(number, place),
-        ReadAnswer::Unfit { number, place } => unfit(number, place),
+        ReadAnswer::Refused { number, place } => refused(rt, number, place),
+        ReadAnswer::Unfit { number, place } => unfit(rt, number, place),
     }
 }
 
 // Leaves, dwarf nodes, rounds and height.
-fn built(answer: BuildAnswer) -> usize {
+fn built(rt: &impl Print, answer: BuildAnswer) -> io::Result<usize> {
     match answer {
         BuildAnswer::Built {
             leaves,
@@ -47,118 +48,162 @@ fn built(answer: BuildAnswer) -> usize {
             rounds,
             height,
         } => {
-            say(b" built");
-            next(leaves);
-            next(nodes);
-            next(rounds);
-            next(height);
-            nodes
+            say(rt, b" built")?;
+            next(rt, leaves)?;
+            next(rt, nodes)?;
+            next(rt, rounds)?;
+            next(rt, height)?;
+            Ok(nodes)
         }
         BuildAnswer::Refused { number, place } => {
-            refused(number, place);
-            0
+            refused(rt, number, place)?;
+            Ok(0)
         }
         BuildAnswer::Unfit { number, place } => {
-            unfit(number, place);
-            0
+            unfit(rt, number, place)?;
+            Ok(0)
         }
     }
 }
 
-fn records(kinds: &[u16; 3072], firsts: &[u16; 3072], seconds: &[u16; 3072], n: usize) {
-    show_u16(b", kinds", kinds, n);
-    show_u16(b", firsts", firsts, n);
-    show_u16(b", seconds", seconds, n);
+fn records(
+    rt: &impl Print,
+    kinds: &[u16; 3072],
+    firsts: &[u16; 3072],
+    seconds: &[u16; 3072],
+    n: usize,
+) -> io::Result<()> {
+    show_u16(rt, b", kinds", kinds, n)?;
+    show_u16(rt, b", firsts", firsts, n)?;
+    show_u16(rt, b", seconds", seconds, n)
 }
 
-fn build(fitted: bool, fittings: &[u8], sheet: &[u8], room: [usize; 8]) {
+fn build(
+    rt: &impl Print,
+    fitted: bool,
+    fittings: &[u8],
+    sheet: &[u8],
+    room: [usize; 8],
+) -> io::Result<()> {
     let mut kinds = [99u16; 3072];
     let mut firsts = [99u16; 3072];
     let mut seconds = [99u16; 3072];
-    let nodes = built(job_build::build(
-        fitted,
-        fittings,
-        sheet,
-        lend_u16(&mut kinds, room[0]),
-        lend_u16(&mut firsts, room[1]),
-        lend_u16(&mut seconds, room[2]),
-    ));
-    records(&kinds, &firsts, &seconds, shown(nodes));
+    let nodes = built(
+        rt,
+        job_build::build(
+            fitted,
+            fittings,
+            sheet,
+            lend_u16(&mut kinds, room[0]),
+            lend_u16(&mut firsts, room[1]),
+            lend_u16(&mut seconds, room[2]),
+        ),
+    )?;
+    records(rt, &kinds, &firsts, &seconds, shown(nodes))
 }
 
 // Dwarf nodes.
-fn ran(answer: RunAnswer) -> usize {
+fn ran(rt: &impl Print, answer: RunAnswer) -> io::Result<usize> {
     match answer {
         RunAnswer::Ran { nodes } => {
-            say(b" ran");
-            next(nodes);
-            nodes
+            say(rt, b" ran")?;
+            next(rt, nodes)?;
+            Ok(nodes)
         }
         RunAnswer::Refused { number, place } => {
-            refused(number, place);
-            0
+            refused(rt, number, place)?;
+            Ok(0)
         }
         RunAnswer::Unfit { number, place } => {
-            unfit(number, place);
-            0
+            unfit(rt, number, place)?;
+            Ok(0)
         }
     }
 }
 
-fn toggled(roots: &[u8; 3072], counts: &[u32; 3072], labels: &[u8; 3072], n: usize, nodes: usize) {
-    show_u8(b", roots", roots, n);
-    show_u32(b", counts", counts, n);
-    show_u8(b", labels", labels, nodes);
+fn toggled(
+    rt: &impl Print,
+    roots: &[u8; 3072],
+    counts: &[u32; 3072],
+    labels: &[u8; 3072],
+    n: usize,
+    nodes: usize,
+) -> io::Result<()> {
+    show_u8(rt, b", roots", roots, n)?;
+    show_u32(rt, b", counts", counts, n)?;
+    show_u8(rt, b", labels", labels, nodes)
 }
 
-fn run(fitted: bool, fittings: &[u8], sheet: &[u8], toggles: &[u16], room: [usize; 8]) {
+fn run(
+    rt: &impl Print,
+    fitted: bool,
+    fittings: &[u8],
+    sheet: &[u8],
+    toggles: &[u16],
+    room: [usize; 8],
+) -> io::Result<()> {
     let mut roots = [99u8; 3072];
     let mut counts = [99u32; 3072];
     let mut labels = [99u8; 3072];
-    let nodes = ran(job_run::run(
-        fitted,
-        fittings,
-        sheet,
-        toggles,
-        lend_u8(&mut roots, room[0]),
-        lend_u32(&mut counts, room[1]),
-        lend_u8(&mut labels, room[2]),
-    ));
+    let nodes = ran(
+        rt,
+        job_run::run(
+            fitted,
+            fittings,
+            sheet,
+            toggles,
+            lend_u8(&mut roots, room[0]),
+            lend_u32(&mut counts, room[1]),
+            lend_u8(&mut labels, room[2]),
+        ),
+    )?;
     let given = if nodes == 0 { 0 } else { toggles.len() };
-    toggled(&roots, &counts, &labels, shown(given), shown(nodes));
+    toggled(rt, &roots, &counts, &labels, shown(given), shown(nodes))
 }
 
 // The number of walls.
-fn classified(answer: ClassifyAnswer) -> usize {
+fn classified(rt: &impl Print, answer: ClassifyAnswer) -> io::Result<usize> {
     match answer {
         ClassifyAnswer::Walls { walls } => {
-            say(b" walls");
-            next(walls);
-            walls
+            say(rt, b" walls")?;
+            next(rt, walls)?;
+            Ok(walls)
         }
         ClassifyAnswer::Refused { number, place } => {
-            refused(number, place);
-            0
+            refused(rt, number, place)?;
+            Ok(0)
         }
         ClassifyAnswer::Unfit { number, place } => {
-            unfit(number, place);
-            0
+            unfit(rt, number, place)?;
+            Ok(0)
         }
     }
 }
 
-fn walls(lines: &[u32; 3072], starts: &[i32; 3072], ends: &[i32; 3072], n: usize) {
-    show_u32(b", lines", lines, n);
-    show_i32(b", starts", starts, n);
-    show_i32(b", ends", ends, n);
+fn walls(
+    rt: &impl Print,
+    lines: &[u32; 3072],
+    starts: &[i32; 3072],
+    ends: &[i32; 3072],
+    n: usize,
+) -> io::Result<()> {
+    show_u32(rt, b", lines", lines, n)?;
+    show_i32(rt, b", starts", starts, n)?;
+    show_i32(rt, b", ends", ends, n)
 }
 
-fn faces(start_shapes: &[u16; 3072], end_shapes: &[u16; 3072], n: usize) {
-    show_u16(b", start shapes", start_shapes, n);
-    show_u16(b", end shapes", end_shapes, n);
+fn faces(
+    rt: &impl Print,
+    start_shapes: &[u16; 3072],
+    end_shapes: &[u16; 3072],
+    n: usize,
+) -> io::Result<()> {
+    show_u16(rt, b", start shapes", start_shapes, n)?;
+    show_u16(rt, b", end shapes", end_shapes, n)
 }
 
 fn classify(
+    rt: &impl Print,
     fitted: bool,
     fittings: &[u8],
     sheet: &[u8],
@@ -167,28 +212,31 @@ fn classify(
     p: &[i32],
     s: &[u16],
     room: [usize; 8],
-) {
+) -> io::Result<()> {
     let mut lines = [99u32; 3072];
     let mut starts = [99i32; 3072];
     let mut ends = [99i32; 3072];
     let mut start_shapes = [99u16; 3072];
     let mut end_shapes = [99u16; 3072];
-    let n = classified(job_classify::classify(
-        fitted,
-        fittings,
-        sheet,
-        r,
-        l,
-        p,
-        s,
-        lend_u32(&mut lines, room[0]),
-        lend_i32(&mut starts, room[1]),
-        lend_i32(&mut ends, room[2]),
-        lend_u16(&mut start_shapes, room[3]),
-        lend_u16(&mut end_shapes, room[4]),
-    ));
-    walls(&lines, &starts, &ends, shown(n));
-    faces(&start_shapes, &end_shapes, shown(n));
+    let n = classified(
+        rt,
+        job_classify::classify(
+            fitted,
+            fittings,
+            sheet,
+            r,
+            l,
+            p,
+            s,
+            lend_u32(&mut lines, room[0]),
+            lend_i32(&mut starts, room[1]),
+            lend_i32(&mut ends, room[2]),
+            lend_u16(&mut start_shapes, room[3]),
+            lend_u16(&mut end_shapes, room[4]),
+        ),
+    )?;
+    walls(rt, &lines, &starts, &ends, shown(n))?;
+    faces(rt, &start_shapes, &end_shapes, shown(n))
 }
 
 // Whether the job takes the lists that the case gives, and has as many answer lists as the case lends, where it says so.
@@ -202,14 +250,26 @@ fn takes(job: usize, given: usize, rooms: usize) -> bool {
     }
 }
 
-fn of_toggles(fitted: bool, fittings: &[u8], sheet: &[u8], g: Lists) {
+fn of_toggles(
+    rt: &impl Print,
+    fitted: bool,
+    fittings: &[u8],
+    sheet: &[u8],
+    g: Lists,
+) -> io::Result<()> {
     let n = g.lengths;
     let room = g.room;
     let shapes = g.shapes;
-    run(fitted, fittings, sheet, part_u16(&shapes, n[3]), room);
+    run(rt, fitted, fittings, sheet, part_u16(&shapes, n[3]), room)
 }
 
-fn of_lines(fitted: bool, fittings: &[u8], sheet: &[u8], g: Lists) {
+fn of_lines(
+    rt: &impl Print,
+    fitted: bool,
+    fittings: &[u8],
+    sheet: &[u8],
+    g: Lists,
+) -> io::Result<()> {
     let n = g.lengths;
     let room = g.room;
     let rows = g.rows;
@@ -217,6 +277,7 @@ fn of_lines(fitted: bool, fittings: &[u8], sheet: &[u8], g: Lists) {
     let positions = g.positions;
     let shapes = g.shapes;
     classify(
+        rt,
         fitted,
         fittings,
         sheet,
@@ -225,43 +286,49 @@ fn of_lines(fitted: bool, fittings: &[u8], sheet: &[u8], g: Lists) {
         part_i32(&positions, n[2]),
         part_u16(&shapes, n[3]),
         room,
-    );
+    )
 }
 
-fn call(job: usize, fitted: bool, fittings: &[u8], sheet: &[u8], g: Lists) {
+fn call(
+    rt: &impl Print,
+    job: usize,
+    fitted: bool,
+    fittings: &[u8],
+    sheet: &[u8],
+    g: Lists,
+) -> io::Result<()> {
     let room = g.room;
     match job {
-        READ => read(fitted, fittings, sheet),
-        BUILD => build(fitted, fittings, sheet, room),
-        RUN => of_toggles(fitted, fittings, sheet, g),
-        _ => of_lines(fitted, fittings, sheet, g),
+        READ => read(rt, fitted, fittings, sheet),
+        BUILD => build(rt, fitted, fittings, sheet, room),
+        RUN => of_toggles(rt, fitted, fittings, sheet, g),
+        _ => of_lines(rt, fitted, fittings, sheet, g),
     }
 }
 
-fn good(c: Case) -> bool {
+fn good(c: &Case) -> bool {
     let m = c.reached;
-    let s = c.sheet;
-    let g = c.lists;
-    let n = g.lengths;
-    m.good && s.good && g.good && takes(m.job, m.given, n[4])
+    let n = c.lists.lengths;
+    m.good && c.sheet.good && c.lists.good && takes(m.job, m.given, n[4])
 }
 
-pub fn answer(c: Case) {
-    if good(c) {
+pub fn answer(rt: &impl Print, c: Case) -> io::Result<()> {
+    if good(&c) {
         let m = c.reached;
         let s = closed(c.sheet);
         let bytes = s.bytes;
         let all = part_u8(&bytes, s.length);
         let fittings = between(all, 0, s.fittings);
         call(
+            rt,
             m.job,
             s.fitted,
             fittings,
             between(all, s.fittings, s.length),
             c.lists,
-        );
-        say(b"\n");
+        )?;
+        say(rt, b"\n")
     } else {
-        say(b" malformed\n");
+        say(rt, b" malformed\n")
     }
 }

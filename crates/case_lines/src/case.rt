@@ -23,7 +23,7 @@ pub const RUN: usize = 3;
 
 pub const CLASSIFY: usize = 4;
 
-#[derive(Drop)]
+#[derive(Clone, Copy)]
 pub struct Reached {
     // Where the line begins, where its name and the colon end, and where the word begins.
     pub line: usize,

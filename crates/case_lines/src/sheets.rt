@@ -155,10 +155,8 @@ fn put(d: Draft, sign: u8) -> Draft {
 
 fn put_all(d: Draft, word: &[u8]) -> Draft {
     let mut t = d;
-    let mut i: usize = 0;
-    while i < word.len() {
-        t = put(t, word[i]);
-        i += 1;
+    for &sign in word {
+        t = put(t, sign);
     }
     t
 }
@@ -176,10 +174,8 @@ fn piece(d: Draft, word: &[u8], time: usize) -> Draft {
 
 fn pieces(d: Draft, word: &[u8], times: usize) -> Draft {
     let mut t = d;
-    let mut k: usize = 0;
-    while k < times {
+    for k in 0..times {
         t = piece(t, word, k);
-        k += 1;
     }
     t
 }

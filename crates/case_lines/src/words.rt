@@ -30,10 +30,8 @@ fn with_digit(n: u64, d: u64) -> u64 {
 
 pub fn number(word: &[u8]) -> u64 {
     let mut n: u64 = if word.len() == 0 { NONE } else { 0 };
-    let mut i: usize = 0;
-    while i < word.len() {
-        n = with_digit(n, digit(word[i]));
-        i += 1;
+    for &byte in word {
+        n = with_digit(n, digit(byte));
     }
     n
 }

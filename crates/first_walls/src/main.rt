@@ -4,28 +4,15 @@
 ghost use Rattle.std.specs.Prelude.{◌<◌};
 
 use job_classify::ClassifyAnswer;
+use std::io;
 
-fn number(n: u32) {
-    io::print_decimal(1, n as u64);
-    io::write_all(1, b",");
-}
-
-fn position(z: i32) {
-    let m = cross_ranks::rank_of(z);
-    if m < 2147483648 {
-        io::write_all(1, b"-");
-        number(2147483648 - m);
-    } else {
-        number(m - 2147483648);
-    }
-}
-
-fn name(sheet: &[u8], shape: u16, end: &[u8]) {
-    io::write_all(1, job_name::name(false, b"", sheet, shape as usize));
-    io::write_all(1, end);
+fn name(rt: &impl Print, sheet: &[u8], shape: u16, end: &[u8]) -> io::Result<()> {
+    rt.write_all(job_name::name(false, b"", sheet, shape as usize))?;
+    rt.write_all(end)
 }
 
 fn wall(
+    rt: &impl Print,
     sheet: &[u8],
     k: usize,
     lines: &[u32; 6],
@@ -33,14 +20,15 @@ fn wall(
     ends: &[i32; 6],
     start_shapes: &[u16; 6],
     end_shapes: &[u16; 6],
-)
+) -> io::Result<()>
     requires { k < 6 }
 {
-    number(lines[k]);
-    position(starts[k]);
-    position(ends[k]);
-    name(sheet, start_shapes[k], b",");
-    name(sheet, end_shapes[k], b"\n");
+    let line = lines[k];
+    let start = starts[k];
+    let end = ends[k];
+    print!(rt; "{line},{start},{end},")?;
+    name(rt, sheet, start_shapes[k], b",")?;
+    name(rt, sheet, end_shapes[k], b"\n")
 }
 
 // Line 0 meets nothing; line 1 goes through block and bore, line 2 through the block alone.
@@ -76,7 +64,8 @@ fn classify(
     }
 }
 
-fn main() {
+// A write that fails ends the program with its error.
+fn main(rt: HostRuntime) -> io::Result<()> {
     let sheet =
         b"\x01\x00\x02\x00\x01\x02\x00\x05Block\x02\x00\x04Bore\x03\x00\x06\x00\x00\x00\x01\xff\xf2";
     let mut lines = [0u32; 6];
@@ -92,10 +81,38 @@ fn main() {
         &mut start_shapes,
         &mut end_shapes,
     );
-    io::write_all(1, b"line,start,end,start_shape,end_shape\n");
+    println!(rt; "line,start,end,start_shape,end_shape")?;
     if walls == 3 {
-        wall(sheet, 0, &lines, &starts, &ends, &start_shapes, &end_shapes);
-        wall(sheet, 1, &lines, &starts, &ends, &start_shapes, &end_shapes);
-        wall(sheet, 2, &lines, &starts, &ends, &start_shapes, &end_shapes);
+        wall(
+            &rt,
+            sheet,
+            0,
+            &lines,
+            &starts,
+            &ends,
+            &start_shapes,
+            &end_shapes,
+        )?;
+        wall(
+            &rt,
+            sheet,
+            1,
+            &lines,
+            &starts,
+            &ends,
+            &start_shapes,
+            &end_shapes,
+        )?;
+        wall(
+            &rt,
+            sheet,
+            2,
+            &lines,
+            &starts,
+            &ends,
+            &start_shapes,
+            &end_shapes,
+        )?;
     }
+    Ok(())
 }

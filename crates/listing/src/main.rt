@@ -2,44 +2,29 @@
 // record; or `refused`, number and place.
 #![tactic(auto)]
 
+ghost use Rattle.std.specs.Prelude.{◌≤◌, length, IfOk};
+
 use job_build::BuildAnswer;
+use std::io;
+use std::io::{ErrorKind, Read};
 
-fn number(n: usize) {
-    io::print_decimal(1, n as u64);
-}
-
-fn next(n: usize) {
-    io::write_all(1, b" ");
-    number(n);
-}
-
-fn end_line() {
-    io::write_all(1, b"\n");
-}
-
-fn record(kind: u16, first: u16, second: u16) {
-    number(kind as usize);
-    next(first as usize);
-    next(second as usize);
-    end_line();
-}
-
-fn records(kinds: &[u16; 3072], firsts: &[u16; 3072], seconds: &[u16; 3072], nodes: usize) {
-    let mut i: usize = 0;
-    while i < nodes && i < 3072 {
-        record(kinds[i], firsts[i], seconds[i]);
-        i += 1;
+fn records(
+    rt: &impl Print,
+    kinds: &[u16; 3072],
+    firsts: &[u16; 3072],
+    seconds: &[u16; 3072],
+    nodes: usize,
+) -> io::Result<()> {
+    for i in 0..nodes.min(3072) {
+        let kind = kinds[i];
+        let first = firsts[i];
+        let second = seconds[i];
+        println!(rt; "{kind} {first} {second}")?;
     }
+    Ok(())
 }
 
-fn refused(number: u8, place: usize) {
-    io::write_all(1, b"refused");
-    next(number as usize);
-    next(place);
-    end_line();
-}
-
-fn list(sheet: &[u8]) {
+fn list(rt: &impl Print, sheet: &[u8]) -> io::Result<()> {
     let mut kinds = [0u16; 3072];
     let mut firsts = [0u16; 3072];
     let mut seconds = [0u16; 3072];
@@ -50,21 +35,40 @@ fn list(sheet: &[u8]) {
             rounds,
             height,
         } => {
-            number(leaves);
-            next(nodes);
-            next(rounds);
-            next(height);
-            end_line();
-            records(&kinds, &firsts, &seconds, nodes);
+            println!(rt; "{leaves} {nodes} {rounds} {height}")?;
+            records(rt, &kinds, &firsts, &seconds, nodes)
         }
-        BuildAnswer::Refused { number: k, place } => refused(k, place),
-        BuildAnswer::Unfit { number: k, place } => refused(k, place),
+        BuildAnswer::Refused { number, place } => println!(rt; "refused {number} {place}"),
+        BuildAnswer::Unfit { number, place } => println!(rt; "refused {number} {place}"),
     }
 }
 
-// A sheet has at most 13,062 bytes, and one byte more is as good as any number of them.
-fn main() {
+// Reads until the bytes are full or the input ends, and gives how many there are.
+fn read_full(input: &mut impl Read, bytes: &mut [u8]) -> io::Result<usize>
+    ensures { IfOk result (λ n. n ≤ length bytes.new) }
+{
+    let mut done: usize = 0;
+    for _ in 0..u64::MAX {
+        if done >= bytes.len() {
+            break;
+        }
+        match input.read(&mut bytes[done..]) {
+            Ok(0) => break,
+            Ok(n) => done += n,
+            Err(e) => {
+                if e.kind() != ErrorKind::Interrupted {
+                    return Err(e);
+                }
+            }
+        }
+    }
+    Ok(done)
+}
+
+// A sheet has at most 13,062 bytes, and one byte more is as good as any number of them. A read or a write that fails ends the program with
+// its error.
+fn main(rt: HostRuntime) -> io::Result<()> {
     let mut bytes = [0u8; 13063];
-    let n = io::read_full(0, &mut bytes);
-    list(&bytes[..n]);
+    let n = read_full(&mut rt.stdin(), &mut bytes)?;
+    list(&rt, &bytes[..n])
 }
