@@ -8,7 +8,7 @@ use lib.Dec.{ltb}
 use lib.ListN.{length, get_or, length-append, get_or-append}
 use borrow.Author.Tests.{ltb-true, ltb-false}
 use Rattle.outcome.specs.Outcome.{Outcome, given, refused, unfit, need, ◌>>=◌, ◌>>◌, part, of_fittings}
-use Rattle.sheet.specs.Sheet.{Sheets, alone, beside, Sheet, between, own, fitting_names, reading}
+use Rattle.sheet.specs.Sheet.{Sheets, alone, beside, Sheet, between, past_at, own, fitting_names, reading}
 use Rattle.sheet.specs.Walk.{walk_end, walk_names}
 use Rattle.sheet.specs.Guaranteed.{Own, Fitted}
 use Rattle.sheet.proofs.Guaranteed.{own_guaranteed, fitted}
@@ -20,7 +20,7 @@ walk_name : (s : List ℕ) (at m n : ℕ) → n < m → get_or (walk_names s at 
 unfolding walk_names walk_end
 walk_name s at zero n h = absurd (omega arith)
 walk_name s at (suc m) zero h = sym (bytes-between s at _ refl)
-walk_name s at (suc m) (suc n) h = walk_name s _ m n (omega arith)
+walk_name s at (suc m) (suc n) h = walk_name s (past_at s at) m n (omega arith)
 
 -- past the first list, the second one
 get_d_second : (xs ys : List (List ℕ)) (k : ℕ) → length xs ≤ k → get_or (xs ++ ys) k [] ≡ get_or ys (k - length xs) []

@@ -38,4 +38,4 @@ name-numbered c k = rw (asked_place c k) (bind_numbered (reading c) _ (reading-n
 
 -- The name's bytes as they stand in whichever of the two sheets holds it.
 pub name_stands : (c : Sheets) (k : ℕ) → naming c k ≡ part (bytes_of c) (placing c k)
-name_stands = bytes.name-stands
+name_stands = bytes.name_stands

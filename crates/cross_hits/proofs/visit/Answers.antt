@@ -8,7 +8,7 @@ pub loop-rest-init : goal.loop-rest-init
 loop-rest-init c = (search (walk_starts, rules), visit_starts)
 
 pub returns-then-block-c-clause-reached : goal.returns-then-block-c-clause-reached
-returns-then-block-c-clause-reached c = search (visit_last, rules)
+returns-then-block-c-clause-reached c = λ cuts begun. search (visit_last, rules)
 
 pub add-requires : goal.add-requires
 add-requires c = (search (walk_held, rules), omega arith, search (walk_here, rules))
