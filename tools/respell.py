@@ -18,6 +18,7 @@ ROOT = pathlib.Path(__file__).resolve().parent.parent
 NAME = r'[^\s(){}.;,@"«»`\[\]]+'
 # Functions of the library, as its lemmas name them.
 LIBRARY = set("length take drop set get_or map append foldl replicate eqb ltb leb cond suc".split())
+RESERVED = set("let in elim λ where module infix infixl infixr =".split())
 # Where the plain respelling falls together with a name of src/ or of the library, or is no fact's spelling.
 RENAMED = {
     "three": "Three",
@@ -26,6 +27,7 @@ RENAMED = {
     "openNext": "next_open",
     "twoAt": "two_bytes_at",
     "shape-by": "shape_by_lem",
+    "goesOn": "going_on",
 }
 
 
@@ -44,9 +46,13 @@ class Declared:
         self.names, self.fields, self.definitions, self.imported = set(), set(), set(LIBRARY), set()
         for path in antt_files():
             self.read(path, bare(path.read_text(encoding="utf-8")))
+        for path in sorted(ROOT.glob("crates/*/src/**/*.rt")):
+            for line in re.findall(r"(?m)^ghost use .*$", path.read_text(encoding="utf-8")):
+                self.names |= set(re.findall(rf" as ({NAME})(?=[,}}])", line))
 
     def read(self, path, text):
         record = None
+        self.names |= set(re.findall(r"(?<![\w'-])[a-z]+[a-z0-9]*(?:[A-Z][a-z0-9]+)+(?![\w'-])", re.sub(r"(?m)^use .*$", "", text)))
         for found in re.finditer(r"(?m)^use ([^\s{;]+?)\.\{([^}]*)\}", text):
             own = re.match(r"Rattle\.(?!std\b|core\b)", found[1]) and ".declared" not in found[1]
             for item in found[2].split(","):
@@ -69,7 +75,7 @@ class Declared:
                 continue
             made = path.name == "Proof.antt" and re.search(r" : (tie|goal)\.", line)
             item = re.match(rf"\s*((?:abbrev |unfoldable |pub )*)({NAME}(?: {NAME})*?)((?: \{{[^{{}}]*\}})*) :( |$)", line)
-            if not item or made or re.search(r"\b(let|in|elim|λ|where|module|infix\w?)\b|=", item[2]):
+            if not item or made or set(item[2].split()) & RESERVED:
                 continue
             for name in item[2].split():
                 self.names.add(name)
@@ -105,7 +111,7 @@ def spelled(declared):
             table[name] = RENAMED[name]
             continue
         parts = [RENAMED.get(part) or (in_snake_case(part) if part in camel or part[:1].islower() else part) for part in name.split("-")]
-        known = {RENAMED.get(it) or in_snake_case(it) for it in definitions if it[:1].islower()} | {it for it in definitions if it[:1].isupper()}
+        known = {RENAMED.get(it) or in_snake_case(it) for it in definitions if it[:1].islower() and it[1:]} | {it for it in definitions if it[:1].isupper()}
         new = "_".join(parts) if name in declared.fields else parts_joined("-".join(parts), known)
         if new != name:
             table[name] = new
@@ -139,7 +145,7 @@ def settled(table, fields):
     return {old: new for old, new in table.items() if old not in clashes}, clashes
 
 
-def turned(text, table, fields, prose):
+def turned(text, table, fields, prose, whole=""):
     """The text with each name spelled anew. Behind a dot a dashed name turns only if it is a record's field or stands in a module's alias."""
 
     def word(found):
@@ -147,8 +153,10 @@ def turned(text, table, fields, prose):
         if name not in table:
             return name
         before = text[: found.start()]
-        if before.endswith(".") and "-" in name and name not in fields and not re.search(r"(?:^|[\s(])[A-Z]\w*\.$", before):
-            return name
+        if before.endswith(".") and "-" in name and name not in fields:
+            alias = re.search(r"(?:^|[\s(])([A-Za-z]\w*)\.$", before)
+            if not alias or not re.search(rf"(?m)^use Rattle\.\S+ as {alias[1]}$", whole):
+                return name
         return table[name]
 
     if prose:
@@ -187,7 +195,7 @@ def main():
                 for found in re.finditer(rf"(?m)^({NAME}) : (?:tie|goal)\.", text):
                     names.pop(found[1], None)
                 text = re.sub(rf"(?<=[\s(])({NAME})-spec(?=\s|$)", lambda found: found[1].replace("-", "_") + "_spec", text)
-            new = "".join(turned(part, names, declared.fields, prose) for part, prose in split_comments(text, mark))
+            new = "".join(turned(part, names, declared.fields, prose, text) for part, prose in split_comments(text, mark))
         elif path.suffix == ".edit":
             new = "\n".join(
                 turned(line, table, declared.fields, not re.match(r"(old|new):", line)) for line in text.split("\n")

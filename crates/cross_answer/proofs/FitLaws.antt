@@ -16,7 +16,7 @@ use Rattle.cross_cuts.specs.Every.{Every}
 use Rattle.cross_cuts.specs.Fit.{unended, NeverFalls, Fit}
 use Rattle.cross_cuts.proofs.EveryLaws.{every_append, every_map, every_ordered_by, every_more}
 use Rattle.cross_answer.specs.Giving.{InRange}
-use Rattle.cross_answer.proofs.GiveLaws.{crossings-in-range}
+use Rattle.cross_answer.proofs.GiveLaws.{crossings_in_range}
 
 -- ---- bytes
 start-bit : (c : Cut) → leb (start_of c) 1 ≡ true
@@ -83,6 +83,6 @@ fit cuts r = record {
   a_byte_a_shape = length-map cuts start_of;
   bytes = start-bits cuts;
   numbers = every_ordered_by (λ x. ltb (shape_of x) (length cuts)) before (crossings_from 0 cuts) (shapes_below (length cuts) 0 cuts (omega arith));
-  unended_positions = every_more (λ x. allowed (position_of x)) (λ x. unended (position_of x)) (λ x. allowed-unended (position_of x)) (line_crossings cuts) (crossings-in-range cuts r);
+  unended_positions = every_more (λ x. allowed (position_of x)) (λ x. unended (position_of x)) (λ x. allowed-unended (position_of x)) (line_crossings cuts) (crossings_in_range cuts r);
   never_falls = sorted_never_falls (line_crossings cuts) (ordered_by_sorted before before-one_way (crossings_from 0 cuts));
 }

@@ -55,15 +55,15 @@ module _ (n m : ℕ) (bytes keys keys' : List ℕ) {w : ℕ} (held : Held w byte
   }
 
 -- ---- every position that is given is in range
-positions-in-range : (j : ℕ) (cuts : List Cut) → InRange cuts → Every (λ x. allowed (position_of x)) (crossings_from j cuts)
+positions_in_range : (j : ℕ) (cuts : List Cut) → InRange cuts → Every (λ x. allowed (position_of x)) (crossings_from j cuts)
 unfolding crossings_from
-positions-in-range j [] r = tt
-positions-in-range j (c ∷ cs) r =
+positions_in_range j [] r = tt
+positions_in_range j (c ∷ cs) r =
     every_append (λ x. allowed (position_of x)) (map (λ p. crossed_at p j) (positions_of c)) (crossings_from (j + 1) cs)
-    (every_map (λ p. crossed_at p j) (λ x. allowed (position_of x)) (positions_of c) r.0) (positions-in-range (j + 1) cs r.1)
+    (every_map (λ p. crossed_at p j) (λ x. allowed (position_of x)) (positions_of c) r.0) (positions_in_range (j + 1) cs r.1)
 
-pub crossings-in-range : (cuts : List Cut) → InRange cuts → Every (λ x. allowed (position_of x)) (line_crossings cuts)
-crossings-in-range cuts r = every_ordered_by (λ x. allowed (position_of x)) before (crossings_from 0 cuts) (positions-in-range 0 cuts r)
+pub crossings_in_range : (cuts : List Cut) → InRange cuts → Every (λ x. allowed (position_of x)) (line_crossings cuts)
+crossings_in_range cuts r = every_ordered_by (λ x. allowed (position_of x)) before (crossings_from 0 cuts) (positions_in_range 0 cuts r)
 
 -- a rank whose position is in range has 32 bits
 rank-bits : (m : ℕ) → allowed (unrank m) ≡ true → m < 4294967296
@@ -125,7 +125,7 @@ module _ {wide number : ℕ} {cuts : List Cut} {bytes keys : List ℕ} {n m : �
 
   -- what is written is what the cuts give
   range : Every (λ x. allowed (position_of x)) (map crossing_of (rising (take m keys)))
-  range = rw in_order (crossings-in-range cuts r)
+  range = rw in_order (crossings_in_range cuts r)
 
   module _ (L L' : MadeLists) (w : Written n m bytes keys L L') where
     pub starts-written : L'.starts ≡ filled (start_row cuts) L.starts

@@ -54,11 +54,11 @@ module _ (rank low high : ℕ) where
   pub range_from : low ≤ rank → leb rank high ≡ within (unrank low) (unrank high) (unrank rank)
   range_from h = sym (within_is ∙ rw (le-leb low rank h))
 
-  in-low : within (unrank low) (unrank high) (unrank rank) ≡ true → low ≤ rank
-  in-low e = leb-true low rank (and_left (leb low rank) (leb rank high) (sym within_is ∙ e))
+  in_low : within (unrank low) (unrank high) (unrank rank) ≡ true → low ≤ rank
+  in_low e = leb-true low rank (and_left (leb low rank) (leb rank high) (sym within_is ∙ e))
 
-  in-high : within (unrank low) (unrank high) (unrank rank) ≡ true → rank ≤ high
-  in-high e = leb-true rank high (and_right (leb low rank) (leb rank high) (sym within_is ∙ e))
+  in_high : within (unrank low) (unrank high) (unrank rank) ≡ true → rank ≤ high
+  in_high e = leb-true rank high (and_right (leb low rank) (leb rank high) (sym within_is ∙ e))
 
 module _ (u v radius centre : ℕ) (a : Bool) (ea : a ≡ within (unrank 2146483648) (unrank 2148483648) (unrank u)) where
   pub ranges_u : a ≡ false → false ≡ in_ranges (unrank u) (unrank v) (unrank radius) (unrank centre)
@@ -91,14 +91,14 @@ small u v radius centre w says so =
     let er = and_left (within (unrank 2147483649) (unrank 2148483648) (unrank radius)) _ more in
     let ec = and_right (within (unrank 2147483649) (unrank 2148483648) (unrank radius)) _ more in
     record {
-      u_low = in-low u 2146483648 2148483648 eu;
-      u_high = in-high u 2146483648 2148483648 eu;
-      v_low = in-low v 2146483648 2148483648 ev;
-      v_high = in-high v 2146483648 2148483648 ev;
-      radius_low = in-low radius 2147483649 2148483648 er;
-      radius_high = in-high radius 2147483649 2148483648 er;
-      centre_low = in-low centre 1147483648 3147483648 ec;
-      centre_high = in-high centre 1147483648 3147483648 ec;
+      u_low = in_low u 2146483648 2148483648 eu;
+      u_high = in_high u 2146483648 2148483648 eu;
+      v_low = in_low v 2146483648 2148483648 ev;
+      v_high = in_high v 2146483648 2148483648 ev;
+      radius_low = in_low radius 2147483649 2148483648 er;
+      radius_high = in_high radius 2147483649 2148483648 er;
+      centre_low = in_low centre 1147483648 3147483648 ec;
+      centre_high = in_high centre 1147483648 3147483648 ec;
     }
 
 pub ball_met : (u v radius centre : ℕ) (w : Bool) (m : Met) → w ≡ in_ranges (unrank u) (unrank v) (unrank radius) (unrank centre) → w ≡ true → cut_of m ≡ chord_cut (unrank u) (unrank v) (unrank radius) (unrank centre)

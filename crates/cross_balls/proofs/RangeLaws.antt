@@ -74,10 +74,10 @@ ball_allowed u v radius centre = by (in_ranges u v radius centre) refl
     by false e = tt
 
 -- ---- all of them
-pub cuts-in-range : (numbers : List ℤ) → InRange (ball_cuts numbers)
+pub cuts_in_range : (numbers : List ℤ) → InRange (ball_cuts numbers)
 unfolding ball_cuts
-cuts-in-range [] = tt
-cuts-in-range (u ∷ []) = (tt, tt)
-cuts-in-range (u ∷ v ∷ []) = (tt, tt)
-cuts-in-range (u ∷ v ∷ radius ∷ []) = (tt, tt)
-cuts-in-range (u ∷ v ∷ radius ∷ centre ∷ rest) = (ball_allowed u v radius centre, cuts-in-range rest)
+cuts_in_range [] = tt
+cuts_in_range (u ∷ []) = (tt, tt)
+cuts_in_range (u ∷ v ∷ []) = (tt, tt)
+cuts_in_range (u ∷ v ∷ radius ∷ []) = (tt, tt)
+cuts_in_range (u ∷ v ∷ radius ∷ centre ∷ rest) = (ball_allowed u v radius centre, cuts_in_range rest)

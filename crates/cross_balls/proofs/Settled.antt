@@ -20,7 +20,7 @@ use Rattle.cross_answer.proofs.FitLaws.{fit}
 use Rattle.cross_answer.proofs.Answered.{need-refused, answered-numbered, answered-refused, answered-given}
 use Rattle.cross_balls.specs.Balls.{squared, half_chord, ball_cuts, crossing_balls}
 use Rattle.cross_balls.proofs.LentLaws.{length-cuts}
-use Rattle.cross_balls.proofs.RangeLaws.{cuts-in-range}
+use Rattle.cross_balls.proofs.RangeLaws.{cuts_in_range}
 
 -- the half chord's square is not above the radius squared less both offsets squared, and the next number's is
 pub half_chord_root : (u v radius : ℤ) → Root (squared radius - (squared u + squared v)) (half_chord u v radius)
@@ -39,7 +39,7 @@ module _ (numbers : List ℤ) (a b c : ℕ) where
   balls_fit cuts e =
       let f = need-given (leb (length (ball_cuts numbers)) 256) 18 256 _ cuts e in
       let is = answered-given 18 (ball_cuts numbers) a b c cuts f.1 in
-      rw is at (rw (length-cuts numbers) at (fit (ball_cuts numbers) (cuts-in-range numbers)))
+      rw is at (rw (length-cuts numbers) at (fit (ball_cuts numbers) (cuts_in_range numbers)))
 
   -- a refusal is 18 or 9
   pub balls_refused : (k p : ℕ) → crossing_balls numbers a b c ≡ refused k p → (k ≡ 18) ⊎ (k ≡ 9)

@@ -42,15 +42,15 @@ module _ (x y z : Float) (i : ℕ) (faces : List Float) where
     long_y : length (set (set faces i x) (256 + i) y) ≡ 768
     long_y = length-set (set faces i x) (256 + i) y ∙ long_x
 
-    placed-x : get_or (placed x y z i faces) i nan ≡ x
-    placed-x =
+    placed_x : get_or (placed x y z i faces) i nan ≡ x
+    placed_x =
         let a : i ≢ 512 + i = λ e. omega arith in
         let b : i ≢ 256 + i = λ e. omega arith in
         get_or-set_other (set (set faces i x) (256 + i) y) (512 + i) i z nan a
         ∙ (get_or-set_other (set faces i x) (256 + i) i y nan b ∙ get_or-set_same faces i x nan (omega arith))
 
-    placed-y : get_or (placed x y z i faces) (256 + i) nan ≡ y
-    placed-y =
+    placed_y : get_or (placed x y z i faces) (256 + i) nan ≡ y
+    placed_y =
         let a : 256 + i ≢ 512 + i = λ e. omega arith in
         get_or-set_other (set (set faces i x) (256 + i) y) (512 + i) (256 + i) z nan a ∙ get_or-set_same (set faces i x) (256 + i) y nan (omega (arith, long_x))
 
@@ -97,11 +97,11 @@ module _ {kinds : List ℕ} {numbers lows highs : List Float} {halves : List ℕ
           let s : j ≡ i = eqb-true j i q in
           rw (
             s,
-            placed-x a b c i lows inside sl,
-            placed-y a b c i lows inside sl,
+            placed_x a b c i lows inside sl,
+            placed_y a b c i lows inside sl,
             placed_z a b c i lows inside sl,
-            placed-x d e f i highs inside sh,
-            placed-y d e f i highs inside sh,
+            placed_x d e f i highs inside sh,
+            placed_y d e f i highs inside sh,
             placed_z d e f i highs inside sh,
             get_or-set_same halves i half 0 (omega (arith, before.sized.halves_length)),
             ← read,

@@ -17,7 +17,7 @@ use Rattle.cross_answer.proofs.GiveLaws.{crossings-count}
 use Rattle.cross_shapes.specs.declared.Probe.{Probe}
 use Rattle.cross_line.specs.Crossing.{good_probe, shape_cuts}
 use Rattle.cross_line.specs.Making.{Gatherable, Gathers}
-use Rattle.cross_line.proofs.LentLaws.{length-cuts, cuts-in-range}
+use Rattle.cross_line.proofs.LentLaws.{length-cuts, cuts_in_range}
 use Rattle.cross_drawn.specs.Asking.{line_judged}
 use Rattle.cross_drawn.specs.Drawn.{lines_from, drawn}
 use Rattle.cross_drawn.specs.Gathered.{Sound, LineEnds}
@@ -49,7 +49,7 @@ module _ (kinds : List ℕ) (numbers : List Float) (probe : Probe) (bytes keys :
   sound-held = sound.gathered.held
 
   pub sound-count : length (line_crossings (shape_cuts probe kinds numbers)) ≡ m
-  sound-count = crossings-count sound.gathered (cuts-in-range probe kinds numbers)
+  sound-count = crossings-count sound.gathered (cuts_in_range probe kinds numbers)
 
   pub sound_few : m ≤ 512
   sound_few = omega (arith, sound-held.few, sound-held.some)

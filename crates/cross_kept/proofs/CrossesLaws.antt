@@ -26,7 +26,7 @@ use Rattle.cross_columns.proofs.CutLaws.{cuts-length, cuts-at, box_pairs, none-a
 use Rattle.cross_axis.specs.Axes.{Codes, range_at, Said}
 use Rattle.cross_axis.specs.declared.Along.{Along}
 use Rattle.cross_hits.specs.Hits.{box_met, Passed, Crosses}
-use Rattle.cross_kept.specs.Keeping.{IsAxis, x-axis, y-axis, z_axis, first, second, along_of, Joined, remains, Pairs, Ranked, Over}
+use Rattle.cross_kept.specs.Keeping.{IsAxis, x_axis, y_axis, z_axis, first, second, along_of, Joined, remains, Pairs, Ranked, Over}
 use Rattle.cross_kept.specs.declared.Kept.{Kept}
 use Rattle.cross_kept.proofs.KeepLaws.{axis_near, low-on, high-on, finite-along}
 
@@ -155,11 +155,11 @@ right-right : (r s : Range) → meet r s ≢ wrong → s ≢ wrong
 right-right r s n e = n (rw e (meet-wrong r))
 
 module _ (probe : Probe) (lx ly lz hx hy hz : Float) where
-  abbrev on-x : Range
-  on-x = axis_range lx hx probe.ox probe.dx
+  abbrev on_x : Range
+  on_x = axis_range lx hx probe.ox probe.dx
 
-  abbrev on-y : Range
-  on-y = axis_range ly hy probe.oy probe.dy
+  abbrev on_y : Range
+  on_y = axis_range ly hy probe.oy probe.dy
 
   abbrev on_z : Range
   on_z = axis_range lz hz probe.oz probe.dz
@@ -172,11 +172,11 @@ module _ (probe : Probe) (lx ly lz hx hy hz : Float) where
       by true h = h
       by false h = refl
 
-  Three_ranged : box_range probe lx ly lz hx hy hz ≢ wrong → (on-x ≢ wrong) × ((on-y ≢ wrong) × (on_z ≢ wrong))
+  Three_ranged : box_range probe lx ly lz hx hy hz ≢ wrong → (on_x ≢ wrong) × ((on_y ≢ wrong) × (on_z ≢ wrong))
   unfolding box_range
   Three_ranged n =
-      let xy = left-right (meet on-x on-y) on_z n in
-      (left-right on-x on-y xy, (right-right on-x on-y xy, right-right (meet on-x on-y) on_z n))
+      let xy = left-right (meet on_x on_y) on_z n in
+      (left-right on_x on_y xy, (right-right on_x on_y xy, right-right (meet on_x on_y) on_z n))
 
 -- ---- ranks that code a range
 ranked : (z : ℤ) → allowed z ≡ true → (m : ℕ) × ((unrank m ≡ z) × (m ≤ 4294967295))
@@ -293,13 +293,13 @@ module _ {probe : Probe} {kept : Kept} {halves : List ℕ} {lows highs : List Fl
       → Said lows highs (first alone) (first alone + kept.shapes) (along_of probe (first alone)) l g → Said lows highs (second alone) (second alone + kept.shapes) (along_of probe (second alone)) l g
       → Joined (first alone) (second alone) kept.shapes l g → (a b : ℕ) → Codes (range_at lows highs (along_of probe alone) (alone + i)) a b
       → get_or cuts i fault ≡ box_met (max a (get_or l (768 + i) 0)) (min b (get_or g (768 + i) 0))
-  says x-axis i h box one other joined a b c =
+  says x_axis i h box one other joined a b c =
       let e : max3 a (get_or l (256 + i) 0) (get_or l (512 + i) 0) ≡ max a (get_or l (768 + i) 0) = omega (arith, joined.lesser i h) in
       let f : min3 b (get_or g (256 + i) 0) (get_or g (512 + i) 0) ≡ min b (get_or g (768 + i) 0) = omega (arith, joined.greater i h) in
       Three_say i h box a b (get_or l (256 + i) 0) (get_or g (256 + i) 0) (get_or l (512 + i) 0) (get_or g (512 + i) 0) c
       (one.right (256 + i) (omega arith) (omega arith) (sure_y i h box)) (other.right (512 + i) (omega arith) (omega arith) (sure_z i h box))
       ∙ rw (e, f)
-  says y-axis i h box one other joined a b c =
+  says y_axis i h box one other joined a b c =
       let e : max3 (get_or l (0 + i) 0) a (get_or l (512 + i) 0) ≡ max a (get_or l (768 + i) 0) = omega (arith, joined.lesser i h) in
       let f : min3 (get_or g (0 + i) 0) b (get_or g (512 + i) 0) ≡ min b (get_or g (768 + i) 0) = omega (arith, joined.greater i h) in
       Three_say i h box (get_or l (0 + i) 0) (get_or g (0 + i) 0) a b (get_or l (512 + i) 0) (get_or g (512 + i) 0)
@@ -313,8 +313,8 @@ module _ {probe : Probe} {kept : Kept} {halves : List ℕ} {lows highs : List Fl
       ∙ rw (e, f)
 
   sure : {alone : ℕ} → IsAxis alone → (i : ℕ) → i < kept.shapes → get_or halves i 0 ≡ 0 → range_at lows highs (along_of probe alone) (alone + i) ≢ wrong
-  sure x-axis i h box = sure_x i h box
-  sure y-axis i h box = sure_y i h box
+  sure x_axis i h box = sure_x i h box
+  sure y_axis i h box = sure_y i h box
   sure z_axis i h box = sure_z i h box
 
   Three : (i : ℕ) → i < kept.shapes → get_or halves i 0 ≡ 0 → (a b : ℕ) → Codes (range_at lows highs (along_of probe kept.alone) (kept.alone + i)) a b

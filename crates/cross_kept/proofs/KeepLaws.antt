@@ -20,7 +20,7 @@ use Rattle.cross_columns.specs.Columns.{FiniteFaces}
 use Rattle.cross_axis.specs.Axes.{Sized, FiniteAlong, Fillable, Said, Beside, Filled, SameNumbers}
 use Rattle.cross_axis.specs.declared.Along.{Along}
 use Rattle.cross_axis.proofs.AxisLaws.{beside-starts}
-use Rattle.cross_kept.specs.Keeping.{IsAxis, x-axis, y-axis, z_axis, first, second, along_of, AxisStill, Serves, Joined, Paired, remains, Leaves, Ranked, CanPair, Followable, Follows, NothingKept}
+use Rattle.cross_kept.specs.Keeping.{IsAxis, x_axis, y_axis, z_axis, first, second, along_of, AxisStill, Serves, Joined, Paired, remains, Leaves, Ranked, CanPair, Followable, Follows, NothingKept}
 use Rattle.cross_kept.specs.declared.Kept.{Kept}
 
 -- ---- before the first line
@@ -34,7 +34,7 @@ nothing = record { origin = of_bits binary64 0; component = of_bits binary64 0 }
 pub none_kept : (shapes : ℕ) (masks : List ℕ) → NothingKept shapes (record { one = nothing; other = nothing; alone = 0; shapes = shapes; left = 0; masks = masks; paired = false })
 none_kept shapes masks =
     let f : FiniteAlong nothing = record { origin = zero_finite; component = zero_finite } in
-    record { shapes_are = refl; numbers = record { one = f; other = f }; axis = x-axis; apart = refl }
+    record { shapes_are = refl; numbers = record { one = f; other = f }; axis = x_axis; apart = refl }
 
 pub ranked_starts : (shapes : ℕ) (kept : Kept) (halves : List ℕ) (lows highs : List Float) (lessers greaters : List ℕ) → shapes ≤ 256 → NothingKept shapes kept → length halves ≡ 256 → Sized lows highs lessers greaters → Ranked kept halves lows highs lessers greaters
 ranked_starts shapes kept halves lows highs lessers greaters few none h s = record {
@@ -53,11 +53,11 @@ still_alone = record { is = λ a. a }
 pub alone_z : {before : ℕ} → AxisStill before 512
 alone_z = record { is = λ a. z_axis }
 
-pub alone-y : {before : ℕ} → AxisStill before 256
-alone-y = record { is = λ a. y-axis }
+pub alone_y : {before : ℕ} → AxisStill before 256
+alone_y = record { is = λ a. y_axis }
 
-pub alone-x : {before : ℕ} → AxisStill before 0
-alone-x = record { is = λ a. x-axis }
+pub alone_x : {before : ℕ} → AxisStill before 0
+alone_x = record { is = λ a. x_axis }
 
 pub first_is : (alone : ℕ) → alone ≡ 0 → 256 ≡ first alone
 first_is alone e = rw e refl
@@ -71,11 +71,11 @@ second_is alone e = rw e refl
 pub second_else : (alone : ℕ) → alone ≢ 512 → 512 ≡ second alone
 second_else alone n = rw (ne_eqb alone 512 n) refl
 
-pub along-x : (probe : Probe) (start : ℕ) → start ≡ 0 → record { origin = probe.ox; component = probe.dx } ≡ along_of probe start
-along-x probe start e = rw e refl
+pub along_x : (probe : Probe) (start : ℕ) → start ≡ 0 → record { origin = probe.ox; component = probe.dx } ≡ along_of probe start
+along_x probe start e = rw e refl
 
-pub along-y : (probe : Probe) (start : ℕ) → start ≢ 0 → start ≡ 256 → record { origin = probe.oy; component = probe.dy } ≡ along_of probe start
-along-y probe start n e = rw e refl
+pub along_y : (probe : Probe) (start : ℕ) → start ≢ 0 → start ≡ 256 → record { origin = probe.oy; component = probe.dy } ≡ along_of probe start
+along_y probe start n e = rw e refl
 
 pub along_z : (probe : Probe) (start : ℕ) → start ≢ 0 → start ≢ 256 → record { origin = probe.oz; component = probe.dz } ≡ along_of probe start
 along_z probe start n m = rw (ne_eqb start 0 n, ne_eqb start 256 m) refl
@@ -279,8 +279,8 @@ record Apart (alone : ℕ) (old new : List ℕ) : Type 0 where
   both : Stays 768 old new
 
 apart : {alone : ℕ} {old new : List ℕ} → IsAxis alone → Beside alone (alone + 256) old new → Apart alone old new
-apart x-axis b = record { one = stays_above 256 b (omega arith); other = stays_above 512 b (omega arith); both = stays_above 768 b (omega arith) }
-apart y-axis b = record { one = stays_below 0 b (omega arith); other = stays_above 512 b (omega arith); both = stays_above 768 b (omega arith) }
+apart x_axis b = record { one = stays_above 256 b (omega arith); other = stays_above 512 b (omega arith); both = stays_above 768 b (omega arith) }
+apart y_axis b = record { one = stays_below 0 b (omega arith); other = stays_above 512 b (omega arith); both = stays_above 768 b (omega arith) }
 apart z_axis b = record { one = stays_below 0 b (omega arith); other = stays_below 256 b (omega arith); both = stays_above 768 b (omega arith) }
 
 still_sized : {lows highs : List Float} {l₀ g₀ l g : List ℕ} → Sized lows highs l₀ g₀ → length l ≡ length l₀ → length g ≡ length g₀ → Sized lows highs l g
@@ -310,35 +310,35 @@ ranked_beside {kept} m bl bg =
 
 -- ---- two axes filled, one after the other, and put together
 first-axis : {alone : ℕ} → IsAxis alone → IsAxis (first alone)
-first-axis x-axis = y-axis
-first-axis y-axis = x-axis
-first-axis z_axis = x-axis
+first-axis x_axis = y_axis
+first-axis y_axis = x_axis
+first-axis z_axis = x_axis
 
 second-axis : {alone : ℕ} → IsAxis alone → IsAxis (second alone)
-second-axis x-axis = z_axis
-second-axis y-axis = z_axis
-second-axis z_axis = y-axis
+second-axis x_axis = z_axis
+second-axis y_axis = z_axis
+second-axis z_axis = y_axis
 
 pub axis_near : {start : ℕ} → IsAxis start → start ≤ 512
-axis_near x-axis = omega arith
-axis_near y-axis = omega arith
+axis_near x_axis = omega arith
+axis_near y_axis = omega arith
 axis_near z_axis = omega arith
 
 -- filling the second leaves the first as it is
 first_stays : {alone there : ℕ} {old new : List ℕ} → IsAxis alone → Beside (second alone) there old new → Stays (first alone) old new
-first_stays x-axis b = stays_below 256 b (omega arith)
-first_stays y-axis b = stays_below 0 b (omega arith)
+first_stays x_axis b = stays_below 256 b (omega arith)
+first_stays y_axis b = stays_below 0 b (omega arith)
 first_stays z_axis b = stays_below 0 b (omega arith)
 
 -- an axis of finite faces
 pub low-on : {shapes : ℕ} {lows highs : List Float} → FiniteFaces shapes lows highs → {start : ℕ} → IsAxis start → (i : ℕ) → i < shapes → finite (get_or lows (start + i) nan) ≡ true
-low-on f x-axis i h = let e : i ≡ 0 + i = omega arith in rw (← e) (f.low.x i h)
-low-on f y-axis i h = f.low.y i h
+low-on f x_axis i h = let e : i ≡ 0 + i = omega arith in rw (← e) (f.low.x i h)
+low-on f y_axis i h = f.low.y i h
 low-on f z_axis i h = f.low.z i h
 
 pub high-on : {shapes : ℕ} {lows highs : List Float} → FiniteFaces shapes lows highs → {start : ℕ} → IsAxis start → (i : ℕ) → i < shapes → finite (get_or highs (start + i) nan) ≡ true
-high-on f x-axis i h = let e : i ≡ 0 + i = omega arith in rw (← e) (f.high.x i h)
-high-on f y-axis i h = f.high.y i h
+high-on f x_axis i h = let e : i ≡ 0 + i = omega arith in rw (← e) (f.high.x i h)
+high-on f y_axis i h = f.high.y i h
 high-on f z_axis i h = f.high.z i h
 
 fillable : (probe : Probe) {shapes start : ℕ} {lows highs : List Float} {l g : List ℕ} → good_probe probe ≡ true → FiniteFaces shapes lows highs → shapes ≤ 256 → Sized lows highs l g → IsAxis start → Fillable start (start + shapes) (along_of probe start) lows highs l g

@@ -16,8 +16,8 @@ use Rattle.cross_kept.specs.declared.Kept.{Kept}
 
 -- One of the three axes, by where it starts.
 pub data IsAxis : ℕ → Type 0 where
-  x-axis : IsAxis 0
-  y-axis : IsAxis 256
+  x_axis : IsAxis 0
+  y_axis : IsAxis 256
   z_axis : IsAxis 512
 
 -- Where the two others start.

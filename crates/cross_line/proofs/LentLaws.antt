@@ -14,7 +14,7 @@ use Rattle.cross_shapes.specs.Shapes.{finite, is_zero, shape_cut}
 use Rattle.cross_shapes.specs.declared.Probe.{Probe}
 use Rattle.cross_shapes.specs.declared.Shape.{Shape}
 use Rattle.cross_shapes.specs.declared.Shape.TheVariants.{HalfSpace, Block}
-use Rattle.cross_shapes.proofs.RangeLaws.{shape-in-range}
+use Rattle.cross_shapes.proofs.RangeLaws.{shape_in_range}
 use Rattle.cross_line.specs.Lent.{shape_from, shapes_of}
 use Rattle.cross_line.specs.Crossing.{all_three, good_probe, shape_cuts}
 
@@ -60,12 +60,12 @@ cut_at probe (k ∷ kinds) numbers (suc i) h =
     cut_at probe kinds (drop 6 numbers) i (omega arith)
     ∙ ap (λ l. shape_cut probe (shape_from (get_or kinds i 0) l)) (drop-drop (6 * i) 6 numbers ∙ ap (λ n. drop n numbers) six)
 
-pub cuts-in-range : (probe : Probe) (kinds : List ℕ) (numbers : List Float) → InRange (shape_cuts probe kinds numbers)
-cuts-in-range probe kinds numbers = by (shapes_of kinds numbers)
+pub cuts_in_range : (probe : Probe) (kinds : List ℕ) (numbers : List Float) → InRange (shape_cuts probe kinds numbers)
+cuts_in_range probe kinds numbers = by (shapes_of kinds numbers)
   where
     by : (shapes : List Shape) → InRange (map (λ shape. shape_cut probe shape) shapes)
     by [] = tt
-    by (s ∷ shapes) = (shape-in-range probe s, by shapes)
+    by (s ∷ shapes) = (shape_in_range probe s, by shapes)
 
 -- ---- the probe line
 module _ (f : Float → Bool) (a b c : Float) (x : Bool) (e : x ≡ f a) where

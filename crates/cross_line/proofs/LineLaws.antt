@@ -33,7 +33,7 @@ use Rattle.cross_line.specs.Crossing.{good_probe, shape_cuts, crossing_shapes}
 use Rattle.cross_line.specs.Making.{cuts_of, number_of, Gatherable, Gathers}
 use Rattle.cross_line.specs.declared.Maker.{Maker}
 use Rattle.cross_line.specs.declared.Maker.TheVariants.{Drawn, Balls}
-use Rattle.cross_line.proofs.LentLaws.{length-cuts, cut_at, cuts-in-range}
+use Rattle.cross_line.proofs.LentLaws.{length-cuts, cut_at, cuts_in_range}
 
 -- ---- one of them
 module _ (maker : Maker) (kinds : List ℕ) (numbers : List Float) (bs : List ℤ) (i : ℕ) (more : i < length (cuts_of maker kinds numbers bs)) where
@@ -77,9 +77,9 @@ module _ {w number : ℕ} {all : List Cut} {bytes keys : List ℕ} {i m : ℕ} (
     row_ends h = record { ends = going_ends number all bytes keys i m going (omega (arith, counted)) }
 
 -- ---- what both jobs answer
-pub all-in-range : (maker : Maker) (kinds : List ℕ) (numbers : List Float) (bs : List ℤ) → InRange (cuts_of maker kinds numbers bs)
-all-in-range (Drawn probe) kinds numbers bs = cuts-in-range probe kinds numbers
-all-in-range Balls kinds numbers bs = balls-ranges.cuts-in-range bs
+pub all_in_range : (maker : Maker) (kinds : List ℕ) (numbers : List Float) (bs : List ℤ) → InRange (cuts_of maker kinds numbers bs)
+all_in_range (Drawn probe) kinds numbers bs = cuts_in_range probe kinds numbers
+all_in_range Balls kinds numbers bs = balls-ranges.cuts-in-range bs
 
 module _ {w number : ℕ} {all : List Cut} {bytes keys : List ℕ} {r : Row} (gathers : Gathers w number all bytes keys r) where
   pub at-fault : (s : List ℕ) (p : List ℤ) (h : List ℕ) (i k : ℕ) → r ≡ row.Fault i → k ≡ number → Crossed (answered number all (length s) (length p) (length h)) (made_lists s p h) (Refused k i) (made_lists s p h)

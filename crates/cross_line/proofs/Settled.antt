@@ -17,7 +17,7 @@ use Rattle.cross_answer.proofs.FitLaws.{fit}
 use Rattle.cross_answer.proofs.Answered.{need-refused, answered-numbered, answered-refused, answered-given}
 use Rattle.cross_shapes.specs.declared.Probe.{Probe}
 use Rattle.cross_line.specs.Crossing.{good_probe, shape_cuts, crossing_shapes}
-use Rattle.cross_line.proofs.LentLaws.{length-cuts, cuts-in-range}
+use Rattle.cross_line.proofs.LentLaws.{length-cuts, cuts_in_range}
 
 module _ (probe : Probe) (kinds : List ℕ) (numbers : List Float) (a b c : ℕ) where
   -- the start row has a byte a shape, and the crossings are of these shapes, between the end marks and in order
@@ -27,7 +27,7 @@ module _ (probe : Probe) (kinds : List ℕ) (numbers : List Float) (a b c : ℕ)
       let f = need-given (leb (length kinds) 256) 16 256 _ cuts e in
       let g = need-given (good_probe probe) 16 65535 _ cuts f.1 in
       let is = answered-given 16 (shape_cuts probe kinds numbers) a b c cuts g.1 in
-      rw is at (rw (length-cuts probe kinds numbers) at (fit (shape_cuts probe kinds numbers) (cuts-in-range probe kinds numbers)))
+      rw is at (rw (length-cuts probe kinds numbers) at (fit (shape_cuts probe kinds numbers) (cuts_in_range probe kinds numbers)))
 
   -- a refusal is 16 or 9
   pub shapes_refused : (k p : ℕ) → crossing_shapes probe kinds numbers a b c ≡ refused k p → (k ≡ 16) ⊎ (k ≡ 9)

@@ -17,7 +17,7 @@ use Rattle.cross_answer.specs.Giving.{Written}
 use Rattle.cross_answer.proofs.GiveLaws.{starts-written, positions_written, shapes_written}
 use Rattle.cross_shapes.specs.declared.Probe.{Probe}
 use Rattle.cross_line.specs.Crossing.{shape_cuts}
-use Rattle.cross_line.proofs.LentLaws.{length-cuts, cuts-in-range}
+use Rattle.cross_line.proofs.LentLaws.{length-cuts, cuts_in_range}
 use Rattle.cross_drawn.specs.Drawn.{Drawn, rows_of, lines_from, positions_in, shapes_in, drawn}
 use Rattle.cross_drawn.specs.Gathered.{Sound}
 use Rattle.cross_drawn.specs.Judging.{lines_judged}
@@ -83,7 +83,7 @@ pub line_put : (k at n m : ℕ) (bytes keys : List ℕ) (R N : List ℕ) (P : Li
     (line_lists (take (n * k) R ++ (yR ++ drop (length R - n * k) (drop (n * k) R))) (take at N ++ (yN ++ drop (length N - at) (drop at N))) (take at P ++ (yP ++ drop (length P - at) (drop at P)))
     (take at S ++ (yS ++ drop (length S - at) (drop at S))))
 line_put k at n m bytes keys R N P S yR yN yP yS w numbered probe kinds numbers sound same =
-    let in-range = cuts-in-range probe kinds numbers in
+    let in-range = cuts_in_range probe kinds numbers in
     let lent = made_lists (take (length R - n * k) (drop (n * k) R)) (take (length P - at) (drop at P)) (take (length S - at) (drop at S)) in
     let whole : Complete 256 16 (shape_cuts probe kinds numbers) bytes keys n m = rw same sound.gathered in
     record {

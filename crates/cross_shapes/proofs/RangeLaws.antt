@@ -113,6 +113,6 @@ box_allowed probe lx ly lz hx hy hz =
     either (good_pair lx hx && (good_pair ly hy && good_pair lz hz)) (crossed_twice (box_range probe lx ly lz hx hy hz)) fault (twice-allowed (box_range probe lx ly lz hx hy hz) (box_within probe lx ly lz hx hy hz)) tt
 
 -- ---- either
-pub shape-in-range : (probe : Probe) (shape : Shape) → Every allowed (positions_of (shape_cut probe shape))
-shape-in-range probe (HalfSpace axis face) = half_allowed probe axis face
-shape-in-range probe (Block lx ly lz hx hy hz) = box_allowed probe lx ly lz hx hy hz
+pub shape_in_range : (probe : Probe) (shape : Shape) → Every allowed (positions_of (shape_cut probe shape))
+shape_in_range probe (HalfSpace axis face) = half_allowed probe axis face
+shape_in_range probe (Block lx ly lz hx hy hz) = box_allowed probe lx ly lz hx hy hz

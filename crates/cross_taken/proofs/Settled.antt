@@ -23,7 +23,7 @@ use Rattle.cross_cuts.specs.Fit.{unended, NeverFalls}
 use Rattle.cross_answer.proofs.FitLaws.{fit}
 use Rattle.cross_shapes.specs.declared.Probe.{Probe}
 use Rattle.cross_line.specs.Crossing.{shape_cuts}
-use Rattle.cross_line.proofs.LentLaws.{length-cuts, cuts-in-range}
+use Rattle.cross_line.proofs.LentLaws.{length-cuts, cuts_in_range}
 use Rattle.cross_drawn.specs.Drawn.{Drawn, rows_of, lines_from, positions_in, shapes_in, drawn_lists, drawn}
 use Rattle.cross_drawn.specs.Lent.{probes_of}
 use Rattle.cross_drawn.specs.Refusing.{gives}
@@ -160,7 +160,7 @@ drawn-classified f names named lines few fit lent k p e =
 
 lines_fit : (kinds : List ℕ) (numbers : List Float) (probes : List Probe) → AllFit (length kinds) (drawn kinds numbers probes)
 lines_fit kinds numbers [] = tt
-lines_fit kinds numbers (probe ∷ probes) = (rw (length-cuts probe kinds numbers) at (fit (shape_cuts probe kinds numbers) (cuts-in-range probe kinds numbers)), lines_fit kinds numbers probes)
+lines_fit kinds numbers (probe ∷ probes) = (rw (length-cuts probe kinds numbers) at (fit (shape_cuts probe kinds numbers) (cuts_in_range probe kinds numbers)), lines_fit kinds numbers probes)
 
 -- With as many names as shapes, one at least, it is refused 9 or not at all, once the sheet is accepted.
 pub many_classified : (kinds : List ℕ) (numbers lines : List Float) (lists : LineLists) (v : Drawn) → crossing_many kinds numbers lines lists ≡ gives v → 0 < length kinds

@@ -3,7 +3,7 @@
 
 ghost use Rattle.std.specs.Prelude.{◌≡◌, take};
 ghost use Rattle.formula.specs.Codes.{is_operation};
-ghost use Rattle.edit_checking.specs.Fits.{operates_at, in_time, fits as fitsIn, first_unfit};
+ghost use Rattle.edit_checking.specs.Fits.{operates_at, in_time, fits as fits_in, first_unfit};
 ghost use Rattle.edit_checking.specs.Asked.{Equal, Coded};
 
 // A position as an index.
@@ -48,7 +48,7 @@ fn in_time(most: u64, before: u64, m: u64) -> bool
 // Whether an edit fits.
 fn fits(formula: &[u16; 2048], n: usize, most: u64, before: u64, m: u64, p: u16, c: u16) -> bool
     requires { Coded formula.now n }
-    ensures { result ≡ fitsIn (take n formula.now) most before m p c }
+    ensures { result ≡ fits_in (take n formula.now) most before m p c }
 {
     if operates(formula, n, p) {
         if is_operation(c) {

@@ -126,7 +126,7 @@ module _ {d : Desk} {toggles : List ℕ} {j k : ℕ} {ks ls roots counts edits :
     toggle_there more none = go (ltb k (length d.moments)) refl
       where
         go : (b : Bool) → ltb k (length d.moments) ≡ b → j - k < length toggles
-        go true e = let h = ltb-true k (length d.moments) e in omega (arith, none.so h, (at_of c).listed.in-time k h)
+        go true e = let h = ltb-true k (length d.moments) e in omega (arith, none.so h, (at_of c).listed.in_time k h)
         go false e = omega (arith, ltb-false k (length d.moments) e, (at_of c).within, few_of c)
 
     edited-on : {e o n : ℕ} {ks' ls' : List ℕ} → Due d.moments d.positions d.codes d.places k (j - k) e o

@@ -20,4 +20,4 @@ pub record Listed (ms ps cs : List ℕ) (most : ℕ) : Type 0 where
   pub codes_long : length cs ≡ length ms
   pub low : (k : ℕ) → k < length ms → first_operation ≤ get_or cs k 0
   pub high : (k : ℕ) → k < length ms → get_or cs k 0 < first_operation + 4
-  pub in-time : (k : ℕ) → k < length ms → get_or ms k 0 ≤ most
+  pub in_time : (k : ℕ) → k < length ms → get_or ms k 0 ≤ most

@@ -15,8 +15,8 @@ use Rattle.edit_places.specs.Standing.{met, view, joined_starts, joined_ups, spo
 pub works-leaf : (k : ℕ) → k ≡ 0 → false ≡ works (kind_at k)
 works-leaf k e = rw (kind_at-leaf k e)
 
-pub works-in : (k : ℕ) → (k ≡ 0 → ⊥) → k < 13 → true ≡ works (kind_at k)
-works-in k a b = go (ltb k 5) refl (ltb k 9) refl
+pub works_in : (k : ℕ) → (k ≡ 0 → ⊥) → k < 13 → true ≡ works (kind_at k)
+works_in k a b = go (ltb k 5) refl (ltb k 9) refl
   where
     go : (x : Bool) → ltb k 5 ≡ x → (y : Bool) → ltb k 9 ≡ y → true ≡ works (kind_at k)
     go true p y q = rw (kind_at-E k a (ltb-true k 5 p))
@@ -48,8 +48,8 @@ meet-operation ss us xs ss' us' c j next e q h = rw (e, q, le-ltb c 65520 h)
 
 -- a node is entered, or is none to enter
 module _ (kind spot i : ℕ) (ps : List ℕ) {b : Bool} (known : b ≡ works (kind_at kind)) where
-  pub entered-in : {ps' : List ℕ} → b ≡ true → ps' ≡ set ps spot i → ps' ≡ entered kind spot i ps
-  entered-in e q = rw (← known, e) q
+  pub entered_in : {ps' : List ℕ} → b ≡ true → ps' ≡ set ps spot i → ps' ≡ entered kind spot i ps
+  entered_in e q = rw (← known, e) q
 
   pub entered_out : b ≡ false → ps ≡ entered kind spot i ps
   entered_out e = rw (← known, e)

@@ -39,8 +39,8 @@ data Where (a b i : ℕ) : Type 0 where
   at_own : i ≡ a + b → Where a b i
   beyond : a + b < i → Where a b i
 
-where-is : (a b i : ℕ) → Where a b i
-where-is a b i = go (ltb i a) refl (ltb i (a + b)) refl (eqb i (a + b)) refl
+where_is : (a b i : ℕ) → Where a b i
+where_is a b i = go (ltb i a) refl (ltb i (a + b)) refl (eqb i (a + b)) refl
   where
     go : (x : Bool) → ltb i a ≡ x → (y : Bool) → ltb i (a + b) ≡ y → (z : Bool) → eqb i (a + b) ≡ z → Where a b i
     go true e y s z t = in_left (ltb-true i a e)
@@ -55,7 +55,7 @@ where-is a b i = go (ltb i a) refl (ltb i (a + b)) refl (eqb i (a + b)) refl
 pub operation-code : (f : Formula) → Over 256 f → (p i : ℕ) → operations (p + i) p f ≡ count (leb first_operation (get_or (postfix f) i 0))
 operation-code (leaf s) v p zero = sym (ap count (lt-leb first_operation s (omega arith)))
 operation-code (leaf s) v p (suc i) = refl
-operation-code (node o l r) v p i = go (where-is (size l) (size r) i) (operation-code l v.0 p) (operation-code r v.1 (p + size l))
+operation-code (node o l r) v p i = go (where_is (size l) (size r) i) (operation-code l v.0 p) (operation-code r v.1 (p + size l))
   where
     go : Where (size l) (size r) i → ((j : ℕ) → operations (p + j) p l ≡ count (leb first_operation (get_or (postfix l) j 0)))
         → ((j : ℕ) → operations (p + size l + j) (p + size l) r ≡ count (leb first_operation (get_or (postfix r) j 0)))
@@ -114,7 +114,7 @@ own-set xs ys c v = set_append_right xs (ys ++ (c ∷ [])) (length ys) v ∙ ap 
 
 postfix-remade : (f : Formula) (p i : ℕ) (o : Op) → operations (p + i) p f ≡ 1 → postfix (remade (only (p + i) o) p f) ≡ set (postfix f) i (code o)
 postfix-remade (leaf s) p i o e = absurd (omega arith)
-postfix-remade (node x l r) p i o e = go (where-is (size l) (size r) i) (postfix-remade l p i o) (λ j. postfix-remade r (p + size l) j o)
+postfix-remade (node x l r) p i o e = go (where_is (size l) (size r) i) (postfix-remade l p i o) (λ j. postfix-remade r (p + size l) j o)
   where
     go : Where (size l) (size r) i → (operations (p + i) p l ≡ 1 → postfix (remade (only (p + i) o) p l) ≡ set (postfix l) i (code o))
         → ((j : ℕ) → operations (p + size l + j) (p + size l) r ≡ 1 → postfix (remade (only (p + size l + j) o) (p + size l) r) ≡ set (postfix r) j (code o))

@@ -136,7 +136,7 @@ record Fit (codes : List ℕ) (most before m p c : ℕ) : Type 0 where
   low : first_operation ≤ c
   high : c ≤ code exclusive
   risen : before ≤ m
-  in-time : m ≤ most
+  in_time : m ≤ most
 
 fit_of : (codes : List ℕ) (most before m p c : ℕ) → fits codes most before m p c ≡ true → Fit codes most before m p c
 fit_of codes most before m p c e =
@@ -145,7 +145,7 @@ fit_of codes most before m p c e =
     let x = both_true (leb first_operation (get_or codes p 0)) (leb (get_or codes p 0) (code exclusive)) a.0 in
     let y = both_true (leb first_operation c) (leb c (code exclusive)) b.0 in
     let z = both_true (leb before m) (leb m most) b.1 in
-    record { node = leb-true _ _ x.0; low = leb-true _ _ y.0; high = leb-true _ _ y.1; risen = leb-true _ _ z.0; in-time = leb-true _ _ z.1 }
+    record { node = leb-true _ _ x.0; low = leb-true _ _ y.0; high = leb-true _ _ y.1; risen = leb-true _ _ z.0; in_time = leb-true _ _ z.1 }
 
 record AllFit (codes : List ℕ) (most before : ℕ) (ms ps cs : List ℕ) : Type 0 where
   rises : Rises before (edits_of ms ps cs)
@@ -171,7 +171,7 @@ all_fit codes most before (m ∷ ms) (p ∷ ps) (c ∷ cs) a b e =
             → ((k : ℕ) → k < length ms → (first_operation ≤ get_or codes (get_or ps k 0) 0) × (first_operation ≤ get_or cs k 0) × (get_or cs k 0 ≤ code exclusive) × (get_or ms k 0 ≤ most))
             → (k : ℕ) → k < length (m ∷ ms)
             → (first_operation ≤ get_or codes (get_or (p ∷ ps) k 0) 0) × (first_operation ≤ get_or (c ∷ cs) k 0) × (get_or (c ∷ cs) k 0 ≤ code exclusive) × (get_or (m ∷ ms) k 0 ≤ most)
-        at f w zero h = (f.node, f.low, f.high, f.in-time)
+        at f w zero h = (f.node, f.low, f.high, f.in_time)
         at f w (suc k) h = w k (omega arith)
 
 first_wrong_most : (names : ℕ) (ts : List ℕ) → first_wrong names ts ≤ length ts
@@ -257,7 +257,7 @@ module _ {formula : List ℕ} {n : ℕ} {ks fs ss : List ℕ} {leaves nodes name
               codes_long = p.codes_long;
               low = λ k h. (f.each k h).1;
               high = λ k h. omega (arith, (f.each k h).2);
-              in-time = λ k h. (f.each k h).3;
+              in_time = λ k h. (f.each k h).3;
             };
         rises = f.rises;
         operated = λ k h. (f.each k h).0;

@@ -67,7 +67,7 @@ module _ (s codes : List ℕ) (n : ℕ) (holding : Holding s codes n) where
     used_double = omega (arith, used_few, holding.held.few)
 
     pub used_place : length s - 2 * n + 2 * k < 2 ^ 64
-    used_place = omega (arith, used_few, used_fits, holding.held.own.few-in-all)
+    used_place = omega (arith, used_few, used_fits, holding.held.own.few_in_all)
 
     pub used_some : UsedAt s codes n (length s - 2 * n + 2 * k)
     used_some =

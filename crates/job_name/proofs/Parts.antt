@@ -94,15 +94,15 @@ either_own : (f s : List ℕ) (a e : ℕ) → FittingStand f (stand 2 a e) ⊎ O
 either_own f s a e (inl o) = let h = o.is in let d : ◌≡◌ {A = ℕ} 2 1 = cc h in absurd (omega arith)
 either_own f s a e (inr o) = own-own s a e o
 
-pub stands-in : (b : Bool) (f s : List ℕ) (k : ℕ) (r : NameAnswer) → placed_of r ≡ placing (sheets_of b f s) k → StandsIn f s r
-stands-in true f s k (answer.Fitting a e) h = either_fitting f s a e (pair-given f s k (stand 1 a e) (fitting_names f) refl (sym h))
-stands-in true f s k (answer.Own a e) h = either_own f s a e (pair-given f s k (stand 2 a e) (fitting_names f) refl (sym h))
-stands-in true f s k (answer.Refused n p) h = tt
-stands-in true f s k (answer.Unfit n p) h = tt
-stands-in false f s k (answer.Fitting a e) h = own_fitting f s a e (alone-given s k (stand 1 a e) (sym h))
-stands-in false f s k (answer.Own a e) h = own-own s a e (alone-given s k (stand 2 a e) (sym h))
-stands-in false f s k (answer.Refused n p) h = tt
-stands-in false f s k (answer.Unfit n p) h = tt
+pub stands_in : (b : Bool) (f s : List ℕ) (k : ℕ) (r : NameAnswer) → placed_of r ≡ placing (sheets_of b f s) k → StandsIn f s r
+stands_in true f s k (answer.Fitting a e) h = either_fitting f s a e (pair-given f s k (stand 1 a e) (fitting_names f) refl (sym h))
+stands_in true f s k (answer.Own a e) h = either_own f s a e (pair-given f s k (stand 2 a e) (fitting_names f) refl (sym h))
+stands_in true f s k (answer.Refused n p) h = tt
+stands_in true f s k (answer.Unfit n p) h = tt
+stands_in false f s k (answer.Fitting a e) h = own_fitting f s a e (alone-given s k (stand 1 a e) (sym h))
+stands_in false f s k (answer.Own a e) h = own-own s a e (alone-given s k (stand 2 a e) (sym h))
+stands_in false f s k (answer.Refused n p) h = tt
+stands_in false f s k (answer.Unfit n p) h = tt
 
 -- the bytes of the part are the name's
 part_bytes : (b : Bool) (f s : List ℕ) (r : NameAnswer) → StandsIn f s r → (k : ℕ) → placed_of r ≡ placing (sheets_of b f s) k → part_of f s r ≡ bytes_given (part (bytes_of (sheets_of b f s)) (placed_of r))
@@ -117,7 +117,7 @@ part_bytes false f s (answer.Unfit n p) i k h = refl
 
 pub name-given : (b : Bool) (f s : List ℕ) (k : ℕ) (r : NameAnswer) → placed_of r ≡ placing (sheets_of b f s) k → (x : List ℕ) → x ≡ part_of f s r → x ≡ bytes_given (naming (sheets_of b f s) k)
 name-given b f s k r h x is =
-    is ∙ part_bytes b f s r (stands-in b f s k r h) k h ∙ ap (λ (o : Outcome Stand). bytes_given (part (bytes_of (sheets_of b f s)) o)) h
+    is ∙ part_bytes b f s r (stands_in b f s k r h) k h ∙ ap (λ (o : Outcome Stand). bytes_given (part (bytes_of (sheets_of b f s)) o)) h
     ∙ ap bytes_given (sym (name_stands (sheets_of b f s) k))
 
 -- ---- the part itself, by the answer

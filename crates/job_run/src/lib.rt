@@ -13,7 +13,7 @@ use labels::Size;
 use tree_dwarf::Figures;
 
 // What a toggle run answers; `Unfit` is a refusal of the fittings sheet.
-#[derive(Drop)]
+#[derive(Clone, Copy, Drop)]
 pub enum RunAnswer {
     Ran { nodes: usize },
     Refused { number: u8, place: usize },

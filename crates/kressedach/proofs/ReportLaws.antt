@@ -72,7 +72,7 @@ module _ {o : Outcome Numbers} {a : ReadAnswer} (said : answer_of a ≡ o) where
   read_reported is = ap read_report (sym (ap answer_of is) ∙ said)
 
   pub read-refused : {k p v : ℕ} → v ≡ sheet_of k → a ≡ read.Refused k p → record { number = k; sheet = v; place = p; names = 0; leaves = 0; first = 0; past = 0 } ≡ read_report o
-  read-refused in-sheet is = rw in-sheet (ap read_report (sym (ap answer_of is) ∙ said))
+  read-refused in_sheet is = rw in_sheet (ap read_report (sym (ap answer_of is) ∙ said))
 
   pub read-unfit : {k p : ℕ} → a ≡ read.Unfit k p → read_report (unfit k p) ≡ read_report o
   read-unfit is = ap read_report (sym (ap answer_of is) ∙ said)
@@ -85,7 +85,7 @@ module _ {o : Outcome Stand} {a : NameAnswer} (said : placed_of a ≡ o) where
   name-own is = ap name_report (sym (ap placed_of is) ∙ said)
 
   pub name-refused : {k p v : ℕ} → v ≡ sheet_of k → a ≡ name.Refused k p → record { number = k; sheet = v; place = p; first = 0; past = 0 } ≡ name_report o
-  name-refused in-sheet is = rw in-sheet (ap name_report (sym (ap placed_of is) ∙ said))
+  name-refused in_sheet is = rw in_sheet (ap name_report (sym (ap placed_of is) ∙ said))
 
   pub name-unfit : {k p : ℕ} → a ≡ name.Unfit k p → name_report (unfit k p) ≡ name_report o
   name-unfit is = ap name_report (sym (ap placed_of is) ∙ said)
@@ -103,7 +103,7 @@ module _ {o : Outcome (List Stand)} {ss fs ps : List ℕ} {a : NamesAnswer} {ss'
 
   pub names-refused : {k p v : ℕ} → v ≡ sheet_of k → a ≡ names.Refused k p
       → NamesReported o ss fs ps (record { number = k; sheet = v; place = p; names = 0 }) ss' fs' ps'
-  names-refused {k} {p} in-sheet is = rw in-sheet (names_as (refused k p) (ap count_of is))
+  names-refused {k} {p} in_sheet is = rw in_sheet (names_as (refused k p) (ap count_of is))
 
   pub names-unfit : {k p : ℕ} → a ≡ names.Unfit k p → NamesReported o ss fs ps (names_report (unfit k p)) ss' fs' ps'
   names-unfit {k} {p} is = names_as (unfit k p) (ap count_of is)
@@ -116,7 +116,7 @@ module _ {o : Outcome (List ℕ)} {bs : List ℕ} {a : MoveAnswer} {bs' : List �
   move_reported {n} is = move_as (given n) (ap length_of is)
 
   pub move_refused : {k p v : ℕ} → v ≡ sheet_of k → a ≡ move.Refused k p → MoveReported o bs (record { number = k; sheet = v; place = p; length = 0 }) bs'
-  move_refused {k} {p} in-sheet is = rw in-sheet (move_as (refused k p) (ap length_of is))
+  move_refused {k} {p} in_sheet is = rw in_sheet (move_as (refused k p) (ap length_of is))
 
   pub move_unfit : {k p : ℕ} → a ≡ move.Unfit k p → MoveReported o bs (move_report (unfit k p)) bs'
   move_unfit {k} {p} is = move_as (unfit k p) (ap length_of is)
@@ -134,7 +134,7 @@ module _ {o : Outcome DwarfTree} {ks fs ss : List ℕ} {a : BuildAnswer} {ks' fs
 
   pub build_refused : {k p v : ℕ} → v ≡ sheet_of k → a ≡ build.Refused k p
       → BuildReported o ks fs ss (record { number = k; sheet = v; place = p; leaves = 0; nodes = 0; rounds = 0; height = 0 }) ks' fs' ss'
-  build_refused {k} {p} in-sheet is = rw in-sheet (build_as (refused k p) (ap built_of is))
+  build_refused {k} {p} in_sheet is = rw in_sheet (build_as (refused k p) (ap built_of is))
 
   pub build_unfit : {k p : ℕ} → a ≡ build.Unfit k p → BuildReported o ks fs ss (build_report (unfit k p)) ks' fs' ss'
   build_unfit {k} {p} is = build_as (unfit k p) (ap built_of is)
@@ -144,7 +144,7 @@ module _ {a : RunAnswer} where
   report_ran is = ap (λ x. run_report (ran_of x)) (sym is)
 
   pub report_refused : {k p v : ℕ} → v ≡ sheet_of k → a ≡ run.Refused k p → record { number = k; sheet = v; place = p; nodes = 0 } ≡ run_report (ran_of a)
-  report_refused in-sheet is = rw in-sheet (ap (λ x. run_report (ran_of x)) (sym is))
+  report_refused in_sheet is = rw in_sheet (ap (λ x. run_report (ran_of x)) (sym is))
 
   pub report_unfit : {k p : ℕ} → a ≡ run.Unfit k p → run_report (unfit k p) ≡ run_report (ran_of a)
   report_unfit is = ap (λ x. run_report (ran_of x)) (sym is)
@@ -172,7 +172,7 @@ module _ {o : Outcome (List Wall)} {lent : AnswerLists} {a : ClassifyAnswer} {af
 
   pub classify_refused : {k p v : ℕ} → v ≡ sheet_of k → a ≡ classify.Refused k p
       → ClassifyReported o lent (record { number = k; sheet = v; place = p; walls = 0 }) after
-  classify_refused {k} {p} in-sheet is = rw in-sheet (classify_as (refused k p) (ap classified_of is))
+  classify_refused {k} {p} in_sheet is = rw in_sheet (classify_as (refused k p) (ap classified_of is))
 
   pub classify_unfit : {k p : ℕ} → a ≡ classify.Unfit k p → ClassifyReported o lent (classify_report (unfit k p)) after
   classify_unfit {k} {p} is = classify_as (unfit k p) (ap classified_of is)
@@ -186,7 +186,7 @@ module _ (n : ℕ) {a : JudgeAnswer} where
   judge_wrong is = ap (λ x. judge_report n (judged_of x)) (sym is)
 
   pub judge_refused : {k p v : ℕ} → v ≡ sheet_of k → a ≡ judge.Refused k p → record { number = k; sheet = v; right = false; place = p; index = 0 } ≡ judge_report n (judged_of a)
-  judge_refused in-sheet is = rw in-sheet (ap (λ x. judge_report n (judged_of x)) (sym is))
+  judge_refused in_sheet is = rw in_sheet (ap (λ x. judge_report n (judged_of x)) (sym is))
 
   pub judge_unfit : {k p : ℕ} → a ≡ judge.Unfit k p → judge_report n (unfit k p) ≡ judge_report n (judged_of a)
   judge_unfit is = ap (λ x. judge_report n (judged_of x)) (sym is)

@@ -11,7 +11,7 @@ ghost use Rattle.job_names.specs.Names.{naming_all};
 ghost use Rattle.job_move.specs.Moving.{moving};
 ghost use Rattle.job_build.specs.Building.{building};
 ghost use Rattle.job_run.specs.Running.{running};
-ghost use Rattle.job_edit.specs.Editing.{lists as editLists, running_edited};
+ghost use Rattle.job_edit.specs.Editing.{lists as edit_lists, running_edited};
 ghost use Rattle.job_run.specs.Ran.{ran_of};
 ghost use Rattle.job_both.specs.Shared.{lists};
 ghost use Rattle.lines.specs.Lines.{line_lists, answer_lists};
@@ -424,9 +424,9 @@ pub extern "C" fn kressedach_run_edited(
     edit_counts: &mut [u32],
 ) -> RunReport
     ensures { EditReported (running_edited (sheets_of fitted fittings.now sheet.now) toggles.now moments.now positions.now codes.now
-        (editLists roots.old counts.old labels.old edit_counts.old))
-        (editLists roots.old counts.old labels.old edit_counts.old) result
-        (editLists roots.new counts.new labels.new edit_counts.new) }
+        (edit_lists roots.old counts.old labels.old edit_counts.old))
+        (edit_lists roots.old counts.old labels.old edit_counts.old) result
+        (edit_lists roots.new counts.new labels.new edit_counts.new) }
 {
     run_report(job_edit::run_edited(
         fitted,

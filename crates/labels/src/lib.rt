@@ -2,10 +2,10 @@
 #![tactic(auto)]
 
 ghost use Rattle.std.specs.Prelude.{◌≡◌, true, false, [], ◌∷◌, ◌<◌, ◌≤◌, length, get_or, set, take};
-ghost use Rattle.formula.specs.Formula.{meaning as meaningOf, op_at};
+ghost use Rattle.formula.specs.Formula.{meaning as meaning_of, op_at};
 ghost use Rattle.formula.specs.States.{outside};
 ghost use Rattle.contraction.specs.Records.{left, right, children};
-ghost use Rattle.labels.specs.Labels.{bit as bit_of, on as isOn, pair as pair_of, pick as pick_of, raked, rule, label as label_of, labels as afresh};
+ghost use Rattle.labels.specs.Labels.{bit as bit_of, on as is_on, pair as pair_of, pick as pick_of, raked, rule, label as label_of, labels as afresh};
 ghost use Rattle.contraction.specs.Entries.{entry, kind_at, rec_of, rec_at, recs};
 ghost use Rattle.labels.specs.Linked.{Rules, Shaped, adopted, Parents, Chains, Bare, Above};
 
@@ -16,14 +16,14 @@ fn bit(b: bool) -> u8
 }
 
 fn on(x: u8) -> bool
-    ensures { result ≡ isOn x }
+    ensures { result ≡ is_on x }
 {
     x != 0
 }
 
 // What operation o says of the left operand a and the right operand b.
 fn meaning(o: u16, a: bool, b: bool) -> bool
-    ensures { result ≡ meaningOf (op_at o) a b }
+    ensures { result ≡ meaning_of (op_at o) a b }
 {
     match o {
         0 => a | b,

@@ -137,8 +137,8 @@ module _ (names : ℕ) (rows ls : List ℕ) (ps : List ℤ) (ss : List ℕ) (col
         new_open = ap (open_by edge from) same-events ∙ events_open edge line at (cell row) from n (λ j h. held-told names rows ls ps ss i cols lasts (cell row) j (omega (arith, block.narrow)))
 
         -- ---- a formula's pass through the block
-        module _ (f : Formula) (over : Over names f) (table : List ℕ) (arranged : Arranged) (stands : StandFor (postfix f) table arranged) (goesOn : Bool) (words words' : List ℕ)
-            (made : RowMade table arranged names rows ss cols lasts i n goesOn words words' row) (done : List Wall) (pass : Passing f names c i q goesOn words from done) (some : 1 ≤ n) where
+        module _ (f : Formula) (over : Over names f) (table : List ℕ) (arranged : Arranged) (stands : StandFor (postfix f) table arranged) (going_on : Bool) (words words' : List ℕ)
+            (made : RowMade table arranged names rows ss cols lasts i n going_on words words' row) (done : List Wall) (pass : Passing f names c i q going_on words from done) (some : 1 ≤ n) where
           abbrev state : State
           state = pass.state
 

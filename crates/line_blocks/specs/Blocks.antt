@@ -24,9 +24,9 @@ use Rattle.line_blocks.specs.declared.Pass.{Pass}
 -- ---- a block's row
 
 -- the shapes' rows have the states after each column, and the row is what the formula says of them
-pub record RowMade (table : List ℕ) (arranged : Arranged) (names : ℕ) (rows shapes cols lasts : List ℕ) (a n : ℕ) (goesOn : Bool) (words words' row : List ℕ) : Type 0 where
+pub record RowMade (table : List ℕ) (arranged : Arranged) (names : ℕ) (rows shapes cols lasts : List ℕ) (a n : ℕ) (going_on : Bool) (words words' row : List ℕ) : Type 0 where
   pub long : length words' ≡ length words
-  pub filled : (c : LineLists) (first : State) → c.rows ≡ rows → c.shapes ≡ shapes → Entered names goesOn words first → Filled names (flips_at names c a (planned cols lasts)) (last_at (planned cols lasts)) first words' n
+  pub filled : (c : LineLists) (first : State) → c.rows ≡ rows → c.shapes ≡ shapes → Entered names going_on words first → Filled names (flips_at names c a (planned cols lasts)) (last_at (planned cols lasts)) first words' n
   pub root : (codes : List ℕ) → StandFor codes table arranged → Root names codes words' row
 
 -- ---- the pass
@@ -48,10 +48,10 @@ abbrev pub left_of : ℕ → LineLists → Pass → List Column
 left_of names c p = left_at names c p.cursor.i p.cursor.q
 
 -- of a formula's walls these are found and this one is open, and the rest are those of the columns left; the shapes' rows have the states, if a column is left
-pub record Passing (f : Formula) (names : ℕ) (c : LineLists) (i q : ℕ) (goesOn : Bool) (words : List ℕ) (from : Option Edge) (done : List Wall) : Type 0 where
+pub record Passing (f : Formula) (names : ℕ) (c : LineLists) (i q : ℕ) (going_on : Bool) (words : List ℕ) (from : Option Edge) (done : List Wall) : Type 0 where
   pub state : State
   pub passed : Passed f names c done state from (left_at names c i q)
-  pub entered : 0 < length (left_at names c i q) → Entered names goesOn words state
+  pub entered : 0 < length (left_at names c i q) → Entered names going_on words state
 
 abbrev pub PassingAt : Formula → ℕ → LineLists → Pass → List ℕ → Option Edge → List Wall → Type 0
 PassingAt f names c p words from done = Passing f names c p.cursor.i p.cursor.q p.onward words from done

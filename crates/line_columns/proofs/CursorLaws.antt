@@ -47,14 +47,14 @@ module _ (names : ℕ) (c : LineLists) (ok : Accepted names c) where
 
 -- ---- where every line starts in air
 
-none-in-air : (names : ℕ) (rows : List ℕ) → InAir rows → (k l : ℕ) → any_inside k (start_state names rows l) ≡ false
+none_in_air : (names : ℕ) (rows : List ℕ) → InAir rows → (k l : ℕ) → any_inside k (start_state names rows l) ≡ false
 unfolding any_inside
-none-in-air names rows air zero l = refl
-none-in-air names rows air (suc k) l = rw (air.zeros (l * names + k), none-in-air names rows air k l) (and_no (ltb k names))
+none_in_air names rows air zero l = refl
+none_in_air names rows air (suc k) l = rw (air.zeros (l * names + k), none_in_air names rows air k l) (and_no (ltb k names))
   where
     and_no : (a : Bool) → ((a && false) || false) ≡ false
     and_no true = refl
     and_no false = refl
 
 pub air_first : (names : ℕ) (rows : List ℕ) (count : ℕ) → InAir rows → count ≡ row_count names rows → NextInside names rows 0 count
-air_first names rows count air is = record { from = omega arith; row = omega arith; none = λ l a b. none-in-air names rows air names l; inside = λ h. absurd (omega arith) }
+air_first names rows count air is = record { from = omega arith; row = omega arith; none = λ l a b. none_in_air names rows air names l; inside = λ h. absurd (omega arith) }

@@ -16,7 +16,7 @@ use Rattle.lines.specs.Columns.{start_column, crossing_column, any_inside, start
 use Rattle.lines.specs.AtIndex.{item, group_ends_at, Accepted}
 use Rattle.lines.proofs.Keys.{no→lt}
 use Rattle.lines.proofs.Items.{drop-item, drop_all, accepted_positions, accepted_shapes, accepted-kept}
-use Rattle.lines.proofs.ColumnLists.{Beyond, starts-in, starts_out, starts-beyond}
+use Rattle.lines.proofs.ColumnLists.{Beyond, starts_in, starts_out, starts-beyond}
 use Rattle.line_columns.specs.Planned.{left_at}
 use Rattle.line_runs.specs.Runs.{over_at}
 use Rattle.line_columns.specs.Planning.{AtCursor, NextInside}
@@ -51,7 +51,7 @@ module _ (names : ℕ) (c : LineLists) (ok : Accepted names c) where
   pub some_starts : (q : ℕ) → q < count → any_inside names (start q) ≡ true → starts q ≡ q ∷ starts (q + 1)
   some_starts q h e =
       let left : count - q ≡ suc (count - (q + 1)) = omega arith in
-      rw left (starts-in names start (count - (q + 1)) q e ∙ rw (add-one q))
+      rw left (starts_in names start (count - (q + 1)) q e ∙ rw (add-one q))
 
   -- rows with no shape inside are passed over
   pub skipped : (k r q : ℕ) → k + r ≡ q → q ≤ count → ((l : ℕ) → r ≤ l → l < q → any_inside names (start l) ≡ false) → starts r ≡ starts q

@@ -13,7 +13,7 @@ use Rattle.outcome.specs.Outcome.{given, ◌>>◌}
 use Rattle.outcome.proofs.Questions.{given-same}
 use Rattle.formula.specs.Formula.{Formula}
 use Rattle.lines.specs.Lines.{LineLists, line_lists, row_count, judged, AnswerLists, roomy_lists, Wall, walls, classified}
-use Rattle.lines.proofs.Judgement.{both, and_yes, judged-in-order}
+use Rattle.lines.proofs.Judgement.{both, and_yes, judged_in_order}
 use Rattle.line_cuts.specs.Cuts.{first_part, lowered, second_part, together, on_later, room_for}
 use Rattle.line_cuts.specs.Places.{CutAt, OneLength, Leads}
 use Rattle.line_cuts.proofs.Together.{alike, judged-asks, rows_all, walls-together, accepted-together, rest-room}
@@ -102,14 +102,14 @@ module _ (names r i : ℕ) (c : LineLists) (cut : CutAt names r i c) where
   rows_again : fst.rows ++ snd.rows ≡ c.rows
   rows_again = take-append-drop (r * names) c.rows
 
-  pub rows-in-all : 0 < names → r + row_count names snd.rows ≡ row_count names c.rows
-  rows-in-all named = sym (rows_all names r named ahead snd ahead_leads) ∙ ap (row_count names) rows_again
+  pub rows_in-all : 0 < names → r + row_count names snd.rows ≡ row_count names c.rows
+  rows_in-all named = sym (rows_all names r named ahead snd ahead_leads) ∙ ap (row_count names) rows_again
 
   -- accepted lists rise: from the cut on, all are on later lines
   whole_from : judged names c ≡ given tt → AllFrom r (drop i c.lines)
   whole_from e =
       let h = judged_long names c e in
-      sorted_from r i c.lines c.positions c.shapes cut.between h.positions_long h.shapes_long (judged-in-order names c e).sorted
+      sorted_from r i c.lines c.positions c.shapes cut.between h.positions_long h.shapes_long (judged_in_order names c e).sorted
 
   -- ---- where all are, the parts together are the whole
 
@@ -135,15 +135,15 @@ module _ (names r i : ℕ) (c : LineLists) (cut : CutAt names r i c) where
         there e =
             let h = judged_long names c e in
             let p = (accepted-together names r named fst snd (first_leads h)).0 (ap (judged names) (put_back (whole_from e)) ∙ e) in
-            (p.0, p.1, omega (arith, p.2, rows-in-all named))
+            (p.0, p.1, omega (arith, p.2, rows_in-all named))
 
         back : (judged names fst ≡ given tt) × (judged names snd ≡ given tt) × (row_count names c.rows ≤ 4294967296) → judged names c ≡ given tt
         back p =
             let s = judged_long names snd p.1 in
             let h = parts_long (judged_long names fst p.0) s in
-            let few : r + row_count names snd.rows ≤ 4294967296 = omega (arith, p.2, rows-in-all named) in
+            let few : r + row_count names snd.rows ≤ 4294967296 = omega (arith, p.2, rows_in-all named) in
             let after : AllFrom r (drop i c.lines) = lowered-from r (row_count names snd.rows) few (drop i c.lines) (drop i c.positions) (drop i c.shapes) cut.between.numbers
-            (omega (arith, s.positions_long, length-map (drop i c.lines) (lowered r))) (omega (arith, s.shapes_long, length-map (drop i c.lines) (lowered r))) (judged-in-order names snd p.1).kept in
+            (omega (arith, s.positions_long, length-map (drop i c.lines) (lowered r))) (omega (arith, s.shapes_long, length-map (drop i c.lines) (lowered r))) (judged_in_order names snd p.1).kept in
             ap (judged names) (sym (put_back after)) ∙ (accepted-together names r named fst snd (first_leads h)).1 (p.0, p.1, few)
 
     -- Of accepted lists:

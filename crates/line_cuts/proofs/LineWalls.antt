@@ -10,7 +10,7 @@ use lib.IntN.{ℤ}
 use lib.Signed.{lt_z, le_z}
 use Rattle.formula.specs.States.{State, changed_by, flipped}
 use Rattle.lines.specs.Lines.{Crossing, crossed, low, high, on_line, lowest_from, shape_at, Edge, edge_at, open_end, ends_group, opened, closed, walls_on, crossings_on, line_walls, walls_from}
-use Rattle.lines.proofs.Crossings.{crossed-in, crossed_out, on_nil, on_in, on_out, crossed-on}
+use Rattle.lines.proofs.Crossings.{crossed_in, crossed_out, on_nil, on_in, on_out, crossed-on}
 use Rattle.lines.proofs.LinesBy.{walls_on_nil, walls_on_cons}
 use Rattle.line_cuts.specs.Cuts.{on_later}
 use Rattle.line_cuts.proofs.Raised.{eqb_add, raise, Under}
@@ -56,7 +56,7 @@ crossed_raised r test [] = refl
 crossed_raised r test (x ∷ xs) = by (test x.at) refl (crossed_raised r test xs)
   where
     by : (a : Bool) → test x.at ≡ a → crossed (λ x. test x.at) (map (raise r) xs) ≡ crossed (λ x. test x.at) xs → crossed (λ x. test x.at) (map (raise r) (x ∷ xs)) ≡ crossed (λ x. test x.at) (x ∷ xs)
-    by true a ih = crossed-in (λ x. test x.at) (raise r x) (map (raise r) xs) a ∙ ap (λ ss. x.shape ∷ ss) ih ∙ sym (crossed-in (λ x. test x.at) x xs a)
+    by true a ih = crossed_in (λ x. test x.at) (raise r x) (map (raise r) xs) a ∙ ap (λ ss. x.shape ∷ ss) ih ∙ sym (crossed_in (λ x. test x.at) x xs a)
     by false a ih = crossed_out (λ x. test x.at) (raise r x) (map (raise r) xs) a ∙ ih ∙ sym (crossed_out (λ x. test x.at) x xs a)
 
 shape_by_raised : (r : ℕ) (state : State) (xs : List Crossing) (p : ℤ) → shape_by state (map (raise r) xs) p ≡ shape_by state xs p

@@ -19,7 +19,7 @@ use Rattle.line_cuts.specs.Theirs.{first_theirs, second_theirs, their_parts_of, 
 use Rattle.line_cuts.specs.Places.{CutAt, OneLength, later, Shown}
 use Rattle.line_cuts.proofs.Together.{rows-gives, judged-asks}
 use Rattle.line_cuts.proofs.Places.{cut-between, cut_there}
-use Rattle.line_cuts.proofs.CutLaws.{gives, roomy-gives, rows-in-all, accepted-cut, walls-cut, rest-room-cut}
+use Rattle.line_cuts.proofs.CutLaws.{gives, roomy-gives, rows_in-all, accepted-cut, walls-cut, rest-room-cut}
 use Rattle.line_cuts.proofs.Refusals.{refused-cut}
 use Rattle.line_cuts.proofs.TheirCuts.{opinion-cut, judgement-gives, judgement-from, parts_same, same_parts}
 
@@ -87,7 +87,7 @@ module _ (names : ℕ) (named : 0 < names) where
 
       back : Rest → AllJudged names (parts_of names (r ∷ rs) c) × (row_count names c.rows ≤ 4294967296) → judged names c ≡ given tt
       back rest p =
-          let count = rows-in-all names r (cut_index r c.lines) c (cut-here names r rs c k) named in
+          let count = rows_in-all names r (cut_index r c.lines) c (cut-here names r rs c k) named in
           (accepted-cut names r (cut_index r c.lines) c (cut-here names r rs c k) named).1 (p.0.0, rest.1 (p.0.1, omega (arith, count, p.1)), p.1)
 
   module _ (f : Formula) where

@@ -23,7 +23,7 @@ use Rattle.line_cuts.specs.Places.{FirstFrom, CutAt, OneLength, later, Shown}
 use Rattle.line_cuts.proofs.Raised.{eqb_add, ltb_add, leb_add, Under, crossings-below, crossings-append}
 use Rattle.line_cuts.proofs.Ordering.{asked, last_of, ordered_nil, ordered_cons, ordered-append, ordered-first, UnderOne, last_under}
 use Rattle.line_cuts.proofs.Together.{rows_right, judged-items, rows-first, alike-first, rows_parts}
-use Rattle.line_cuts.proofs.CutLaws.{long_alike, first_leads, second_long, rows-in-all}
+use Rattle.line_cuts.proofs.CutLaws.{long_alike, first_leads, second_long, rows_in-all}
 
 -- ---- what is shown
 
@@ -176,7 +176,7 @@ module _ (names r i : ℕ) (c : LineLists) (cut : CutAt names r i c) (named : 0 
         judged-items names c (long_alike c h) right,
         judged-items names fst (alike-first names r named fst snd lead) g.0,
         judged-items names snd (long_alike snd (second_long names r i c cut h)) g.1,
-        sym (rows-in-all names r i c cut named),
+        sym (rows_in-all names r i c cut named),
         rows-first names r named fst snd lead,
         entries-cut,
         crossings-lowered r (drop i c.lines) (drop i c.positions) (drop i c.shapes),

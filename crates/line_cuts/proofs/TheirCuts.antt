@@ -20,7 +20,7 @@ use Rattle.line_cuts.specs.Cuts.{first_part, lowered, second_part, AllBelow, on_
 use Rattle.line_cuts.specs.Places.{FirstFrom, Between, CutAt}
 use Rattle.line_cuts.specs.Theirs.{first_theirs, second_theirs, then_opinion}
 use Rattle.line_cuts.proofs.Together.{rows-first}
-use Rattle.line_cuts.proofs.CutLaws.{judged_long, first_leads, rows-in-all, accepted-cut, walls-cut}
+use Rattle.line_cuts.proofs.CutLaws.{judged_long, first_leads, rows_in-all, accepted-cut, walls-cut}
 use Rattle.line_cuts.proofs.OpinionCuts.{Below, First, raise_entry, lower_entry, opinion_parts}
 use Rattle.line_cuts.proofs.WallLines.{walls-below}
 
@@ -99,7 +99,7 @@ module _ (r j : ℕ) (t : TheirLists) (cut : Between r j t.lines) (same : SameLe
         ap (map bare) (walls-cut names r i c lists named e f) ∙ map-append bare (walls f names a) (map (on_later r) (walls f names b)) ∙ ap (λ (xs : List Entry). ours ++ xs) (bare-later r (walls f names b)) in
         ap (λ (xs : List Entry). opinion_from 0 xs (theirs t)) all
         ∙ ap (opinion_from 0 (ours ++ map (raise_entry r) rest)) theirs_parts
-        ∙ opinion_parts r rows (omega (arith, rows-in-all names r i c lists named, ((accepted-cut names r i c lists named).0 e).2)) ours rest (theirs (first_theirs j t)) tail first (walls-below f names b)
+        ∙ opinion_parts r rows (omega (arith, rows_in-all names r i c lists named, ((accepted-cut names r i c lists named).0 e).2)) ours rest (theirs (first_theirs j t)) tail first (walls-below f names b)
         (entries_below r (take j t.lines) (take j t.starts) (take j t.ends) cut.before)
         (entries-first r (drop j t.lines) (drop j t.starts) (drop j t.ends) cut.there)
         (entries_below 4294967296 (drop j t.lines) (drop j t.starts) (drop j t.ends) cut.numbers)

@@ -87,8 +87,8 @@ module _ (names r : ℕ) (named : 0 < names) (a b : LineLists) (fit : Leads name
       by s true e =
           let up : suc l * names ≤ r * names = mul-le-mul_right names h in
           let more : suc l * names ≡ names + l * names = omega arith in
-          let in-first : l * names + s < length a.rows = omega (arith, borrow.Author.Tests.ltb-true s names e, fit.whole) in
-          ap (λ (v : ℕ). ltb s names && eqb v 1) (get_or-append a.rows b.rows 0 (l * names + s) in-first)
+          let in_first : l * names + s < length a.rows = omega (arith, borrow.Author.Tests.ltb-true s names e, fit.whole) in
+          ap (λ (v : ℕ). ltb s names && eqb v 1) (get_or-append a.rows b.rows 0 (l * names + s) in_first)
 
   start-second : (l : ℕ) → start_state names (a.rows ++ b.rows) (r + l) ≡ start_state names b.rows l
   start-second l = fun_ext by

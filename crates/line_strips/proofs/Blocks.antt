@@ -38,8 +38,8 @@ module _ (names : ℕ) (flips : ℕ → State) (last : ℕ → Bool) (n k m : �
       }
 
 -- ---- the first word
-pub word_starts : (names : ℕ) (flips : ℕ → State) (last : ℕ → Bool) (goesOn : Bool) (n m : ℕ) (ws ws₁ ws₂ : List ℕ) → Begins names last goesOn ws ws₁ → Lays names flips last 0 0 m ws₁ ws₂ → InWord n 0 m → n ≤ columns → Starts names flips last goesOn n ws ws₂
-word_starts names flips last goesOn n m ws ws₁ ws₂ b l w few =
+pub word_starts : (names : ℕ) (flips : ℕ → State) (last : ℕ → Bool) (going_on : Bool) (n m : ℕ) (ws ws₁ ws₂ : List ℕ) → Begins names last going_on ws ws₁ → Lays names flips last 0 0 m ws₁ ws₂ → InWord n 0 m → n ≤ columns → Starts names flips last going_on n ws ws₂
+word_starts names flips last going_on n m ws ws₁ ws₂ b l w few =
     record {
       long = l.apart.long ∙ b.long;
       blank = blank-apart names 0 ws₁ ws₂ 64 l.apart b.blank (omega arith);
@@ -53,8 +53,8 @@ pub record Filling (names : ℕ) (flips : ℕ → State) (last : ℕ → Bool) (
   pub room : 256 * wide ≤ length ws'
   pub advances : Advances names flips last n 1 k ws ws'
 
-pub filling_none : (names : ℕ) (flips : ℕ → State) (last : ℕ → Bool) (goesOn : Bool) (rows shapes cols lasts : List ℕ) (a n : ℕ) (told : Bool) (ws ws₁ : List ℕ) → Starts names flips last goesOn n ws ws₁ → Fillable names rows shapes cols lasts a n told ws → Filling names flips last n 1 ws₁ ws₁
-filling_none names flips last goesOn rows shapes cols lasts a n told ws ws₁ s f =
+pub filling_none : (names : ℕ) (flips : ℕ → State) (last : ℕ → Bool) (going_on : Bool) (rows shapes cols lasts : List ℕ) (a n : ℕ) (told : Bool) (ws ws₁ : List ℕ) → Starts names flips last going_on n ws ws₁ → Fillable names rows shapes cols lasts a n told ws → Filling names flips last n 1 ws₁ ws₁
+filling_none names flips last going_on rows shapes cols lasts a n told ws ws₁ s f =
     record {
       some = omega arith;
       far = omega arith;
@@ -83,8 +83,8 @@ flips_same : (names : ℕ) (c : LineLists) (rows shapes cols lasts : List ℕ) (
 unfolding flips_of flips_at
 flips_same names c rows shapes cols lasts a r s = rw (sym r, sym s)
 
-pub fills : (names : ℕ) (rows shapes cols lasts : List ℕ) (a n k : ℕ) (goesOn : Bool) (ws ws₁ ws₂ : List ℕ) → Starts names (flips_of names rows shapes cols a) (cell lasts) goesOn n ws ws₁ → Filling names (flips_of names rows shapes cols a) (cell lasts) n k ws₁ ws₂ → n ≤ 64 * k → Fills names rows shapes cols lasts a n goesOn ws ws₂
-fills names rows shapes cols lasts a n k goesOn ws ws₁ ws₂ s f far =
+pub fills : (names : ℕ) (rows shapes cols lasts : List ℕ) (a n k : ℕ) (going_on : Bool) (ws ws₁ ws₂ : List ℕ) → Starts names (flips_of names rows shapes cols a) (cell lasts) going_on n ws ws₁ → Filling names (flips_of names rows shapes cols a) (cell lasts) n k ws₁ ws₂ → n ≤ 64 * k → Fills names rows shapes cols lasts a n going_on ws ws₂
+fills names rows shapes cols lasts a n k going_on ws ws₁ ws₂ s f far =
     record {
       long = f.advances.long ∙ s.long;
       filled = λ c first r t entered. rw (flips_same names c rows shapes cols lasts a r t) at (done first (f.advances.right first (s.right first entered)));

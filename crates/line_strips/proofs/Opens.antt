@@ -292,9 +292,9 @@ pub opening_end : (names m s : ℕ) (ws ws' : List ℕ) → Opening names m s ws
 opening_end names m s ws ws' o h = let e : s ≡ names = omega (arith, o.far) in rw e at o.done
 
 -- ---- a block opened
-pub begins_off : (names : ℕ) (lasts : List ℕ) (goesOn : Bool) (ws ws' : List ℕ) → goesOn ≡ false → length ws' ≡ length ws → Blank names 0 ws' → Begins names (cell lasts) goesOn ws ws'
+pub begins_off : (names : ℕ) (lasts : List ℕ) (going_on : Bool) (ws ws' : List ℕ) → going_on ≡ false → length ws' ≡ length ws → Blank names 0 ws' → Begins names (cell lasts) going_on ws ws'
 unfolding entering
-begins_off names lasts goesOn ws ws' e l blank =
+begins_off names lasts going_on ws ws' e l blank =
     record {
       long = l;
       blank = record { off = λ s j n h c. blank.off s j n (omega arith) c };
@@ -305,9 +305,9 @@ begins_off names lasts goesOn ws ws' e l blank =
           };
     }
 
-pub begins_on : (names : ℕ) (lasts : List ℕ) (goesOn : Bool) (rest m : ℕ) (ws ws' : List ℕ) → goesOn ≡ true → Inner (get_or lasts 0 0) rest → Spans rest 1 m → Opened names m ws ws' → Begins names (cell lasts) goesOn ws ws'
+pub begins_on : (names : ℕ) (lasts : List ℕ) (going_on : Bool) (rest m : ℕ) (ws ws' : List ℕ) → going_on ≡ true → Inner (get_or lasts 0 0) rest → Spans rest 1 m → Opened names m ws ws' → Begins names (cell lasts) going_on ws ws'
 unfolding entering
-begins_on names lasts goesOn rest m ws ws' e f p o =
+begins_on names lasts going_on rest m ws ws' e f p o =
     record {
       long = o.long;
       blank = record { off = λ s j n h c. o.rest s j n h c };

@@ -33,14 +33,14 @@ pub record Fillable (names : ℕ) (rows shapes cols lasts : List ℕ) (a n : ℕ
   pub room : 256 * wide ≤ length words
 
 -- The states before the block's first column: where its line goes on, those after the last column of the block before, else all outside.
-pub record Entered (names : ℕ) (goesOn : Bool) (words : List ℕ) (first : State) : Type 0 where
-  pub kept : goesOn ≡ true → (s : ℕ) → s < names → on words s (columns - 1) ≡ first s
-  pub none : goesOn ≡ false → (s : ℕ) → s < names → first s ≡ false
+pub record Entered (names : ℕ) (going_on : Bool) (words : List ℕ) (first : State) : Type 0 where
+  pub kept : going_on ≡ true → (s : ℕ) → s < names → on words s (columns - 1) ≡ first s
+  pub none : going_on ≡ false → (s : ℕ) → s < names → first s ≡ false
 
 -- What a fill gives.
-pub record Fills (names : ℕ) (rows shapes cols lasts : List ℕ) (a n : ℕ) (goesOn : Bool) (words words' : List ℕ) : Type 0 where
+pub record Fills (names : ℕ) (rows shapes cols lasts : List ℕ) (a n : ℕ) (going_on : Bool) (words words' : List ℕ) : Type 0 where
   pub long : length words' ≡ length words
-  pub filled : (c : LineLists) (first : State) → c.rows ≡ rows → c.shapes ≡ shapes → Entered names goesOn words first → Filled names (flips_at names c a (planned cols lasts)) (last_at (planned cols lasts)) first words' n
+  pub filled : (c : LineLists) (first : State) → c.rows ≡ rows → c.shapes ≡ shapes → Entered names going_on words first → Filled names (flips_at names c a (planned cols lasts)) (last_at (planned cols lasts)) first words' n
 
 -- ---- its steps
 
@@ -157,16 +157,16 @@ pub record Opens (names : ℕ) (flips : ℕ → State) (last : ℕ → Bool) (k 
   pub opened : (first : State) (n : ℕ) → 64 * k ≤ n → Right names flips last first n (64 * k) words → Laid names flips last first k 0 words'
 
 -- The block's first word begins, and the others are off.
-pub record Begins (names : ℕ) (last : ℕ → Bool) (goesOn : Bool) (words words' : List ℕ) : Type 0 where
+pub record Begins (names : ℕ) (last : ℕ → Bool) (going_on : Bool) (words words' : List ℕ) : Type 0 where
   pub long : length words' ≡ length words
   pub blank : Blank names 64 words'
-  pub opened : (flips : ℕ → State) (first : State) → Entered names goesOn words first → Laid names flips last first 0 0 words'
+  pub opened : (flips : ℕ → State) (first : State) → Entered names going_on words first → Laid names flips last first 0 0 words'
 
 -- The block's first word is done, and the others are off.
-pub record Starts (names : ℕ) (flips : ℕ → State) (last : ℕ → Bool) (goesOn : Bool) (n : ℕ) (words words' : List ℕ) : Type 0 where
+pub record Starts (names : ℕ) (flips : ℕ → State) (last : ℕ → Bool) (going_on : Bool) (n : ℕ) (words words' : List ℕ) : Type 0 where
   pub long : length words' ≡ length words
   pub blank : Blank names (64 * 1) words'
-  pub right : (first : State) → Entered names goesOn words first → Right names flips last first n (64 * 1) words'
+  pub right : (first : State) → Entered names going_on words first → Right names flips last first n (64 * 1) words'
 
 -- Of n columns word k has m: all 64, or those that are left.
 pub record InWord (n k m : ℕ) : Type 0 where

@@ -22,7 +22,7 @@ use Rattle.lines.specs.AtIndex.{item, group_ends_at, Accepted}
 use Rattle.lines.proofs.Keys.{yes_le_k, lt_z_not, lt→no, lt→le, le_z_self, lt_le, le_lt}
 use Rattle.lines.proofs.Items.{accepted_positions, accepted_shapes, accepted-named, accepted_rises}
 use Rattle.lines.proofs.Lowest.{lowest_is}
-use Rattle.lines.proofs.Crossings.{crossed-in, crossed_out}
+use Rattle.lines.proofs.Crossings.{crossed_in, crossed_out}
 use Rattle.line_writing.specs.Groups.{state_of, aside, GroupStart, FirstThere, GroupEnd, GroupShape, FewShapes, Least, Tallied}
 use Rattle.line_writing.proofs.TallyLaws.{none_inside, least_lowest}
 
@@ -48,7 +48,7 @@ module _ (test : Crossing → Bool) where
   first_pass (suc n) (l ∷ ls) [] ss e f h yes-to no-from = let z : ⊥ = omega arith in absurd z
   first_pass (suc n) (l ∷ ls) (p ∷ ps) [] e f h yes-to no-from = let z : ⊥ = omega arith in absurd z
   first_pass (suc n) (l ∷ ls) (p ∷ ps) (s ∷ ss) e f h yes-to no-from =
-      crossed-in test (record { line = l; at = p; shape = s }) (crossings ls ps ss) (yes-to 0 (omega arith))
+      crossed_in test (record { line = l; at = p; shape = s }) (crossings ls ps ss) (yes-to 0 (omega arith))
       ∙ ap (λ (r : List ℕ). s ∷ r) (first_pass n ls ps ss (omega arith) (omega arith) (le_of_suc-le-suc h) (λ j k. yes-to (suc j) (omega arith)) (λ j lo hi. no-from (suc j) (omega arith) (omega arith)))
 
 -- two tests that agree up to g; from there to e only one passes, and then none does
@@ -74,7 +74,7 @@ more_pass t u (suc g) n (l ∷ ls) (p ∷ ps) (s ∷ ss) e f h same one none =
     x = record { line = l; at = p; shape = s }
 
     by : (b : Bool) → u x ≡ b → crossed t (crossings ls ps ss) ≡ crossed u (crossings ls ps ss) ++ take n (drop g ss) → crossed t (x ∷ crossings ls ps ss) ≡ crossed u (x ∷ crossings ls ps ss) ++ take n (drop g ss)
-    by true q ih = crossed-in t x (crossings ls ps ss) (same 0 (omega arith) ∙ q) ∙ ap (λ (r : List ℕ). s ∷ r) ih ∙ ap (λ (r : List ℕ). r ++ take n (drop g ss)) (sym (crossed-in u x (crossings ls ps ss) q))
+    by true q ih = crossed_in t x (crossings ls ps ss) (same 0 (omega arith) ∙ q) ∙ ap (λ (r : List ℕ). s ∷ r) ih ∙ ap (λ (r : List ℕ). r ++ take n (drop g ss)) (sym (crossed_in u x (crossings ls ps ss) q))
     by false q ih = crossed_out t x (crossings ls ps ss) (same 0 (omega arith) ∙ q) ∙ ih ∙ ap (λ (r : List ℕ). r ++ take n (drop g ss)) (sym (crossed_out u x (crossings ls ps ss) q))
 
 -- ---- the order of accepted lists

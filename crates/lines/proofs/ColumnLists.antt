@@ -25,9 +25,9 @@ Leaves l [] = Unit {0}
 Leaves l (y ∷ ys) = eqb y.line l ≡ false
 
 module _ (names : ℕ) (start : ℕ → State) where
-  pub starts-in : (k l : ℕ) → any_inside names (start l) ≡ true → starts_from names start (suc k) l ≡ l ∷ starts_from names start k (suc l)
+  pub starts_in : (k l : ℕ) → any_inside names (start l) ≡ true → starts_from names start (suc k) l ≡ l ∷ starts_from names start k (suc l)
   unfolding starts_from
-  starts-in k l e = rw (e, starts_from)
+  starts_in k l e = rw (e, starts_from)
 
   pub starts_out : (k l : ℕ) → any_inside names (start l) ≡ false → starts_from names start (suc k) l ≡ starts_from names start k (suc l)
   unfolding starts_from
@@ -39,7 +39,7 @@ module _ (names : ℕ) (start : ℕ → State) where
   starts-beyond (suc k) l m h = by (any_inside names (start m)) refl (starts-beyond k l (suc m) (omega arith))
     where
       by : (b : Bool) → any_inside names (start m) ≡ b → Beyond l (starts_from names start k (suc m)) → Beyond l (starts_from names start (suc k) m)
-      by true e ih = rw (starts-in k m e) h
+      by true e ih = rw (starts_in k m e) h
       by false e ih = rw (starts_out k m e) ih
 
 module _ (start : ℕ → State) (shape : ℕ → ℤ → ℕ) where

@@ -14,9 +14,9 @@ use Rattle.lines.proofs.Keys.{le_k, yes_le_k, le_trans, no→lt, eq_le_k}
 
 -- ---- the shapes of those that pass a test
 
-pub crossed-in : (test : Crossing → Bool) (x : Crossing) (xs : List Crossing) → test x ≡ true → crossed test (x ∷ xs) ≡ x.shape ∷ crossed test xs
+pub crossed_in : (test : Crossing → Bool) (x : Crossing) (xs : List Crossing) → test x ≡ true → crossed test (x ∷ xs) ≡ x.shape ∷ crossed test xs
 unfolding crossed
-crossed-in test x xs e = rw (e, crossed)
+crossed_in test x xs e = rw (e, crossed)
 
 pub crossed_out : (test : Crossing → Bool) (x : Crossing) (xs : List Crossing) → test x ≡ false → crossed test (x ∷ xs) ≡ crossed test xs
 unfolding crossed
@@ -47,7 +47,7 @@ crossed-on l test (x ∷ xs) = by (on_line l x) refl (test x.at) refl (crossed-o
   where
     by : (a : Bool) → on_line l x ≡ a → (b : Bool) → test x.at ≡ b → crossed (λ x. on_line l x && test x.at) xs ≡ crossed (λ x. test x.at) (crossings_on l xs)
         → crossed (λ x. on_line l x && test x.at) (x ∷ xs) ≡ crossed (λ x. test x.at) (crossings_on l (x ∷ xs))
-    by true a true b ih = crossed-in (λ x. on_line l x && test x.at) x xs (rw (a, b)) ∙ ap (λ ss. x.shape ∷ ss) ih ∙ sym (ap (crossed (λ x. test x.at)) (on_in l x xs a) ∙ crossed-in (λ x. test x.at) x (crossings_on l xs) b)
+    by true a true b ih = crossed_in (λ x. on_line l x && test x.at) x xs (rw (a, b)) ∙ ap (λ ss. x.shape ∷ ss) ih ∙ sym (ap (crossed (λ x. test x.at)) (on_in l x xs a) ∙ crossed_in (λ x. test x.at) x (crossings_on l xs) b)
     by true a false b ih = crossed_out (λ x. on_line l x && test x.at) x xs (rw (a, b)) ∙ ih ∙ sym (ap (crossed (λ x. test x.at)) (on_in l x xs a) ∙ crossed_out (λ x. test x.at) x (crossings_on l xs) b)
     by false a c b ih = crossed_out (λ x. on_line l x && test x.at) x xs (rw a) ∙ ih ∙ sym (ap (crossed (λ x. test x.at)) (on_out l x xs a))
 

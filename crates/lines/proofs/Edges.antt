@@ -15,8 +15,8 @@ use Rattle.lines.specs.Right.{covers, apart, Next, Rising, LowestChanged, Bounds
 use Rattle.lines.specs.Edges.{Bound}
 use Rattle.lines.proofs.Keys.{le_k, eq_le_k, lt_le_k, le, le_total, le_trans, le_antisym, lt_z_not, total, trans, lt→le, lt→no, le_z_self, lt_le, le_lt, no→lt}
 use Rattle.lines.proofs.Stretches.{in_stretch, beyond}
-use Rattle.lines.proofs.RisingOnly.{stretch, stretches, in-wall, covers_is, rises_is}
-use Rattle.lines.proofs.Crossings.{crossed-in, crossed_out, crossed_nil, Each, each_map, Named, Kept, kept_low, kept_high}
+use Rattle.lines.proofs.RisingOnly.{stretch, stretches, in_wall, covers_is, rises_is}
+use Rattle.lines.proofs.Crossings.{crossed_in, crossed_out, crossed_nil, Each, each_map, Named, Kept, kept_low, kept_high}
 use Rattle.lines.proofs.Judgement.{InOrder}
 use Rattle.lines.proofs.Lowest.{lowest_found, lowest_none}
 
@@ -116,7 +116,7 @@ module _ (c : ℕ → ℤ → Bool) where
           let ahead : le_k w.line (pred_ℤ w.start) w.line w.end ≡ true =
           eq_le_k w.line (pred_ℤ w.start) w.line w.end refl ∙ trans (pred_ℤ w.start) w.start w.end (pred_le w.start) up in
           same' l p (le_trans (w.line, pred_ℤ w.start) (w.line, w.end) (l, p) ahead past)
-          ∙ covers_cons l p w (v ∷ vs) ∙ ap (λ (b : Bool). b || covers l p (v ∷ vs)) (in-wall l p w ∙ past_it l p w past)
+          ∙ covers_cons l p w (v ∷ vs) ∙ ap (λ (b : Bool). b || covers l p (v ∷ vs)) (in_wall l p w ∙ past_it l p w past)
 
 -- ---- at an end mark nothing is crossed, and no shape without a name anywhere
 
@@ -126,7 +126,7 @@ crossed-alike test other [] h = crossed_nil test ∙ sym (crossed_nil other)
 crossed-alike test other (x ∷ xs) h = by (other x) refl (crossed-alike test other xs h.1)
   where
     by : (b : Bool) → other x ≡ b → crossed test xs ≡ crossed other xs → crossed test (x ∷ xs) ≡ crossed other (x ∷ xs)
-    by true e ih = crossed-in test x xs (h.0 ∙ e) ∙ ap (λ ss. x.shape ∷ ss) ih ∙ sym (crossed-in other x xs e)
+    by true e ih = crossed_in test x xs (h.0 ∙ e) ∙ ap (λ ss. x.shape ∷ ss) ih ∙ sym (crossed_in other x xs e)
     by false e ih = crossed_out test x xs (h.0 ∙ e) ∙ ih ∙ sym (crossed_out other x xs e)
 
 -- at an end mark, or beyond it
@@ -147,7 +147,7 @@ none_of names t test [] nm h = refl
 none_of names t test (x ∷ xs) nm h = by (test x) refl (none_of names t test xs nm.1 h)
   where
     by : (b : Bool) → test x ≡ b → times t (crossed test xs) ≡ 0 → times t (crossed test (x ∷ xs)) ≡ 0
-    by true e ih = rw (crossed-in test x xs e, ne_eqb t x.shape (omega (arith, nm.0))) (omega (arith, ih))
+    by true e ih = rw (crossed_in test x xs e, ne_eqb t x.shape (omega (arith, nm.0))) (omega (arith, ih))
     by false e ih = rw (crossed_out test x xs e) ih
 
 or_no : (a b : Bool) → (a || b) ≡ false → (a ≡ false) × (b ≡ false)

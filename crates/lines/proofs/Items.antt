@@ -11,7 +11,7 @@ use Rattle.lines.specs.Lines.{LineLists, row_count, Crossing, crossings, strays}
 use Rattle.lines.specs.AtIndex.{item, Accepted}
 use Rattle.lines.proofs.Keys.{le_k, eq_le_k, le_trans, le_z_self}
 use Rattle.lines.proofs.Crossings.{Each, Sorted}
-use Rattle.lines.proofs.Judgement.{judged_positions, judged_shapes, judged-in-order, judged-whole, judged_few, judged-bytes}
+use Rattle.lines.proofs.Judgement.{judged_positions, judged_shapes, judged_in_order, judged-whole, judged_few, judged-bytes}
 
 pub length-crossings : (ls : List ℕ) (ps : List ℤ) (ss : List ℕ) → length ps ≡ length ls → length ss ≡ length ls → length (crossings ls ps ss) ≡ length ls
 length-crossings [] ps ss e f = refl
@@ -64,13 +64,13 @@ module _ {names : ℕ} {c : LineLists} (ok : Accepted names c) where
   accepted_shapes = judged_shapes names c ok.judged_so
 
   pub accepted-named : (i : ℕ) → i < length c.lines → get_or c.shapes i 0 < names
-  accepted-named = each_item (λ x. x.shape < names) c.lines c.positions c.shapes accepted_positions accepted_shapes (judged-in-order names c ok.judged_so).named
+  accepted-named = each_item (λ x. x.shape < names) c.lines c.positions c.shapes accepted_positions accepted_shapes (judged_in_order names c ok.judged_so).named
 
   pub accepted-kept : (i : ℕ) → i < length c.lines → strays (row_count names c.rows) (item c.lines c.positions c.shapes i) ≡ false
-  accepted-kept = each_item (λ x. strays (row_count names c.rows) x ≡ false) c.lines c.positions c.shapes accepted_positions accepted_shapes (judged-in-order names c ok.judged_so).kept
+  accepted-kept = each_item (λ x. strays (row_count names c.rows) x ≡ false) c.lines c.positions c.shapes accepted_positions accepted_shapes (judged_in_order names c ok.judged_so).kept
 
   pub accepted_rises : (i j : ℕ) → i ≤ j → j < length c.lines → le_k (get_or c.lines i 0) (get_or c.positions i (pos 0)) (get_or c.lines j 0) (get_or c.positions j (pos 0)) ≡ true
-  accepted_rises = sorted_items c.lines c.positions c.shapes accepted_positions accepted_shapes (judged-in-order names c ok.judged_so).sorted
+  accepted_rises = sorted_items c.lines c.positions c.shapes accepted_positions accepted_shapes (judged_in_order names c ok.judged_so).sorted
 
   -- and their rows: whole, as many as have a number, and of zeros and ones
   pub accepted-whole : length c.rows ≡ row_count names c.rows * names

@@ -113,8 +113,8 @@ module _ (names : ℕ) (c : LineLists) (e : judged names c ≡ given tt) where
   pub judged_shapes : length c.shapes ≡ length c.lines
   judged_shapes = eqb-true (length c.shapes) (length c.lines) lengths.1
 
-  pub judged-in-order : InOrder names (row_count names c.rows) (entries c)
-  judged-in-order = ordered-gives names (row_count names c.rows) (entries c) parts.1.1
+  pub judged_in_order : InOrder names (row_count names c.rows) (entries c)
+  judged_in_order = ordered-gives names (row_count names c.rows) (entries c) parts.1.1
 
   judged-rows : (length c.rows % names ≡ 0) × (row_count names c.rows ≤ 4294967296) × ((j : ℕ) → get_or c.rows j 0 ≤ 1)
   judged-rows = rowed-gives names c.rows parts.1.0

@@ -17,9 +17,9 @@ past_nil : (l : ℕ) → past l [] ≡ []
 unfolding past
 past_nil l = refl
 
-past-in : (l : ℕ) (x : Crossing) (xs : List Crossing) → on_line l x ≡ true → past l (x ∷ xs) ≡ past l xs
+past_in_lem : (l : ℕ) (x : Crossing) (xs : List Crossing) → on_line l x ≡ true → past l (x ∷ xs) ≡ past l xs
 unfolding past
-past-in l x xs e = rw (e, past)
+past_in_lem l x xs e = rw (e, past)
 
 past_out : (l : ℕ) (x : Crossing) (xs : List Crossing) → on_line l x ≡ false → past l (x ∷ xs) ≡ x ∷ past l xs
 unfolding past
@@ -30,7 +30,7 @@ each_past P l [] h = rw (past_nil l) tt
 each_past P l (x ∷ xs) h = by (on_line l x) refl (each_past P l xs h.1)
   where
     by : (a : Bool) → on_line l x ≡ a → Each P (past l xs) → Each P (past l (x ∷ xs))
-    by true a ih = rw (past-in l x xs a) ih
+    by true a ih = rw (past_in_lem l x xs a) ih
     by false a ih = rw (past_out l x xs a) (h.0, ih)
 
 -- from line l on
@@ -42,7 +42,7 @@ past-from l [] h = rw (past_nil l) tt
 past-from l (x ∷ xs) h = by (on_line l x) refl (past-from l xs h.1)
   where
     by : (a : Bool) → on_line l x ≡ a → OnFrom (suc l) (past l xs) → OnFrom (suc l) (past l (x ∷ xs))
-    by true a ih = rw (past-in l x xs a) ih
+    by true a ih = rw (past_in_lem l x xs a) ih
     by false a ih = rw (past_out l x xs a) (omega (arith, h.0, eqb-false x.line l a), ih)
 
 pub past_sorted : (l : ℕ) (xs : List Crossing) → Sorted xs → Sorted (past l xs)
@@ -54,7 +54,7 @@ past_sorted l (x ∷ xs) so = by (on_line l x) refl (past_sorted l xs so.1)
     head (y ∷ ys) h = h.0
 
     by : (a : Bool) → on_line l x ≡ a → Sorted (past l xs) → Sorted (past l (x ∷ xs))
-    by true a ih = rw (past-in l x xs a) ih
+    by true a ih = rw (past_in_lem l x xs a) ih
     by false a ih = rw (past_out l x xs a) (head (past l xs) (each_past (Later x) l xs (all-later x xs so.0 so.1)), ih)
 
 -- the other lines keep theirs
@@ -63,7 +63,7 @@ on-past l m [] h = rw (past_nil l)
 on-past l m (x ∷ xs) h = by (on_line l x) refl (on_line m x) refl (on-past l m xs h)
   where
     by : (a : Bool) → on_line l x ≡ a → (b : Bool) → on_line m x ≡ b → crossings_on m (past l xs) ≡ crossings_on m xs → crossings_on m (past l (x ∷ xs)) ≡ crossings_on m (x ∷ xs)
-    by true a b c ih = rw (past-in l x xs a, on_out m x xs (ne_eqb x.line m (omega (arith, eqb-true x.line l a)))) ih
+    by true a b c ih = rw (past_in_lem l x xs a, on_out m x xs (ne_eqb x.line m (omega (arith, eqb-true x.line l a)))) ih
     by false a true c ih = rw (past_out l x xs a, on_in m x (past l xs) c, on_in m x xs c, ih)
     by false a false c ih = rw (past_out l x xs a, on_out m x (past l xs) c, on_out m x xs c, ih)
 
@@ -81,7 +81,7 @@ split_line l [] so h = rw (on_nil l, past_nil l)
 split_line l (x ∷ xs) so h = by (on_line l x) refl (split_line l xs so.1 h.1)
   where
     by : (a : Bool) → on_line l x ≡ a → xs ≡ crossings_on l xs ++ past l xs → x ∷ xs ≡ crossings_on l (x ∷ xs) ++ past l (x ∷ xs)
-    by true a ih = ap (λ ys. x ∷ ys) ih ∙ sym (rw (on_in l x xs a, past-in l x xs a))
+    by true a ih = ap (λ ys. x ∷ ys) ih ∙ sym (rw (on_in l x xs a, past_in_lem l x xs a))
     by false a ih =
         let k : suc l ≤ x.line = omega (arith, h.0, eqb-false x.line l a) in
         let all : OnFrom (suc l) (x ∷ xs) = (k, each_map (Later x) (λ y. suc l ≤ y.line) (λ y g. omega (arith, later-line x y g)) xs (all-later x xs so.0 so.1)) in

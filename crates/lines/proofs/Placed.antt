@@ -12,7 +12,7 @@ use Rattle.formula.specs.Flips.{after}
 use Rattle.formula.proofs.States.{after-changed_by}
 use Rattle.lines.specs.Lines.{Crossing, crossed, low, high, on_line, state_at, Edge, open_end, ends_group, opened, crossings_on}
 use Rattle.lines.proofs.Keys.{antisym, not-lt→, lt→le, lt_trans, le_z_off}
-use Rattle.lines.proofs.Crossings.{crossed-in, crossed_out, crossed_nil, on_nil, on_in, on_out, crossed-on, Each, each_on, each_its_line, Sorted, Kept, kept_low, kept_high, Later, all-later, later-at}
+use Rattle.lines.proofs.Crossings.{crossed_in, crossed_out, crossed_nil, on_nil, on_in, on_out, crossed-on, Each, each_on, each_its_line, Sorted, Kept, kept_low, kept_high, Later, all-later, later-at}
 
 -- where the next crossing is; after the last, the high viewOf
 abbrev pub next : List Crossing → ℤ
@@ -60,7 +60,7 @@ along_nil p state = ap (after state) (crossed_nil (up_to p)) ∙ fun_ext (λ t. 
 
 pub along-on : (p : ℤ) (state : State) (x : Crossing) (xs : List Crossing) → le_z x.at p ≡ true → along p state (x ∷ xs) ≡ along p (flipped x.shape state) xs
 unfolding after
-along-on p state x xs e = ap (after state) (crossed-in (up_to p) x xs e) ∙ fun_ext (λ t. refl)
+along-on p state x xs e = ap (after state) (crossed_in (up_to p) x xs e) ∙ fun_ext (λ t. refl)
 
 pub along-off : (p : ℤ) (state : State) (xs : List Crossing) → Placed xs → le_z (next xs) p ≡ false → along p state xs ≡ state
 along-off p state [] h e = along_nil p state

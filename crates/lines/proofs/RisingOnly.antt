@@ -48,9 +48,9 @@ same-walls start xs (v ∷ vs) (w ∷ ws) e b c =
     let g : v.end_shape ≡ w.end_shape = bounds_only start xs w.line w.end v.end_shape w.end_shape (rw (l, q) at b.0.1) c.0.1 in
     λ i. record { line = l i; start = p i; end = q i; start_shape = f i; end_shape = g i } ∷ t i
 
-pub in-wall : (l : ℕ) (p : ℤ) (w : Wall) → (eqb w.line l && le_z w.start p && lt_z p w.end) ≡ in_stretch le (l, p) (stretch w)
+pub in_wall : (l : ℕ) (p : ℤ) (w : Wall) → (eqb w.line l && le_z w.start p && lt_z p w.end) ≡ in_stretch le (l, p) (stretch w)
 unfolding stretch
-in-wall l p w = by (dec_lt w.line l) (dec_lt l w.line)
+in_wall l p w = by (dec_lt w.line l) (dec_lt l w.line)
   where
     by : Dec (w.line < l) → Dec (l < w.line) → (eqb w.line l && le_z w.start p && lt_z p w.end) ≡ (le_k w.line w.start l p && not (le_k w.line w.end l p))
     by (yes h) d = rw (lt_le_k w.line w.start l p h, lt_le_k w.line w.end l p h, ne_eqb w.line l (omega arith))
@@ -62,7 +62,7 @@ in-wall l p w = by (dec_lt w.line l) (dec_lt l w.line)
 pub covers_is : (l : ℕ) (p : ℤ) (ws : List Wall) → covers l p ws ≡ covered le (l, p) (stretches ws)
 unfolding covers covered stretches
 covers_is l p [] = refl
-covers_is l p (w ∷ ws) = rw (in-wall l p w, covers_is l p ws)
+covers_is l p (w ∷ ws) = rw (in_wall l p w, covers_is l p ws)
 
 long : (w : Wall) → lt_z w.start w.end ≡ true → le_k w.line w.end w.line w.start ≡ false
 long w e = eq_le_k w.line w.end w.line w.start refl ∙ lt→no w.start w.end e

@@ -19,7 +19,7 @@ use Rattle.lines.proofs.LinesRight.{lines_rise, lines_cells}
 use Rattle.lines.proofs.RisingOnly.{rising-only}
 use Rattle.lines.proofs.Edges.{view-shape, ends_bounded}
 use Rattle.lines.proofs.WallShapes.{Shaped, lines_shaped}
-use Rattle.lines.proofs.Judgement.{InOrder, both, judged-in-order}
+use Rattle.lines.proofs.Judgement.{InOrder, both, judged_in_order}
 
 module _ (start : ℕ → State) (xs : List Crossing) where
   -- the walls name the shapes that bound them
@@ -50,7 +50,7 @@ pub walls-right : (f : Formula) (names : ℕ) → names ≤ 256 → (c : LineLis
 walls-right f names few c e =
     let start : ℕ → State = start_state names c.rows in
     let rows : ℕ = row_count names c.rows in
-    rw (from_by (inside f) start (entries c) rows 0) (found_right start (entries c) f names rows few (judged-in-order names c e))
+    rw (from_by (inside f) start (entries c) rows 0) (found_right start (entries c) f names rows few (judged_in_order names c e))
 
 -- No other list is.
 pub right-only : (f : Formula) (rows : ℕ) (start : ℕ → State) (xs : List Crossing) (vs ws : List Wall) → Right f rows start xs vs → Right f rows start xs ws → vs ≡ ws
@@ -60,7 +60,7 @@ right-only f rows start xs vs ws a b = rising-only start xs vs ws a.rising b.ris
 pub edge_bounded : (f : Formula) (names : ℕ) → names ≤ 256 → (c : LineLists) → judged names c ≡ given tt → (ws : List Wall) → Rising ws
     → ((l : ℕ) (p : ℤ) → covers l p ws ≡ (ltb l (row_count names c.rows) && (le_z low p && (lt_z p high && inside f (state_at (start_state names c.rows) (entries c) l p)))))
     → Bound (start_state names c.rows) (entries c) ws
-edge_bounded f names few c e = ends_bounded (start_state names c.rows) (entries c) f names (row_count names c.rows) few (judged-in-order names c e)
+edge_bounded f names few c e = ends_bounded (start_state names c.rows) (entries c) f names (row_count names c.rows) few (judged_in_order names c e)
 
 -- So what the line job gives is right.
 pub classified-right : (f : Formula) (names : ℕ) → names ≤ 256 → (c : LineLists) (lent : AnswerLists) (ws : List Wall) → classified f names c lent ≡ given ws

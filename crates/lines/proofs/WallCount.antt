@@ -14,7 +14,7 @@ use Rattle.lines.specs.Lines.{LineLists, row_count, start_state, low, high, Cros
 use Rattle.lines.proofs.Crossings.{Sorted}
 use Rattle.lines.proofs.OtherLines.{past, OnFrom, past-from, past_sorted, split_line}
 use Rattle.lines.proofs.LinesBy.{walls_on_nil, walls_on_cons, walls_of, lines_by, by_none, by_more, by_past, from_by}
-use Rattle.lines.proofs.Judgement.{judged-in-order, judged_positions, judged_shapes}
+use Rattle.lines.proofs.Judgement.{judged_in_order, judged_positions, judged_shapes}
 use Rattle.lines.proofs.Items.{length-crossings}
 use Rattle.lines.proofs.WallsColumns.{all_from}
 
@@ -75,7 +75,7 @@ walls-room f names c e =
     let rows : ℕ = row_count names c.rows in
     let xs : List Crossing = entries c in
     let long : length xs ≡ length c.lines = length-crossings c.lines c.positions c.shapes (judged_positions names c e) (judged_shapes names c e) in
-    let half = lines-room (inside f) start (shape_at start xs) rows 0 xs (judged-in-order names c e).sorted (all_from xs) in
+    let half = lines-room (inside f) start (shape_at start xs) rows 0 xs (judged_in_order names c e).sorted (all_from xs) in
     rw (from_by (inside f) start xs rows 0) (omega (arith, half, long))
 
 -- so there is room for the walls found so far at every point of a pass

@@ -19,9 +19,9 @@ use Rattle.lines.specs.Columns.{Column, crossing_column, any_inside, starts_from
 use Rattle.lines.proofs.Crossings.{Each, each_map, each_on, each_its_line, Sorted, Kept, kept_low, kept_line}
 use Rattle.lines.proofs.OtherLines.{past, OnFrom, past-from, past_sorted, each_past}
 use Rattle.lines.proofs.LinesBy.{walls_of, lines_by, by_none, by_more, by_past, from_by}
-use Rattle.lines.proofs.ColumnLists.{Leaves, starts-in, starts_out, starts-beyond, columns_nil, columns-start, columns-line, columns_leave}
+use Rattle.lines.proofs.ColumnLists.{Leaves, starts_in, starts_out, starts-beyond, columns_nil, columns-start, columns-line, columns_leave}
 use Rattle.lines.proofs.ColumnLines.{column_nil, air_line, start-line}
-use Rattle.lines.proofs.Judgement.{judged-in-order}
+use Rattle.lines.proofs.Judgement.{judged_in_order}
 
 -- no shape below n is inside
 none_inside : (n : ℕ) (state : State) → any_inside n state ≡ false → (s : ℕ) → s < n → state s ≡ false
@@ -69,7 +69,7 @@ module _ (solid : State → Bool) (air : solid outside ≡ false) (names : ℕ) 
 
       by : (b : Bool) → any_inside names (start l) ≡ b
           → column_walls solid outside none (columns_of start shape (starts_from names start (suc k) l) xs) ≡ walls_of solid start shape l on ++ column_walls solid outside none cs
-      by true e = rw (starts-in names start k l e, columns-start start shape l qs xs from, its_columns) (start-line solid shape start l on cs (each_its_line l xs) up leaves)
+      by true e = rw (starts_in names start k l e, columns-start start shape l qs xs from, its_columns) (start-line solid shape start l on cs (each_its_line l xs) up leaves)
       by false e = rw (starts_out names start k l e, its_columns, starts-outside l e, air) (air_line solid shape l on cs (each_its_line l xs) leaves)
 
   none_left : (l rows : ℕ) (xs : List Crossing) → l + 0 ≡ rows → Kept rows xs → OnFrom l xs → xs ≡ []
@@ -97,6 +97,6 @@ pub walls-columns : (f : Formula) (names : ℕ) (c : LineLists) → judged names
 walls-columns f names c e =
     let start : ℕ → State = start_state names c.rows in
     let rows : ℕ = row_count names c.rows in
-    let all = judged-in-order names c e in
+    let all = judged_in_order names c e in
     from_by (inside f) start (entries c) rows 0
     ∙ sym (columns-lines (inside f) (inside-outside f outside (λ s. refl)) names start (bare-beyond names c.rows) (shape_at start (entries c)) rows 0 rows (entries c) (omega arith) all.sorted all.kept (all_from (entries c)))

@@ -2,7 +2,7 @@
 #![tactic(auto)]
 
 ghost use Rattle.std.specs.Prelude.{◌≡◌};
-ghost use Rattle.order_mixing.specs.Order.{mixes as mixesOf};
+ghost use Rattle.order_mixing.specs.Order.{mixes as mixes_of};
 
 // A turn as a number.
 fn wide(turn: u8) -> usize
@@ -13,7 +13,7 @@ fn wide(turn: u8) -> usize
 
 // Whether an order mixes lists of these lengths.
 pub fn mixes(order: &[u8], first: usize, second: usize) -> bool
-    ensures { result ≡ mixesOf order.now first second }
+    ensures { result ≡ mixes_of order.now first second }
 {
     let mut i = 0;
     let mut seconds = 0;

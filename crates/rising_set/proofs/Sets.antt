@@ -22,8 +22,8 @@ use Rattle.rising_set.proofs.Bits.{same?, put_set, take-set, shifted}
 abbrev one : ℕ → ℕ
 one b = (1 * 2 ^ b) % 2 ^ 64
 
-abbrev in-hand : ℕ → ℕ → ℕ → RisingSet
-in-hand a w h = record { at = a; word = w; held = h }
+abbrev in_hand : ℕ → ℕ → ℕ → RisingSet
+in_hand a w h = record { at = a; word = w; held = h }
 
 below? : {A : Type 0} (i p : ℕ) → (i < p → A) → (p ≤ i → A) → A
 below? {A} i p f g = go (ltb i p) refl
@@ -46,8 +46,8 @@ module _ {ws : List ℕ} {m : RisingSet} (g : Rising ws m) where
   long_all : length (all ws m) ≡ 48
   long_all = length-set ws m.at m.word ∙ g.long
 
-  pub put-in-hand : {k : ℕ} → k < 3072 → k / 64 ≡ m.at → Put ws m k ws (in-hand m.at (bit_or m.word (one (k % 64))) m.held)
-  put-in-hand {k} h e =
+  pub put_in_hand : {k : ℕ} → k < 3072 → k / 64 ≡ m.at → Put ws m k ws (in_hand m.at (bit_or m.word (one (k % 64))) m.held)
+  put_in_hand {k} h e =
       record {
         rising = record { long = g.long; here = g.here; low = g.low; later = g.later; rest = g.rest };
         added = record { so = λ i. rw (shifted (k % 64) (omega arith)) (sym (ap (λ ms. in_set ms i) stored) ∙ put_set (all ws m) k i (omega (arith, long_all))) };
@@ -58,7 +58,7 @@ module _ {ws : List ℕ} {m : RisingSet} (g : Rising ws m) where
       stored = rw (e, in_place) (set-set ws m.at m.word (bit_or m.word (1 * 2 ^ (k % 64))))
 
   pub put_later : {k : ℕ} → 64 * m.at ≤ k → k < 3072 → (k / 64 ≡ m.at → ⊥)
-      → Put ws m k (set ws (k / 64) (bit_or (get_or ws (k / 64) 0) (one (k % 64)))) (in-hand m.at m.word (bit_or m.held (one (k / 64))))
+      → Put ws m k (set ws (k / 64) (bit_or (get_or ws (k / 64) 0) (one (k % 64)))) (in_hand m.at m.word (bit_or m.held (one (k / 64))))
   put_later {k} up h n =
       rw (shifted (k % 64) (omega arith), shifted (k / 64) (omega arith))
       record {
@@ -115,7 +115,7 @@ module _ {ws : List ℕ} {m : RisingSet} (g : Rising ws m) where
   held_word {w} d = (g.later w (lowest_digit d)).1
 
   -- the lowest word held is taken in hand
-  pub opened-next : {w : ℕ} → m.word ≡ 0 → LowestBit m.held w → Opened ws m (set ws w 0) (in-hand w (get_or ws w 0) (bit_xor m.held (one w)))
+  pub opened-next : {w : ℕ} → m.word ≡ 0 → LowestBit m.held w → Opened ws m (set ws w 0) (in_hand w (get_or ws w 0) (bit_xor m.held (one w)))
   opened-next {w} e d =
       let is = g.later w (lowest_digit d) in
       rw (shifted w d.low)
@@ -152,8 +152,8 @@ module _ {ws : List ℕ} {m : RisingSet} (g : Rising ws m) where
 
   -- the lowest of the word in hand is the lowest of all
   module _ {k : ℕ} (l : Lowest m k) where
-    pub lowest-in : in_set (all ws m) k ≡ true
-    lowest-in = eq-eqb _ 1 (ap (λ x. digit x (k % 64)) (ap (λ x. get_or (all ws m) x 0) l.place ∙ in_place) ∙ l.here)
+    pub lowest_in : in_set (all ws m) k ≡ true
+    lowest_in = eq-eqb _ 1 (ap (λ x. digit x (k % 64)) (ap (λ x. get_or (all ws m) x 0) l.place ∙ in_place) ∙ l.here)
 
     pub lowest_small : k < 3072
     lowest_small = omega (arith, l.place, g.here)
@@ -171,7 +171,7 @@ lowest_is {m} {d} h l =
     let r : (m.at * 64 + d) % 64 ≡ d = omega (arith, l.low) in
     record { place = q; here = rw r (lowest_digit l); low = λ c o. lower-digit l c (omega arith) }
 
-pub taken : {m : RisingSet} {k : ℕ} → k / 64 ≡ m.at → digit m.word (k % 64) ≡ 1 → Taken m k (in-hand m.at (bit_xor m.word (one (k % 64))) m.held)
+pub taken : {m : RisingSet} {k : ℕ} → k / 64 ≡ m.at → digit m.word (k % 64) ≡ 1 → Taken m k (in_hand m.at (bit_xor m.word (one (k % 64))) m.held)
 taken {m} {k} e d =
     rw (shifted (k % 64) (omega arith))
     record {

@@ -143,13 +143,13 @@ many_by f false = length-prefix f
 pub length-codes_in : (edition : ℕ) (f : Formula) → length (codes_in edition f) ≡ length (postfix f)
 length-codes_in edition f = many_by f (eqb edition 1)
 
-in-by : (n tag first : ℕ) (cs : List ℕ) (f : Formula) (b : Bool) → cond b (formula_of n tag first cs) (formula_first n tag first cs) ≡ given f → (cond b (postfix f) (prefix f) ≡ cs) × Over n f
-in-by n tag first cs f true h = formula_of-postfix n tag first cs f h
-in-by n tag first cs f false h = formula_first-prefix n tag first cs f h
+in_by : (n tag first : ℕ) (cs : List ℕ) (f : Formula) (b : Bool) → cond b (formula_of n tag first cs) (formula_first n tag first cs) ≡ given f → (cond b (postfix f) (prefix f) ≡ cs) × Over n f
+in_by n tag first cs f true h = formula_of-postfix n tag first cs f h
+in_by n tag first cs f false h = formula_first-prefix n tag first cs f h
 
 pub formula_in-codes : (edition n tag first : ℕ) (cs : List ℕ) (f : Formula) → formula_in edition n tag first cs ≡ given f → (codes_in edition f ≡ cs) × Over n f
 unfolding formula_in
-formula_in-codes edition n tag first cs f h = in-by n tag first cs f (eqb edition 1) h
+formula_in-codes edition n tag first cs f h = in_by n tag first cs f (eqb edition 1) h
 
 by_in : (n : ℕ) → n ≤ first_operation → (tag first : ℕ) (f : Formula) → Over n f → (b : Bool)
     → cond b (formula_of n tag first (cond b (postfix f) (prefix f))) (formula_first n tag first (cond b (postfix f) (prefix f))) ≡ given f

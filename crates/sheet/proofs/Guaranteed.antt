@@ -97,7 +97,7 @@ formula-own w s at ns v p i e hd =
       few_bytes = omega arith;
       even = rw d i.even;
       ends = omega arith;
-      few-in-all = omega (arith, p.near, p.good.few, joined);
+      few_in_all = omega (arith, p.near, p.good.few, joined);
       names_are = ap (λ (ms : List (List ℕ)). w.fittings ++ ms) p.names_are;
       follows = ap (λ (n : ℕ). n + 3) p.here;
     }

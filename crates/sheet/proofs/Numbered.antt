@@ -62,9 +62,9 @@ formula-first-numbered : (n tag first : ℕ) (cs : List ℕ) → Numbered (formu
 unfolding formula_first
 formula-first-numbered n tag first cs = bind_numbered (all_first n tag first cs 1) (only_one tag) (all_first-numbered n tag first cs 1) (only-numbered tag)
 
-formula-in-numbered : (edition n tag first : ℕ) (cs : List ℕ) → Numbered (formula_in edition n tag first cs)
+formula_in-numbered : (edition n tag first : ℕ) (cs : List ℕ) → Numbered (formula_in edition n tag first cs)
 unfolding formula_in
-formula-in-numbered edition n tag first cs =
+formula_in-numbered edition n tag first cs =
     cond-numbered (eqb edition 1) (formula_of n tag first cs) (formula_first n tag first cs) (formula-numbered n tag first cs) (formula-first-numbered n tag first cs)
 
 -- ---- fields
@@ -80,7 +80,7 @@ module _ (w : Setting) (s : List ℕ) (at : ℕ) (ns : List (List ℕ)) where
 
   formula-field-numbered : Numbered (formula_at w s at ns)
   unfolding formula_at
-  formula-field-numbered = search (asks, bind_numbered, formula-in-numbered, given-numbered, lit<) depth 20
+  formula-field-numbered = search (asks, bind_numbered, formula_in-numbered, given-numbered, lit<) depth 20
 
   field-numbered : (ended : Bool) → Numbered (field_at w s at ns ended)
   unfolding field_at

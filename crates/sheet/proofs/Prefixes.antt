@@ -28,7 +28,7 @@ module _ {A : Type 0} (k m : ℕ) (o o' : Outcome A) where
   cut-same true i p c = c refl
   cut-same false i p c = whole refl
 
-  module _ (n : ℕ) (in-sheet : k ≤ n) (e : ℕ) where
+  module _ (n : ℕ) (in_sheet : k ≤ n) (e : ℕ) where
     leb_by : (b : Bool) → leb e k ≡ b → e ≤ m → (e ≤ k → Cut k m o o') → Cut k m (need (leb e n) 1 n >> o) (need b 1 k >> o')
     leb_by true q near c = let h : e ≤ k = leb-true e k q in let g : e ≤ n = omega arith in rw (le-leb e n g) (c h)
     leb_by false q near c = let h : k < e = leb-false e k q in short (omega arith) refl
@@ -82,50 +82,50 @@ module _ (w : Setting) (s : List ℕ) (k : ℕ) where
   unfolding past_at bytes_at
   cut-bytes at h g = rw (cut-length at h) (cut-part (at + 3) (length_at s at) k s g)
 
-  module _ (in-sheet : k ≤ length s) where
+  module _ (in_sheet : k ≤ length s) where
     cut-header : Cut k 5 (header 2 s) (header 2 (take k s))
     unfolding header
     cut-header =
-        rw (length-take-le k s in-sheet)
-        (cut-ltb k 5 _ _ (length s) in-sheet 0 (omega arith) (λ h.
+        rw (length-take-le k s in_sheet)
+        (cut-ltb k 5 _ _ (length s) in_sheet 0 (omega arith) (λ h.
         rw (get_or-take k s 0 0 h)
         (cut-same k 5 _ _ (eqb (get_or s 0 0) 1) 2 0 (λ q1.
-        cut-leb k 5 _ _ (length s) in-sheet 3 (omega arith) (λ h3.
+        cut-leb k 5 _ _ (length s) in_sheet 3 (omega arith) (λ h3.
         rw (cut-length 0 h3)
         (cut-same k 5 _ _ (eqb (length_at s 0) 2) 3 0 (λ q2.
-        cut-leb k 5 _ _ (length s) in-sheet 5 (omega arith) (λ h5.
+        cut-leb k 5 _ _ (length s) in_sheet 5 (omega arith) (λ h5.
         rw (cut-two 3 h5) (whole refl)))))))))
 
     cut-name : (at : ℕ) (ns : List (List ℕ)) → Cut k (reach at) (name_at w s at ns) (name_at w (take k s) at ns)
     unfolding name_at
     cut-name at ns =
-        rw (length-take-le k s in-sheet)
+        rw (length-take-le k s in_sheet)
         (cut-same k (reach at) _ _ (ltb (length w.fittings + length ns) most_names) 6 at (λ q1.
-        cut-leb k (reach at) _ _ (length s) in-sheet (at + 3) (omega arith) (λ h.
+        cut-leb k (reach at) _ _ (length s) in_sheet (at + 3) (omega arith) (λ h.
         rw (cut-length at h, cut-past at h)
         (cut-same k (reach at) _ _ (leb 1 (length_at s at)) 4 at (λ q2.
         cut-same k (reach at) _ _ (leb (length_at s at) longest_name) 4 at (λ q3.
-        cut-leb k (reach at) _ _ (length s) in-sheet (past_at s at) (omega (arith, past_near s at longest_name (leb-true _ _ q3))) (λ g.
+        cut-leb k (reach at) _ _ (length s) in_sheet (past_at s at) (omega (arith, past_near s at longest_name (leb-true _ _ q3))) (λ g.
         rw (cut-bytes at h g) (whole refl))))))))
 
     cut-formula : (at : ℕ) (ns : List (List ℕ)) → Cut k (reach at) (formula_at w s at ns) (formula_at w (take k s) at ns)
     unfolding formula_at
     cut-formula at ns =
-        rw (length-take-le k s in-sheet)
+        rw (length-take-le k s in_sheet)
         (cut-same k (reach at) _ _ (ltb 0 (length ns)) 2 at (λ q1.
-        cut-leb k (reach at) _ _ (length s) in-sheet (at + 3) (omega arith) (λ h.
+        cut-leb k (reach at) _ _ (length s) in_sheet (at + 3) (omega arith) (λ h.
         rw (cut-length at h, cut-past at h)
         (cut-same k (reach at) _ _ (leb (length_at s at) longest_formula) 6 at (λ q2.
         cut-same k (reach at) _ _ (leb 1 (length_at s at)) 7 at (λ q3.
         cut-same k (reach at) _ _ (eqb (length_at s at % 2) 0) 7 at (λ q4.
-        cut-leb k (reach at) _ _ (length s) in-sheet (past_at s at) (past_near s at longest_formula (leb-true _ _ q2)) (λ g.
+        cut-leb k (reach at) _ _ (length s) in_sheet (past_at s at) (past_near s at longest_formula (leb-true _ _ q2)) (λ g.
         rw (cut-bytes at h g) (whole refl)))))))))
 
     cut_field : (at : ℕ) (ns : List (List ℕ)) → Cut k (reach at) (field_at w s at ns false) (field_at w (take k s) at ns false)
     unfolding field_at
     cut_field at ns =
-        rw (length-take-le k s in-sheet)
-        (cut-ltb k (reach at) _ _ (length s) in-sheet at (omega arith) (λ h.
+        rw (length-take-le k s in_sheet)
+        (cut-ltb k (reach at) _ _ (length s) in_sheet at (omega arith) (λ h.
         rw (get_or-take k s at 0 h)
         (cut-cond k (reach at) (eqb (get_or s at 0) 2) _ _ _ _ (cut-name at ns)
         (cut-cond k (reach at) (eqb (get_or s at 0) (formula_tag w.edition)) _ _ _ _ (cut-formula at ns) (whole refl)))))
@@ -133,8 +133,8 @@ module _ (w : Setting) (s : List ℕ) (k : ℕ) where
 -- ---- a proper prefix of a sheet that is read
 
 module _ (w : Setting) (s : List ℕ) (k : ℕ) (proper : k < length s) (r : Sheet) where
-  in-sheet : k ≤ length s
-  in-sheet = omega arith
+  in_sheet : k ≤ length s
+  in_sheet = omega arith
 
   -- the formula would end within the prefix, and so before the sheet's end
   not_all : (f : Formula) (at a e : ℕ) (ns : List (List ℕ)) → length s ≤ e
@@ -143,7 +143,7 @@ module _ (w : Setting) (s : List ℕ) (k : ℕ) (proper : k < length s) (r : She
   not_all f at a e ns l (inr i) =
       let h = i.is in
       let q : past_at (take k s) at ≡ e = cc h in
-      omega (arith, q, l, i.inside, length-take-le k s in-sheet)
+      omega (arith, q, l, i.inside, length-take-le k s in_sheet)
 
   module _ (on on' : ℕ → List (List ℕ) → Outcome Sheet) (ih : (e : ℕ) (ms : List (List ℕ)) → on e ms ≡ given r → on' e ms ≡ refused 1 k)
       (at : ℕ) (ns : List (List ℕ)) where
@@ -164,7 +164,7 @@ module _ (w : Setting) (s : List ℕ) (k : ℕ) (proper : k < length s) (r : She
   fields-cut zero at ns h = let z : ◌≡◌ {A = ℕ} 0 1 = cc in absurd (omega arith)
   fields-cut (suc n) at ns h =
       let b = bind_given (field_at w s at ns false) (onward w (fields w n s) s ns) r h in
-      after-cut (fields w n s) (fields w n (take k s)) (fields-cut n) at ns b.0 b.1 b.2 (cut_field w s k in-sheet at ns)
+      after-cut (fields w n s) (fields w n (take k s)) (fields-cut n) at ns b.0 b.1 b.2 (cut_field w s k in_sheet at ns)
 
 -- The fields after a header that said an edition, beside the fittings' names.
 abbrev after-header : List (List ℕ) → List ℕ → ℕ → Outcome Sheet
@@ -184,7 +184,7 @@ module _ (fs : List (List ℕ)) (s : List ℕ) (k : ℕ) (proper : k < length s)
 
 -- ---- a prefix of 13,063 bytes at least
 
-module _ (w : Setting) (s : List ℕ) (k : ℕ) (in-sheet : k ≤ length s) (enough : most_bytes < k) where
+module _ (w : Setting) (s : List ℕ) (k : ℕ) (in_sheet : k ≤ length s) (enough : most_bytes < k) where
   field-same : (at : ℕ) (ns : List (List ℕ)) → at ≤ 5 + 35 * most_names → Cut k (reach at) (field_at w s at ns false) (field_at w (take k s) at ns false)
       → field_at w (take k s) at ns false ≡ field_at w s at ns false
   field-same at ns near (short l c) = absurd (omega arith)
@@ -193,7 +193,7 @@ module _ (w : Setting) (s : List ℕ) (k : ℕ) (in-sheet : k ≤ length s) (eno
   -- after a formula that ends before byte 13,063 there are further bytes in both
   end_same : (e : ℕ) (ns : List (List ℕ)) → e ≤ most_bytes → field_at w (take k s) e ns true ≡ field_at w s e ns true
   unfolding field_at
-  end_same e ns near = rw (length-take-le k s in-sheet, lt-leb (length s) e (omega arith), lt-leb k e (omega arith))
+  end_same e ns near = rw (length-take-le k s in_sheet, lt-leb (length s) e (omega arith), lt-leb k e (omega arith))
 
   module _ (on on' : ℕ → List (List ℕ) → Outcome Sheet)
       (ih : (e : ℕ) (ms : List (List ℕ)) → e ≤ 5 + 35 * length ms → length ms ≤ most_names → on' e ms ≡ on e ms)
@@ -223,22 +223,22 @@ module _ (w : Setting) (s : List ℕ) (k : ℕ) (in-sheet : k ≤ length s) (eno
   unfolding fields
   fields-same zero at ns near few = refl
   fields-same (suc n) at ns near few =
-      rw (field-same at ns (omega arith) (cut_field w s k in-sheet at ns))
+      rw (field-same at ns (omega arith) (cut_field w s k in_sheet at ns))
       (after_same (fields w n s) (fields w n (take k s)) (fields-same n) at ns near few (field_at w s at ns false) refl)
 
-module _ (fs : List (List ℕ)) (s : List ℕ) (k : ℕ) (in-sheet : k ≤ length s) (enough : most_bytes < k) where
+module _ (fs : List (List ℕ)) (s : List ℕ) (k : ℕ) (in_sheet : k ≤ length s) (enough : most_bytes < k) where
   header-same : Cut k 5 (header 2 s) (header 2 (take k s)) → header 2 (take k s) ≡ header 2 s
   header-same (short l c) = absurd (omega arith)
   header-same (whole c) = c
 
   after-header-same : (o : Outcome ℕ) → (o >>= after-header fs (take k s)) ≡ (o >>= after-header fs s)
-  after-header-same (given said) = fields-same (record { fittings = fs; edition = said }) s k in-sheet enough (most_names + 1) 5 [] (omega arith) (omega arith)
+  after-header-same (given said) = fields-same (record { fittings = fs; edition = said }) s k in_sheet enough (most_names + 1) 5 [] (omega arith) (omega arith)
   after-header-same (refused i p) = refl
   after-header-same (unfit i p) = refl
 
   cut-own : own fs (take k s) ≡ own fs s
   unfolding own
-  cut-own = rw (header-same (cut-header (record { fittings = fs; edition = 1 }) s k in-sheet)) (after-header-same (header 2 s))
+  cut-own = rw (header-same (cut-header (record { fittings = fs; edition = 1 }) s k in_sheet)) (after-header-same (header 2 s))
 
 either_way : (fs : List (List ℕ)) (s : List ℕ) (k : ℕ) → most_bytes < k → (b : Bool) → leb k (length s) ≡ b → own fs (take k s) ≡ own fs s
 either_way fs s k enough true q = cut-own fs s k (leb-true _ _ q) enough

@@ -49,7 +49,7 @@ pub record Own (fittings : List (List ℕ)) (s : List ℕ) (r : Sheet) : Type 0 
   pub even : (r.past - r.first) % 2 ≡ 0
   -- after the formula there is no further byte
   pub ends : r.past ≡ length s
-  pub few-in-all : length s ≤ most_bytes
+  pub few_in_all : length s ≤ most_bytes
   -- the fittings' names are numbered first; the customer's are those of the fields from offset 5 on; the formula's field is the next one
   pub names_are : r.names ≡ fittings ++ walk_names s 5 owned
   pub follows : r.first ≡ walk_end s 5 owned + 3

@@ -116,8 +116,8 @@ module _ (ed n : ℕ) (p old : List ℕ) (good : GoodIn ed n p old) where
     unfolding formula_in
     first_is = let h = good.is in rw (eq-eqb ed 1 one) at h
 
-    pub in-postfix : (new : List ℕ) (count : ℕ) → CodesStand (codes_of p) new count → CodesStand (in_postfix (formula_in ed n 0 0 (codes_of p))) new count
-    in-postfix new count stand = let c = (formula_of-postfix n 0 0 (codes_of p) good.formula first_is).0 in rw (good.is, c) stand
+    pub in_postfix_lem : (new : List ℕ) (count : ℕ) → CodesStand (codes_of p) new count → CodesStand (in_postfix (formula_in ed n 0 0 (codes_of p))) new count
+    in_postfix_lem new count stand = let c = (formula_of-postfix n 0 0 (codes_of p) good.formula first_is).0 in rw (good.is, c) stand
 
   module _ (other : ed ≡ 1 → ⊥) where
     is_first : formula_in ed n 0 0 (codes_of p) ≡ formula_first n 0 0 (codes_of p)
@@ -127,5 +127,5 @@ module _ (ed n : ℕ) (p old : List ℕ) (good : GoodIn ed n p old) where
     pub good_second : GoodFirst n p old
     good_second = record { few_names = good.few_names; fits = good.fits; formula = good.formula; is = sym is_first ∙ good.is }
 
-    pub in-prefix : (new : List ℕ) (count : ℕ) → CodesStand (in_postfix (formula_first n 0 0 (codes_of p))) new count → CodesStand (in_postfix (formula_in ed n 0 0 (codes_of p))) new count
-    in-prefix new count stand = rw is_first stand
+    pub in_prefix : (new : List ℕ) (count : ℕ) → CodesStand (in_postfix (formula_first n 0 0 (codes_of p))) new count → CodesStand (in_postfix (formula_in ed n 0 0 (codes_of p))) new count
+    in_prefix new count stand = rw is_first stand

@@ -225,13 +225,13 @@ module _ (ed : ℕ) (f : List ℕ) (m : ℕ) (s : List ℕ) (at j : ℕ) (ended 
 -- ---- the codes, by the edition
 
 module _ (said n tag first : ℕ) (p : List ℕ) (r : Formed) where
-  pub in-first : said ≡ 1 → formed_of r ≡ part leaves (formula_of n tag first (codes_of p)) → formed_of r ≡ part leaves (formula_in said n tag first (codes_of p))
+  pub in_first : said ≡ 1 → formed_of r ≡ part leaves (formula_of n tag first (codes_of p)) → formed_of r ≡ part leaves (formula_in said n tag first (codes_of p))
   unfolding formula_in
-  in-first e h = h ∙ rw (eq-eqb said 1 e)
+  in_first e h = h ∙ rw (eq-eqb said 1 e)
 
-  pub in-second : (said ≡ 1 → ⊥) → formed_of r ≡ part leaves (formula_first n tag first (codes_of p)) → formed_of r ≡ part leaves (formula_in said n tag first (codes_of p))
+  pub in_second : (said ≡ 1 → ⊥) → formed_of r ≡ part leaves (formula_first n tag first (codes_of p)) → formed_of r ≡ part leaves (formula_in said n tag first (codes_of p))
   unfolding formula_in
-  in-second e h = h ∙ rw (ne_eqb said 1 e)
+  in_second e h = h ∙ rw (ne_eqb said 1 e)
 
 -- the codes were judged
 judged_good : (o : Outcome Formula) (l a e : ℕ) → given l ≡ part leaves o → given (formula l a e) ≡ part seen (o >>= λ f. given (formula_field f a e))

@@ -4,7 +4,7 @@
 ghost use Rattle.std.specs.Prelude.{◌≡◌, ◌+◌, ◌%◌, ◌^◌, ◌<◌, ◌≤◌, length};
 ghost use Rattle.outcome.specs.Outcome.{part};
 ghost use Rattle.formula.specs.Formula.{leaves as leaves_of};
-ghost use Rattle.sheet.specs.Sheet.{codes_of, formula_in, header as headerOf, name_at, formula_at, field_at, fitting_at};
+ghost use Rattle.sheet.specs.Sheet.{codes_of, formula_in, header as header_of, name_at, formula_at, field_at, fitting_at};
 ghost use Rattle.sheet.specs.Walk.{walk_names, fitted_by};
 ghost use Rattle.sheet_names.specs.Keys.{NamesRead};
 ghost use Rattle.sheet_codes.specs.Codes.{formed_of};
@@ -191,7 +191,7 @@ pub fn one_fitting(sheet: &[u8], at: usize, names: usize, keys: &[u32; 256]) -> 
 
 // The header, of an edition from 1 up to `last`.
 pub fn header(last: usize, sheet: &[u8]) -> Head
-    ensures { head_of result ≡ headerOf last sheet.now }
+    ensures { head_of result ≡ header_of last sheet.now }
 {
     if sheet.len() <= 0 {
         return Head::Refused(1, sheet.len());

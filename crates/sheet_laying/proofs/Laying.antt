@@ -152,7 +152,7 @@ module _ (old : List ℕ) (held last : ℕ) (laid : List ℕ) (waiting waits at 
   within = omega arith
 
   none-low : waiting ≡ 0 → 0xFFF4 ≤ waits → ⊥
-  none-low e h = let l = s.low.in-hand e in omega (arith, l, h)
+  none-low e h = let l = s.low.in_hand e in omega (arith, l, h)
 
   pub some_wait : 0xFFF4 ≤ waits → 1 ≤ waiting
   some_wait h = not_none waiting (λ e. none-low e h)
@@ -168,7 +168,7 @@ module _ (old : List ℕ) (held last : ℕ) (laid : List ℕ) (waiting waits at 
         low =
             record {
               small = omega arith;
-              in-hand = λ e. let l = s.low.in-hand e in omega (arith, l);
+              in_hand = λ e. let l = s.low.in_hand e in omega (arith, l);
               at_front = λ m. let l = s.low.at_front m in omega (arith, l);
             };
         is = λ codes all b. let w = s.is codes all b in stop_at laid waiting waits at sized within codes all w.waits w.stands h;
@@ -181,7 +181,7 @@ module _ (old : List ℕ) (held last : ℕ) (laid : List ℕ) (waiting waits at 
           low =
               record {
                 small = small;
-                in-hand = λ e. let l = s.low.at_front (omega arith) in omega (arith, l, is ∙ ap (λ (i : ℕ). get_or laid i 0) e);
+                in_hand = λ e. let l = s.low.at_front (omega arith) in omega (arith, l, is ∙ ap (λ (i : ℕ). get_or laid i 0) e);
                 at_front = λ m. omega (arith, get_or-set_other laid (at + (waiting - 1)) 0 (waits - 4) 0 (λ e. omega arith), s.low.at_front (omega arith));
               };
           is = λ codes all b. let w = s.is codes all b in on-at laid waiting waits at sized within codes all (omega arith) c is w.waits w.stands h;
@@ -275,7 +275,7 @@ lays_none bytes old fit =
     record {
       fits = omega arith;
       sized = fit.sized;
-      low = record { small = omega arith; in-hand = λ e. omega arith; at_front = λ m. absurd (omega (arith, m)) };
+      low = record { small = omega arith; in_hand = λ e. omega arith; at_front = λ m. absurd (omega (arith, m)) };
       is = λ f w.
           record {
             waits = [];
@@ -317,7 +317,7 @@ module _ (bytes old laid : List ℕ) (n held last at : ℕ) (fit : CodesFit byte
     lays_low c =
         record {
           small = y.low.small;
-          in-hand = λ e. let l = y.low.in-hand e in omega (arith, l, few, y.fits);
+          in_hand = λ e. let l = y.low.in_hand e in omega (arith, l, few, y.fits);
           at_front = λ m. let l = y.low.at_front m in omega (arith, l, few, y.fits, get_or-set_other laid (at - 1 + held) 0 c 0 (λ e. omega (arith, e, m)));
         }
 
@@ -342,7 +342,7 @@ module _ (bytes old laid : List ℕ) (n held last at : ℕ) (fit : CodesFit byte
           record {
             fits = omega (arith, y.fits, more);
             sized = length-set laid held last ∙ y.sized;
-            low = record { small = small; in-hand = λ e. absurd (omega (arith, e)); at_front = λ m. front_low held refl };
+            low = record { small = small; in_hand = λ e. absurd (omega (arith, e)); at_front = λ m. front_low held refl };
             is = λ f w.
                 let b = y.is f w in
                 node_at (codes_of bytes) laid held last at (omega (arith, many, y.fits)) y.sized room more (prefix f ++ drop n old) c code_is b.waits b.next b.ends b.stands h;
@@ -350,7 +350,7 @@ module _ (bytes old laid : List ℕ) (n held last at : ℕ) (fit : CodesFit byte
         where
           front_low : (k : ℕ) → k ≡ held → get_or (set laid held last) 0 0 ≤ 4 * (2048 - (at - 1))
           front_low zero e =
-              let l = y.low.in-hand (sym e) in
+              let l = y.low.in_hand (sym e) in
               let g : get_or (set laid held last) 0 0 ≡ last = ap (λ (i : ℕ). get_or (set laid i last) 0 0) (sym e) ∙ get_or-set_same laid 0 last 0 (omega (arith, y.sized)) in
               omega (arith, l, g)
           front_low (suc k) e =

@@ -71,7 +71,7 @@ pub record Settled (laid : List ℕ) (held last at : ℕ) (codes all : List ℕ)
 -- The entry that means nothing stays below all operations' codes, whatever codes are laid: each of k leaves adds 4 to it at most.
 pub record Low (laid : List ℕ) (held last k : ℕ) : Type 0 where
   pub small : last < 65536
-  pub in-hand : held ≡ 0 → last ≤ 4 * k
+  pub in_hand : held ≡ 0 → last ≤ 4 * k
   pub at_front : 0 < held → get_or laid 0 0 ≤ 4 * k
 
 pub record Settles (old : List ℕ) (held last : ℕ) (new : List ℕ) (less after at : ℕ) : Type 0 where

@@ -2,9 +2,9 @@
 #![tactic(auto)]
 
 ghost use Rattle.std.specs.Prelude.{◌≡◌, not, ◌||◌, ◌≤◌, ◌<◌, length, take, eqb};
-ghost use Rattle.sheet.specs.Sheet.{all_good, same as sameBytes, taken as takenIn};
+ghost use Rattle.sheet.specs.Sheet.{all_good, same as same_bytes, taken as taken_in};
 ghost use Rattle.sheet.specs.Walk.{walk_names};
-ghost use Rattle.sheet_names.specs.Keys.{mixed as mixedIn, key_of, has, Walkable, NamesRead, whose_is};
+ghost use Rattle.sheet_names.specs.Keys.{mixed as mixed_in, key_of, has, Walkable, NamesRead, whose_is};
 
 // Is each byte of a name good?
 pub fn good_bytes(b: &[u8]) -> bool
@@ -33,7 +33,7 @@ fn unlike(x: u8, y: u8) -> bool
 
 // Are two names equal, byte by byte?
 fn same(a: &[u8], b: &[u8]) -> bool
-    ensures { result ≡ sameBytes a.now b.now }
+    ensures { result ≡ same_bytes a.now b.now }
 {
     let mut i = 0;
     while i < a.len() {
@@ -51,7 +51,7 @@ fn same(a: &[u8], b: &[u8]) -> bool
 // Is a name among the first names of the sheet? The fields before are walked again.
 fn among(sheet: &[u8], names: usize, name: &[u8]) -> bool
     requires { Walkable sheet.now 5 names }
-    ensures { result ≡ takenIn (walk_names sheet.now 5 names) name.now }
+    ensures { result ≡ taken_in (walk_names sheet.now 5 names) name.now }
 {
     let mut at = 5;
     let mut left = names;
@@ -70,7 +70,7 @@ fn among(sheet: &[u8], names: usize, name: &[u8]) -> bool
 // One byte more in a key.
 fn mixed(key: u64, x: u8) -> u64
     requires { key < 4294967296 }
-    ensures { (result ≡ mixedIn key x) × (result < 4294967296) }
+    ensures { (result ≡ mixed_in key x) × (result < 4294967296) }
 {
     (key * 16777619 + x as u64) % 4294967296
 }

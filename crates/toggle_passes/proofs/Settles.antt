@@ -15,7 +15,7 @@ use Rattle.contraction.specs.Records.{over}
 use Rattle.contraction.specs.Entries.{rec_at, recs}
 use Rattle.rising_set.specs.declared.RisingSet.{RisingSet}
 use Rattle.rising_set.specs.Members.{in_set, all, Rising, Removed, Same, Empty, Put, Taken, Opened, Lowest}
-use Rattle.rising_set.proofs.Sets.{lowest-in, lowest_small, lowest_first}
+use Rattle.rising_set.proofs.Sets.{lowest_in, lowest_small, lowest_first}
 use Rattle.labels.specs.Linked.{Linked}
 use Rattle.labels.proofs.Links.{cases, parent_is, parent_after}
 use Rattle.toggle_passes.specs.Reworking.{steps, reworked, rework}
@@ -162,12 +162,12 @@ module _ {ks fs ss : List ℕ} {leaves nodes : ℕ} {ps : List ℕ} (lk : Linked
 
     module _ {k : ℕ} (low : Lowest m k) where
       is_node : k < nodes
-      is_node = g.within.node k (lowest_small g.rising low) (lowest-in g.rising low)
+      is_node = g.within.node k (lowest_small g.rising low) (lowest_in g.rising low)
 
       -- a bound below which nothing of the set is is not above k
       not_above : (b : ℕ) → ((i : ℕ) → i < b → in_set (all ws m) i ≡ false) → b ≤ k
       not_above b out =
-          cases (ltb k b) (λ q. absurd (true≢false (sym (lowest-in g.rising low) ∙ out k (ltb-true k b q)))) (λ q. ltb-false k b q)
+          cases (ltb k b) (λ q. absurd (true≢false (sym (lowest_in g.rising low) ∙ out k (ltb-true k b q)))) (λ q. ltb-false k b q)
 
       pub settling_few : n < 3072
       settling_few = omega (arith, g.few, not_above g.from g.clear, is_node, lk.shaped.room)
@@ -227,7 +227,7 @@ module _ {ks fs ss : List ℕ} {leaves nodes : ℕ} {ps : List ℕ} (lk : Linked
                     pass =
                         same_pass (all ws' m') (all ws'' m'') o.same
                         (rw s.labels_are
-                        (pass_work lk.shaped here {due' = λ i. in_set (all ws' m') i} is_node (lowest-in g.rising low) refl members_due));
+                        (pass_work lk.shaped here {due' = λ i. in_set (all ws' m') i} is_node (lowest_in g.rising low) refl members_due));
                   };
             }
 

@@ -219,8 +219,8 @@ module _ {ks fs ss : List ℕ} {leaves nodes : ℕ} {links : List ℕ} (rd : Rea
         }
 
     module _ {p v : ℕ} {ws' : List ℕ} {m' : RisingSet} (h : a < leaves) (e : v ≡ flip (get_or ls a 0)) (u : p ≡ get_or links a 0) (on : AddedNode nodes p ws m ws' m') where
-      in-nodes : a < nodes
-      in-nodes = omega (arith, rd.linked.shaped.within)
+      in_nodes : a < nodes
+      in_nodes = omega (arith, rd.linked.shaped.within)
 
       -- the node above a leaf is no leaf
       above_leaves : p < nodes → leaves ≤ p
@@ -231,7 +231,7 @@ module _ {ks fs ss : List ℕ} {leaves nodes : ℕ} {links : List ℕ} (rd : Rea
         where
           clash : p < leaves → ⊥
           clash c =
-              let o : over a (rec_at ks fs ss p) ≡ true = rw u (parent_over rd.linked a in-nodes (omega arith)) in
+              let o : over a (rec_at ks fs ss p) ≡ true = rw u (parent_over rd.linked a in_nodes (omega arith)) in
               let none : over a (rec_at ks fs ss p) ≡ false = ap (listed a) (leaf-none (rec_at ks fs ss p) (rd.linked.shaped.leaf p c)) in
               true≢false (sym o ∙ none)
 
@@ -260,11 +260,11 @@ module _ {ks fs ss : List ℕ} {leaves nodes : ℕ} {links : List ℕ} (rd : Rea
                 (λ o. o);
             dues = λ k l.
                 changed-set (take nodes old) ls a v (omega (arith, g.flipped_below.long, rd.linked.shaped.few)) as_before (children (rec_at ks fs ss k))
-                ∙ rw (g.dues k l, parent_is rd.linked a k in-nodes l, ← u, e, flip-other (get_or ls a 0)) (joined k l) ∙ sym (on.so k);
+                ∙ rw (g.dues k l, parent_is rd.linked a k in_nodes l, ← u, e, flip-other (get_or ls a 0)) (joined k l) ∙ sym (on.so k);
           }
         where
           as_before : get_or ls a 0 ≡ get_or (take nodes old) a 0
-          as_before = g.flipped_below.kept a (is_here rd g.flipped_below h).1 ∙ sym (get_or-take nodes old a 0 in-nodes)
+          as_before = g.flipped_below.kept a (is_here rd g.flipped_below h).1 ∙ sym (get_or-take nodes old a 0 in_nodes)
 
           joined : (k : ℕ) → k < nodes → (in_set (all ws m) k || (eqb k p && true)) ≡ (in_set (all ws m) k || (ltb p nodes && eqb k p))
           joined k l = cases (eqb k p) (λ z. rw (z, lt-ltb p nodes (omega (arith, eqb-true k p z)))) (λ z. rw z (ap (λ w. in_set (all ws m) k || w) (sym (none (ltb p nodes)))))

@@ -6,7 +6,7 @@ ghost use Rattle.contraction.specs.Entries.{recs};
 ghost use Rattle.rising_set.specs.Members.{Rising};
 ghost use Rattle.labels.specs.Linked.{Ready};
 ghost use Rattle.toggle_passes.specs.Reworking.{steps};
-ghost use Rattle.toggles.specs.Toggles.{flip as flipOf, toggle as toggleOf};
+ghost use Rattle.toggles.specs.Toggles.{flip as flip_of, toggle as toggle_of};
 ghost use Rattle.toggles.specs.Flipping.{Bare, AddedNode, Toggles, Flipped};
 
 use labels::Size;
@@ -14,7 +14,7 @@ use rising_set::RisingSet;
 
 // The other bit.
 fn flip(v: u8) -> u8
-    ensures { result ≡ flipOf v }
+    ensures { result ≡ flip_of v }
 {
     if v == 0 { 1 } else { 0 }
 }
@@ -69,7 +69,7 @@ fn toggle_many(
     requires { Toggles rules.now kinds.now firsts.now seconds.now size.leaves size.nodes links.now labels.old s }
     ensures labels_len { length labels.new ≡ 3072 }
     ensures result_after { steps (take size.nodes labels.new) result
-        ≡ toggleOf (recs kinds.now firsts.now seconds.now 0 size.nodes) s (take size.nodes labels.old) }
+        ≡ toggle_of (recs kinds.now firsts.now seconds.now 0 size.nodes) s (take size.nodes labels.old) }
 {
     let mut words = [0u64; 48];
     let none = rising_set::none();
@@ -95,7 +95,7 @@ pub fn toggle(
     requires { Toggles rules.now kinds.now firsts.now seconds.now size.leaves size.nodes links.now labels.old s }
     ensures labels_len { length labels.new ≡ 3072 }
     ensures result_after { steps (take size.nodes labels.new) result
-        ≡ toggleOf (recs kinds.now firsts.now seconds.now 0 size.nodes) s (take size.nodes labels.old) }
+        ≡ toggle_of (recs kinds.now firsts.now seconds.now 0 size.nodes) s (take size.nodes labels.old) }
 {
     let a = labels::wide(links[3072 + s]);
     if size.leaves <= a {

@@ -2,7 +2,7 @@
 #![tactic(auto)]
 
 ghost use Rattle.std.specs.Prelude.{◌≡◌, ◌+◌, ◌≤◌, ◌<◌, max, get_or, take};
-ghost use Rattle.contraction.specs.Height.{height as heightOf, path as pathOf};
+ghost use Rattle.contraction.specs.Height.{height as height_of, path as path_of};
 ghost use Rattle.contraction.specs.Entries.{entry, rec_of, recs};
 ghost use Rattle.tree_tokens.specs.Tokens.{Shelves};
 ghost use Rattle.tree_height.specs.Paths.{Low};
@@ -35,7 +35,7 @@ fn through_both(paths: &[u16; 3072], i: usize, first: u16, second: u16) -> u16
 // The longest path down from the node i with this record.
 fn path(paths: &[u16; 3072], i: usize, kind: u16, first: u16, second: u16) -> u16
     requires { (i < 3072) × Low i paths.now }
-    ensures { (result ≡ pathOf (take i paths.now) (rec_of (entry kind first second))) × (result ≤ i + 1) }
+    ensures { (result ≡ path_of (take i paths.now) (rec_of (entry kind first second))) × (result ≤ i + 1) }
 {
     match kind {
         0 => 0,
@@ -48,7 +48,7 @@ fn path(paths: &[u16; 3072], i: usize, kind: u16, first: u16, second: u16) -> u1
 // The height of the tree of the first n records: the longest path from the last of them.
 pub fn height(kinds: &[u16; 3072], firsts: &[u16; 3072], seconds: &[u16; 3072], n: usize) -> u16
     requires { Shelves kinds.now firsts.now seconds.now × (n ≤ 3072) }
-    ensures { result ≡ heightOf (recs kinds.now firsts.now seconds.now 0 n) }
+    ensures { result ≡ height_of (recs kinds.now firsts.now seconds.now 0 n) }
 {
     let mut paths = [0u16; 3072];
     let mut last: u16 = 0;

@@ -39,7 +39,7 @@ pub loop-rest-preserved : goal.loop-rest-preserved
 loop-rest-preserved c =
     let all = c.loop-rest.invariant in
     let at = all.1.1 in
-            let reached = c.visit.ensures.reached _ (block_begun at c.lowest-b.ensures (omega arith) _ _ _ _ (c.ask-asked.ensures.told _ _ _ at.crosses) refl c.long_word.ensures.0 c.size_from.ensures) in
+    let reached = c.visit.ensures.reached _ (block_begun at c.lowest-b.ensures (omega arith) _ _ _ _ (c.ask-asked.ensures.told _ _ _ at.crosses) refl c.long_word.ensures.0 c.size_from.ensures) in
     (all.0, (all.1.0, gather_on at c.lowest-b.ensures (omega arith) c.ask-asked.ensures.beside.0 c.ask-asked.ensures.beside.1 _ _ _ c.size_from.ensures _ reached _ c.in-Count.is c.others-rest.ensures))
 
 pub returns-clause-ends : goal.returns-clause-ends
