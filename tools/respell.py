@@ -154,7 +154,7 @@ def turned(text, table, fields, prose, whole=""):
             return name
         before = text[: found.start()]
         if before.endswith(".") and "-" in name and name not in fields:
-            alias = re.search(r"(?:^|[\s(])([A-Za-z]\w*)\.$", before)
+            alias = re.search(r"(?:^|[\s(])([A-Za-z][\w-]*)\.$", before)
             if not alias or not re.search(rf"(?m)^use Rattle\.\S+ as {alias[1]}$", whole):
                 return name
         return table[name]

@@ -79,7 +79,7 @@ module _ {w number : ℕ} {all : List Cut} {bytes keys : List ℕ} {i m : ℕ} (
 -- ---- what both jobs answer
 pub all_in_range : (maker : Maker) (kinds : List ℕ) (numbers : List Float) (bs : List ℤ) → InRange (cuts_of maker kinds numbers bs)
 all_in_range (Drawn probe) kinds numbers bs = cuts_in_range probe kinds numbers
-all_in_range Balls kinds numbers bs = balls-ranges.cuts-in-range bs
+all_in_range Balls kinds numbers bs = balls-ranges.cuts_in_range bs
 
 module _ {w number : ℕ} {all : List Cut} {bytes keys : List ℕ} {r : Row} (gathers : Gathers w number all bytes keys r) where
   pub at-fault : (s : List ℕ) (p : List ℤ) (h : List ℕ) (i k : ℕ) → r ≡ row.Fault i → k ≡ number → Crossed (answered number all (length s) (length p) (length h)) (made_lists s p h) (Refused k i) (made_lists s p h)
