@@ -61,7 +61,7 @@ module _ (s : Sheets) (x : Sheet) (is : accepted s ≡ given x) (ts rs cs ls : L
   root_after-toggle i h =
       let f = x.formula in
       let listed : rs' ≡ filled (roots_of f ts) rs = rw answered.0 at ran.lists.roots_list in
-      let long : length (roots_of f ts) ≡ length ts = ap length (sym (run_roots f ts)) ∙ length-roots _ _ ts in
+      let long : length (roots_of f ts) ≡ length ts = ap length (sym (run_roots f ts)) ∙ length-roots (dwarf f) (labels_of outside (dwarf f)) ts in
       ap (λ l. get_or l i 0) listed ∙ get_or-append (roots_of f ts) _ 0 i (omega arith) ∙ rw add-one (roots-at f [] ts i h)
 
   -- Demand 3: the count is the number of labels that the rules say are reworked,
