@@ -15,6 +15,7 @@ const ROOT: &str = concat!(env!("CARGO_MANIFEST_DIR"), "/../..");
 /// at the second.
 const PROVES: &str = r#"words=$*
 case $1 in
+doc) echo "$(dirname "$0")/kit/START-HERE.md" ;;
 try) cat stdout ;;
 lib)
     for crate in outcome basics kressedach; do
@@ -125,18 +126,32 @@ fn nothing_is_proved_twice() {
     assert!(!said.contains("Proving") && said.ends_with("\n2,0,100000,Block,Block\n"), "{said}");
 }
 
-/// For Arm the toolchain is told so, and the archive for x86-64 is not taken for it.
+/// What stands for rattle: it has its toolchain's clang compile a module, and writes an archive for x86-64.
+const RATTLE: &str = r#"while [ $# -gt 0 ]; do
+    case $1 in --toolchain) toolchain=$2 ;; -o) made=$2 ;; esac
+    shift
+done
+echo 'the module' >module.bc
+"$toolchain/bin/clang" -c module.bc -o module.o
+echo 'for x86-64' >"$made"
+"#;
+
+/// On Arm the module that was proved is compiled once more, and the archive for x86-64 that is written beside it is not taken for it.
 #[test]
 fn on_arm_the_archive_is_for_arm() {
     let cargo = cargo();
     let folder = tools("try-arm", ARM, &[("rt", PROVES), ("cargo", &cargo), ("cc", "")]);
+    program(&folder.join("kit/bin/rattle"), RATTLE);
+    // the last word after -o is what is written: the words that it was told
+    program(&folder.join("kit/toolchain/bin/clang"), "all=$*; while [ \"$1\" != -o ]; do shift; done; echo \"$all\" >\"$2\"\n");
+    program(&folder.join("kit/toolchain/bin/llvm-ar"), "cp \"$4\" \"$3\"\n");
     fs::create_dir_all(folder.join("target/staticlib")).unwrap();
     fs::write(folder.join("target/staticlib/libkressedach.a"), b"").unwrap();
     let (status, said, wrong) = tried(&folder, None);
     assert_eq!((status, wrong.as_str()), (Some(0), ""), "{said}");
     assert!(said.contains("Proving the library for aarch64, "), "{said}");
     let made = fs::read_to_string(folder.join("target/archive/aarch64/libkressedach.a")).unwrap();
-    assert!(made.contains(" --target aarch64-unknown-linux-gnu "), "{made}");
+    assert!(made.contains("--target=aarch64-unknown-linux-gnu") && made.contains("-ffp-contract=off"), "{made}");
     assert_eq!(fs::read_to_string(folder.join("target/archive/aarch64/processor")).unwrap(), "aarch64\n");
     let (status, said, _) = tried(&folder, None);
     assert!(status == Some(0) && !said.contains("Proving"), "{said}");
