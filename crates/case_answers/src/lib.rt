@@ -2,5 +2,4 @@
 #![tactic(auto)]
 
 pub mod answering;
-mod lending;
-pub mod printing;
+mod printing;

@@ -1,54 +1,37 @@
 // What is printed of an answer. A write that fails gives its error, and what was printed before stays.
+use outcome::Refusal;
+use std::fmt::Display;
 use std::io;
 
-pub fn say(rt: &impl Print, words: &[u8]) -> io::Result<()> {
-    rt.write_all(words)
+// A refusal of the fittings sheet says so.
+pub fn refused(rt: &impl Print, why: Refusal) -> io::Result<()> {
+    let (sheet, fault) = match why {
+        Refusal::Refused(fault) => ("", fault),
+        Refusal::Unfit(fault) => (" fittings", fault),
+    };
+    let number = fault.reason.number();
+    let place = fault.place;
+    print!(rt; "{sheet} refused {number} {place}")
 }
 
-pub fn next(rt: &impl Print, n: usize) -> io::Result<()> {
-    print!(rt; " {n}")
-}
-
-pub fn refused(rt: &impl Print, number: u8, place: usize) -> io::Result<()> {
-    print!(rt; " refused {number} {place}")
-}
-
-// How many entries of a list are shown: those given and the four after, 16 at most.
-pub fn shown(given: usize) -> usize {
-    if given < 12 { given + 4 } else { 16 }
-}
-
-pub fn show_u8(rt: &impl Print, name: &[u8], list: &[u8; 3072], n: usize) -> io::Result<()> {
-    say(rt, name)?;
-    for i in 0..n.min(3072) {
-        let entry = list[i];
-        print!(rt; " {entry}")?;
+// The number that is given, after a word; 0 of a refusal.
+pub fn counted(rt: &impl Print, word: &str, answer: Result<usize, Refusal>) -> io::Result<usize> {
+    match answer {
+        Ok(n) => {
+            print!(rt; " {word} {n}")?;
+            Ok(n)
+        }
+        Err(why) => {
+            refused(rt, why)?;
+            Ok(0)
+        }
     }
-    Ok(())
 }
 
-pub fn show_u16(rt: &impl Print, name: &[u8], list: &[u16; 3072], n: usize) -> io::Result<()> {
-    say(rt, name)?;
-    for i in 0..n.min(3072) {
-        let entry = list[i];
-        print!(rt; " {entry}")?;
-    }
-    Ok(())
-}
-
-pub fn show_u32(rt: &impl Print, name: &[u8], list: &[u32; 3072], n: usize) -> io::Result<()> {
-    say(rt, name)?;
-    for i in 0..n.min(3072) {
-        let entry = list[i];
-        print!(rt; " {entry}")?;
-    }
-    Ok(())
-}
-
-pub fn show_i32(rt: &impl Print, name: &[u8], list: &[i32; 3072], n: usize) -> io::Result<()> {
-    say(rt, name)?;
-    for i in 0..n.min(3072) {
-        let entry = list[i];
+// The first entries of a list of which so many were given: those and the four after, 16 at most.
+pub fn show<T: Display>(rt: &impl Print, name: &str, list: &[T], given: usize) -> io::Result<()> {
+    print!(rt; ", {name}")?;
+    for entry in list.iter().take(given.saturating_add(4).min(16)) {
         print!(rt; " {entry}")?;
     }
     Ok(())

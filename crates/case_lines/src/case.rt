@@ -1,194 +1,164 @@
-// A case as its line is read: its name, its job, its sheet and its lists.
-use crate::lists::Lists;
+// A case as its line is read, after its name: its job, its sheets and its lists.
+use crate::lists::{List, Lists};
 use crate::sheets::Draft;
-use crate::words::number;
-use crate::{lists, sheets};
-use check::same;
+use crate::words::{ends_a_word, number};
+use arrayvec::ArrayVec;
 
-// The parts of a line; below them are the lists.
-pub const NAME: usize = 16;
+#[derive(Clone, Copy, Debug, PartialEq, Eq)]
+pub enum Job {
+    Read,
+    Build,
+    Run,
+    Classify,
+}
 
-const JOB: usize = 17;
+impl Job {
+    fn named(w: &[u8]) -> Option<Job> {
+        match w {
+            b"read" => Some(Job::Read),
+            b"build" => Some(Job::Build),
+            b"run" => Some(Job::Run),
+            b"classify" => Some(Job::Classify),
+            _ => None,
+        }
+    }
 
-const SHEET: usize = 18;
-
-const HEADING: usize = 19;
-
-// The jobs.
-pub const READ: usize = 1;
-
-pub const BUILD: usize = 2;
-
-pub const RUN: usize = 3;
-
-pub const CLASSIFY: usize = 4;
-
-#[derive(Clone, Copy)]
-pub struct Reached {
-    // Where the line begins, where its name and the colon end, and where the word begins.
-    pub line: usize,
-    pub colon: usize,
-    pub word: usize,
-    pub part: usize,
-    pub job: usize,
-    // The lists that the line has, a hexadecimal digit each, in their order.
-    pub given: usize,
-    // How often the next piece is meant; 0 where that is not said.
-    pub times: usize,
-    pub good: bool,
+    // Whether the job takes these lists, in this order, of which so many entries are of rooms: as many as it has answer lists.
+    fn takes(self, given: &[List], rooms: usize) -> bool {
+        match (self, given) {
+            (Job::Read | Job::Build, []) => true,
+            (Job::Build, [List::Room]) => rooms == 3,
+            (Job::Run, [List::Shapes]) => true,
+            (Job::Run, [List::Shapes, List::Room]) => rooms == 3,
+            (Job::Classify, [List::Rows, List::Lines, List::Positions, List::Shapes]) => true,
+            (
+                Job::Classify,
+                [
+                    List::Rows,
+                    List::Lines,
+                    List::Positions,
+                    List::Shapes,
+                    List::Room,
+                ],
+            ) => rooms == 5,
+            _ => false,
+        }
+    }
 }
 
 #[derive(Drop)]
 pub struct Case {
-    pub reached: Reached,
+    pub job: Job,
     pub sheet: Draft,
     pub lists: Lists,
 }
 
-// No case yet, on the line that begins at i.
-pub fn fresh(i: usize) -> Case {
-    Case {
-        reached: Reached {
-            line: i,
-            colon: i,
-            word: i,
-            part: NAME,
-            job: 0,
-            given: 0,
-            times: 0,
-            good: true,
-        },
-        sheet: sheets::empty(),
-        lists: lists::none(),
-    }
+// What the next word is of.
+#[derive(Clone, Copy, Debug, PartialEq, Eq)]
+enum Part {
+    Job,
+    Sheet,
+    Heading,
+    List(List),
 }
 
-fn job(w: &[u8]) -> usize {
-    if same(w, b"read") {
-        return READ;
-    }
-    if same(w, b"build") {
-        return BUILD;
-    }
-    if same(w, b"run") {
-        return RUN;
-    }
-    if same(w, b"classify") {
-        return CLASSIFY;
-    }
-    0
+#[derive(Drop)]
+struct Reading {
+    job: Option<Job>,
+    sheet: Draft,
+    lists: Lists,
+    // The lists that the line has, in their order.
+    given: ArrayVec<List, 8>,
+    part: Part,
+    // How often the next piece is meant, where that is said.
+    times: Option<usize>,
 }
 
-fn headed(m: Reached, list: usize) -> Reached {
-    let mut t = m;
-    let given = t.given;
-    t.part = list;
-    if given < 0x10000000 && 0 < list {
-        t.given = given * 16 + list % 16;
-    } else {
-        t.good = false;
-    }
-    t
-}
-
-// A star, which only a piece of a sheet may follow.
-fn often(m: Reached, n: u64, past: usize) -> Reached {
-    let mut t = m;
-    t.word = past;
-    if t.part == SHEET && t.times == 0 && 0 < n && n < 65536 {
-        t.times = n as usize;
-    } else {
-        t.good = false;
-    }
-    t
-}
-
-// What is reached after a word that is not empty.
-fn word(m: Reached, w: &[u8]) -> Reached {
-    let part = m.part;
-    let mut t = m;
-    t.times = 0;
-    match part {
-        JOB => {
-            t.job = job(w);
-            t.part = SHEET;
-            t
+impl Reading {
+    fn begin() -> Reading {
+        Reading {
+            job: None,
+            sheet: Draft::empty(),
+            lists: Lists::none(),
+            given: ArrayVec::new(),
+            part: Part::Job,
+            times: None,
         }
-        HEADING => headed(t, lists::heading(w)),
-        _ => t,
     }
-}
 
-// What is reached after the sign that ends a word.
-fn sign(m: Reached, byte: u8, past: usize) -> Reached {
-    let mut t = m;
-    t.word = past;
-    if 0 < t.times && byte != b' ' {
-        t.good = false;
-    }
-    match byte {
-        b',' => {
-            t.part = HEADING;
-            t
+    // A star, which only a piece of a sheet may follow.
+    fn often(&mut self, w: &[u8]) -> Option<()> {
+        let n = number(w)?;
+        if self.part != Part::Sheet || self.times.is_some() || n == 0 || 65535 < n {
+            return None;
         }
-        b':' => {
-            t.good = false;
-            t
-        }
-        _ => t,
+        self.times = usize::try_from(n).ok();
+        Some(())
     }
-}
 
-// A name goes up to the first colon.
-fn name(m: Reached, byte: u8, past: usize) -> Reached {
-    let mut t = m;
-    t.word = past;
-    if byte == b':' {
-        t.part = JOB;
-        t.colon = past;
+    fn heading(&mut self, list: List) -> Option<()> {
+        self.part = Part::List(list);
+        self.given.try_push(list).ok()
     }
-    t
-}
 
-fn reach(m: Reached, w: &[u8], byte: u8, past: usize) -> Reached {
-    if m.part == NAME {
-        return name(m, byte, past);
-    }
-    if byte == b'*' {
-        return often(m, number(w), past);
-    }
-    if w.len() == 0 {
-        return sign(m, byte, past);
-    }
-    sign(word(m, w), byte, past)
-}
-
-fn sheet(d: Draft, m: Reached, w: &[u8], byte: u8) -> Draft {
-    if m.part == SHEET {
-        if w.len() > 0 {
-            if byte != b'*' {
-                return sheets::word(d, w, m.times);
+    fn word(&mut self, w: &[u8]) -> Option<()> {
+        let times = self.times.take();
+        match self.part {
+            Part::Job => {
+                self.job = Some(Job::named(w)?);
+                self.part = Part::Sheet;
+                Some(())
             }
+            Part::Sheet => self.sheet.word(w, times),
+            Part::Heading => self.heading(List::named(w)?),
+            Part::List(list) => self.lists.put(list, w),
         }
     }
-    d
+
+    // A word, and the sign that ends it.
+    fn take(&mut self, w: &[u8], sign: u8) -> Option<()> {
+        if sign == b'*' {
+            return self.often(w);
+        }
+        if !w.is_empty() {
+            self.word(w)?;
+        }
+        if sign == b':' || (self.times.is_some() && sign != b' ') {
+            return None;
+        }
+        if sign == b',' {
+            self.part = Part::Heading;
+        }
+        Some(())
+    }
+
+    fn ended(self) -> Option<Case> {
+        let Reading {
+            job,
+            mut sheet,
+            lists,
+            given,
+            ..
+        } = self;
+        let job = job?;
+        if !job.takes(given.as_slice(), lists.room.len()) {
+            return None;
+        }
+        sheet.close();
+        Some(Case { job, sheet, lists })
+    }
 }
 
-fn list(g: Lists, m: Reached, w: &[u8]) -> Lists {
-    if m.part < NAME {
-        if w.len() > 0 {
-            return lists::word(g, m.part, w);
+// The case that a line says after its name.
+pub fn read(line: &[u8]) -> Option<Case> {
+    let mut reading = Reading::begin();
+    let mut from = 0;
+    for (i, &byte) in line.iter().enumerate() {
+        if ends_a_word(byte) {
+            reading.take(line.get(from..i)?, byte)?;
+            from = i + 1;
         }
     }
-    g
-}
-
-// The case after a word and the byte that ends it; the next word begins at past.
-pub fn taken(c: Case, w: &[u8], byte: u8, past: usize) -> Case {
-    let m = c.reached;
-    Case {
-        reached: reach(m, w, byte, past),
-        sheet: sheet(c.sheet, m, w, byte),
-        lists: list(c.lists, m, w),
-    }
+    reading.take(line.get(from..)?, b'\n')?;
+    reading.ended()
 }

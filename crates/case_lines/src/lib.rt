@@ -1,4 +1,4 @@
-// A line of cases, taken word by word: the job, its sheet made field by field, and the lists that it is given.
+// A line of cases: the job, its sheet made field by field, and the lists that it is given.
 #![tactic(auto)]
 
 pub mod case;

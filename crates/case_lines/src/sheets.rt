@@ -1,204 +1,209 @@
 // The sheets made word by word: `header`, `name`, `formula` and `raw` begin a field, or bytes outside of one, and pieces follow. What
 // stands before `beside` is the fittings sheet.
-use check::same;
+use arrayvec::ArrayVec;
 
-// The bytes of the sheets so far.
-#[derive(Drop)]
-pub struct Draft {
-    pub bytes: [u8; 13200],
-    pub length: usize,
-    // Whether there is a fittings sheet, and how many of the bytes are its.
-    pub fitted: bool,
-    pub fittings: usize,
-    // The tag of the field that is open, and where its bytes begin; 0 where none is.
-    pub tag: u8,
-    pub body: usize,
-    // A hexadecimal digit that waits for its second one, 16 where none waits, 17 outside of such digits.
-    pub half: u8,
-    // How often the piece has been put already.
-    pub time: usize,
-    pub good: bool,
+// The bytes of both sheets at most: one that is longer is read no further than the longest that is accepted.
+const BYTES: usize = 13200;
+
+// The fields, by their tags.
+#[derive(Clone, Copy, Debug, PartialEq, Eq)]
+enum Field {
+    Header,
+    Name,
+    Formula,
 }
 
-pub fn empty() -> Draft {
-    Draft {
-        bytes: [0u8; 13200],
-        length: 0,
-        fitted: false,
-        fittings: 0,
-        tag: 0,
-        body: 0,
-        half: 17,
-        time: 0,
-        good: true,
-    }
-}
-
-fn bad(d: Draft) -> Draft {
-    let mut t = d;
-    t.good = false;
-    t
-}
-
-fn push(d: Draft, x: u8) -> Draft {
-    let mut t = d;
-    let n = t.length;
-    if n < 13200 {
-        t.bytes[n] = x;
-        t.length = n + 1;
-    } else {
-        t.good = false;
-    }
-    t
-}
-
-fn low_byte(n: usize) -> u8 {
-    (n % 256) as u8
-}
-
-// The field that is open gets its length.
-pub fn closed(d: Draft) -> Draft {
-    let mut t = d;
-    let body = t.body;
-    let n = t.length;
-    if 2 <= body {
-        if body <= n {
-            if n <= 13200 {
-                t.bytes[body - 2] = low_byte((n - body) / 256);
-                t.bytes[body - 1] = low_byte(n - body);
-            }
+impl Field {
+    fn tag(self) -> u8 {
+        match self {
+            Field::Header => 1,
+            Field::Name => 2,
+            Field::Formula => 3,
         }
     }
-    t.tag = 0;
-    t.body = 0;
-    t
 }
 
-fn opened(d: Draft, tag: u8) -> Draft {
-    let mut t = push(push(push(closed(d), tag), 0), 0);
-    t.tag = tag;
-    t.body = t.length;
-    t
+// A field that is open, and where its bytes begin.
+#[derive(Clone, Copy)]
+struct Open {
+    field: Field,
+    body: usize,
 }
 
-// The bytes so far are a fittings sheet, the first and only one.
-fn beside(d: Draft) -> Draft {
-    let mut t = closed(d);
-    t.good = t.good && !t.fitted;
-    t.fitted = true;
-    t.fittings = t.length;
-    t
+// Outside of hexadecimal digits, or among them with or without one that waits for its second.
+#[derive(Clone, Copy, Debug, PartialEq, Eq)]
+enum Digits {
+    Outside,
+    Whole,
+    Half(u8),
+}
+
+#[derive(Drop)]
+pub struct Draft {
+    bytes: ArrayVec<u8, BYTES>,
+    // How many of the bytes are a fittings sheet, where there is one.
+    fittings: Option<usize>,
+    open: Option<Open>,
+    digits: Digits,
+}
+
+fn nibble(sign: u8) -> Option<u8> {
+    match sign {
+        b'0'..=b'9' => Some(sign - b'0'),
+        b'A'..=b'F' => Some(sign - b'A' + 10),
+        _ => None,
+    }
 }
 
 // The code of a letter, or of a sign for an operation; ? is a code that there is not.
-fn code(d: Draft, sign: u8) -> Draft {
+fn code(sign: u8) -> Option<[u8; 2]> {
     match sign {
-        b'A'..=b'Z' => push(push(d, 0), sign - 65),
-        b'|' => push(push(d, 0xFF), 0xF0),
-        b'&' => push(push(d, 0xFF), 0xF1),
-        b'-' => push(push(d, 0xFF), 0xF2),
-        b'^' => push(push(d, 0xFF), 0xF3),
-        b'?' => push(push(d, 0xFF), 0xF4),
-        _ => bad(d),
+        b'A'..=b'Z' => Some([0, sign - b'A']),
+        b'|' => Some([0xFF, 0xF0]),
+        b'&' => Some([0xFF, 0xF1]),
+        b'-' => Some([0xFF, 0xF2]),
+        b'^' => Some([0xFF, 0xF3]),
+        b'?' => Some([0xFF, 0xF4]),
+        _ => None,
     }
 }
 
-fn nibble(sign: u8) -> u8 {
-    match sign {
-        b'0'..=b'9' => sign - 48,
-        b'A'..=b'F' => sign - 55,
-        _ => 16,
-    }
-}
-
-// A hexadecimal digit, the first or the second of a byte.
-fn hex(d: Draft, high: u8, low: u8) -> Draft {
-    if low < 16 {
-        if high < 16 {
-            let mut t = push(d, high * 16 + low);
-            t.half = 16;
-            return t;
+impl Draft {
+    pub fn empty() -> Draft {
+        Draft {
+            bytes: ArrayVec::new(),
+            fittings: None,
+            open: None,
+            digits: Digits::Outside,
         }
-        let mut t = d;
-        t.half = low;
-        return t;
     }
-    bad(d)
-}
 
-// The sign of a piece: # begins hexadecimal digits, % is two letters that count the times, AA, AB, .. AP, BA; others are letters of a
-// name or codes of a formula.
-fn put(d: Draft, sign: u8) -> Draft {
-    let half = d.half;
-    let tag = d.tag;
-    let time = d.time;
-    if sign == b'%' {
-        return push(
-            push(d, 65 + low_byte(time / 16) % 32),
-            65 + low_byte(time) % 16,
-        );
+    pub fn fittings(&self) -> Option<&[u8]> {
+        self.bytes.as_slice().get(..self.fittings?)
     }
-    if sign == b'#' {
-        let mut t = d;
-        t.half = 16;
-        return t;
-    }
-    if half <= 16 {
-        return hex(d, half, nibble(sign));
-    }
-    match tag {
-        2 => push(d, sign),
-        3 => code(d, sign),
-        _ => bad(d),
-    }
-}
 
-fn put_all(d: Draft, word: &[u8]) -> Draft {
-    let mut t = d;
-    for &sign in word {
-        t = put(t, sign);
+    pub fn customers(&self) -> &[u8] {
+        self.bytes
+            .as_slice()
+            .get(self.fittings.unwrap_or(0)..)
+            .unwrap_or(b"")
     }
-    t
-}
 
-fn piece(d: Draft, word: &[u8], time: usize) -> Draft {
-    let mut t = d;
-    t.time = time;
-    t.half = 17;
-    let mut u = put_all(t, word);
-    if u.half < 16 {
-        u.good = false;
+    fn push(&mut self, x: u8) -> Option<()> {
+        self.bytes.try_push(x).ok()
     }
-    u
-}
 
-fn pieces(d: Draft, word: &[u8], times: usize) -> Draft {
-    let mut t = d;
-    for k in 0..times {
-        t = piece(t, word, k);
+    // The field that is open gets its length.
+    pub fn close(&mut self) {
+        if let Some(Open { body, .. }) = self.open.take() {
+            let bytes = self.bytes.as_mut_slice();
+            if 2 <= body && body <= bytes.len() {
+                let length = bytes.len() - body;
+                bytes[body - 2] = (length / 256 % 256) as u8;
+                bytes[body - 1] = (length % 256) as u8;
+            }
+        }
     }
-    t
-}
 
-// A word of a sheet, which is a piece where it is said how often it is meant.
-pub fn word(d: Draft, w: &[u8], times: usize) -> Draft {
-    if 0 < times {
-        return pieces(d, w, times);
+    fn begin(&mut self, field: Field) -> Option<()> {
+        self.close();
+        self.push(field.tag())?;
+        self.push(0)?;
+        self.push(0)?;
+        self.open = Some(Open {
+            field,
+            body: self.bytes.len(),
+        });
+        Some(())
     }
-    if same(w, b"header") {
-        return push(push(opened(d, 1), 0), 1);
+
+    // The bytes so far are a fittings sheet, the first and only one.
+    fn beside(&mut self) -> Option<()> {
+        self.close();
+        if self.fittings.is_some() {
+            return None;
+        }
+        self.fittings = Some(self.bytes.len());
+        Some(())
     }
-    if same(w, b"name") {
-        return opened(d, 2);
+
+    fn put_digit(&mut self, low: u8) -> Option<()> {
+        if let Digits::Half(high) = self.digits {
+            self.digits = Digits::Whole;
+            return self.push(high % 16 * 16 + low % 16);
+        }
+        self.digits = Digits::Half(low);
+        Some(())
     }
-    if same(w, b"formula") {
-        return opened(d, 3);
+
+    // A letter of a name, or a code of a formula.
+    fn put_letter(&mut self, sign: u8) -> Option<()> {
+        match self.open?.field {
+            Field::Header => None,
+            Field::Name => self.push(sign),
+            Field::Formula => {
+                let [high, low] = code(sign)?;
+                self.push(high)?;
+                self.push(low)
+            }
+        }
     }
-    if same(w, b"raw") {
-        return closed(d);
+
+    // The sign of a piece: # begins hexadecimal digits, % is two letters that count the times, AA, AB, .. AP, BA; others are letters of a
+    // name or codes of a formula.
+    fn put(&mut self, sign: u8, time: usize) -> Option<()> {
+        match sign {
+            b'%' => {
+                self.push(b'A' + (time / 16 % 32) as u8)?;
+                self.push(b'A' + (time % 16) as u8)
+            }
+            b'#' => {
+                self.digits = Digits::Whole;
+                Some(())
+            }
+            _ if self.digits != Digits::Outside => self.put_digit(nibble(sign)?),
+            _ => self.put_letter(sign),
+        }
     }
-    if same(w, b"beside") {
-        return beside(d);
+
+    fn piece(&mut self, word: &[u8], time: usize) -> Option<()> {
+        self.digits = Digits::Outside;
+        for &sign in word {
+            self.put(sign, time)?;
+        }
+        if let Digits::Half(_) = self.digits {
+            None
+        } else {
+            Some(())
+        }
     }
-    piece(d, w, 0)
+
+    fn pieces(&mut self, word: &[u8], times: usize) -> Option<()> {
+        for time in 0..times {
+            self.piece(word, time)?;
+        }
+        Some(())
+    }
+
+    // A word of a sheet, which is a piece where it is said how often it is meant.
+    pub fn word(&mut self, w: &[u8], times: Option<usize>) -> Option<()> {
+        if let Some(times) = times {
+            return self.pieces(w, times);
+        }
+        match w {
+            b"header" => {
+                self.begin(Field::Header)?;
+                self.push(0)?;
+                self.push(1)
+            }
+            b"name" => self.begin(Field::Name),
+            b"formula" => self.begin(Field::Formula),
+            b"raw" => {
+                self.close();
+                Some(())
+            }
+            b"beside" => self.beside(),
+            _ => self.piece(w, 0),
+        }
+    }
 }

@@ -2,76 +2,37 @@
 // case prints `malformed`. How a case is written stands at the top of the file `stdin`.
 #![tactic(auto)]
 
-ghost use Rattle.std.specs.Prelude.{◌<◌, ◌≤◌, length, IfOk};
+ghost use Rattle.std.specs.Prelude.{◌≤◌, length, IfOk};
 
 use case_answers::answering;
-use case_answers::printing::say;
-use case_lines::case::Case;
-use case_lines::words::between;
+use case_lines::case;
 use std::io;
 use std::io::{ErrorKind, Read};
 
-// A line that begins with # says nothing.
-fn says_something(line: &[u8]) -> bool {
-    if line.len() > 0 {
-        return line[0] != b'#';
+// A name goes up to the first colon. A line that begins with # says nothing.
+fn run_line(rt: &impl Print, line: &[u8]) -> io::Result<()> {
+    if line.is_empty() || line.starts_with(b"#") {
+        return Ok(());
     }
-    false
-}
-
-fn no_case(rt: &impl Print, line: &[u8]) -> io::Result<()> {
-    say(rt, line)?;
-    say(rt, b": malformed\n")
-}
-
-// A line that was read to its end, at i.
-fn ended(rt: &impl Print, c: Case, text: &[u8], i: usize) -> io::Result<()> {
-    let m = c.reached;
-    let line = between(text, m.line, i);
-    if says_something(line) {
-        if m.part == case_lines::case::NAME {
-            no_case(rt, line)
-        } else {
-            say(rt, between(text, m.line, m.colon))?;
-            answering::answer(rt, c)
-        }
-    } else {
-        Ok(())
+    let Some(colon) = line.iter().position(|&byte| byte == b':') else {
+        rt.write_all(line)?;
+        return rt.write_all(b": malformed\n");
+    };
+    let (name, rest) = line.split_at(colon + 1);
+    rt.write_all(name)?;
+    match case::read(rest) {
+        Some(case) => answering::answer(rt, &case)?,
+        None => rt.write_all(b" malformed")?,
     }
-}
-
-fn ends_a_word(byte: u8) -> bool {
-    match byte {
-        b' ' | b',' | b':' | b'*' | b'\n' => true,
-        _ => false,
-    }
-}
-
-// The case with one byte more of the text.
-fn next(rt: &impl Print, c: Case, text: &[u8], i: usize) -> io::Result<Case>
-    requires { i < length text.now }
-{
-    let byte = text[i];
-    let m = c.reached;
-    if ends_a_word(byte) {
-        let t = case_lines::case::taken(c, between(text, m.word, i), byte, i + 1);
-        if byte == b'\n' {
-            ended(rt, t, text, i)?;
-            return Ok(case_lines::case::fresh(i + 1));
-        }
-        return Ok(t);
-    }
-    Ok(c)
+    rt.write_all(b"\n")
 }
 
 fn run_all(rt: &impl Print, text: &[u8]) -> io::Result<()> {
-    let mut c = case_lines::case::fresh(0);
-    for i in 0..text.len() {
-        c = next(rt, c, text, i)?;
-    }
-    let m = c.reached;
-    if m.line < text.len() {
-        say(rt, b"malformed: the last line has no end\n")?;
+    for line in text.split_inclusive(|&byte| byte == b'\n') {
+        match line.strip_suffix(b"\n") {
+            Some(line) => run_line(rt, line)?,
+            None => rt.write_all(b"malformed: the last line has no end\n")?,
+        }
     }
     Ok(())
 }
@@ -102,9 +63,9 @@ fn read_full(input: &mut impl Read, bytes: &mut [u8]) -> io::Result<usize>
 fn main(rt: HostRuntime) -> io::Result<()> {
     let mut bytes = [0u8; 262144];
     let n = read_full(&mut rt.stdin(), &mut bytes)?;
-    if n < 262144 {
+    if n < bytes.len() {
         run_all(&rt, &bytes[..n])
     } else {
-        say(&rt, b"malformed: too many lines\n")
+        rt.write_all(b"malformed: too many lines\n")
     }
 }

@@ -1,16 +1,20 @@
 -- What is gathered, put into order and written is the answer that the definitions give.
-use Prim.Native.Nat.{ℕ, ◌+◌, ◌-◌, ◌/◌, ◌%◌, ◌<◌, ◌≤◌}
+use Prim.Native.Nat.{ℕ, ◌+◌, ◌-◌, ◌/◌, ◌%◌, ◌<◌}
 use native.Mathlib.Omega.{arith}
 use mathlib.Core.Path.{◌≡◌, refl, sym, ap, ◌∙◌}
 use mathlib.Core.Bool.{Bool, true, false, not, ◌&&◌, ◌||◌}
 use mathlib.Core.List.{List, [], ◌∷◌, ◌++◌, map}
-use borrow.Author.Tests.{ltb-true, ltb-false, lt-ltb, le-ltb, leb-true, le-leb, lt-leb}
+use borrow.Author.Tests.{ltb-true, ltb-false, lt-ltb, le-ltb, leb-true, le-leb}
 use lib.Dec.{ltb}
 use lib.IntN.{ℤ, pos}
 use lib.ListN.{length, take, drop, length-map}
 use lib.Seq.{take_at, length-take-le}
-use Rattle.outcome.specs.Outcome.{Outcome, given, refused, part, ◌>>◌}
+use Rattle.outcome.specs.Outcome.{Outcome, given, refused, part, room, ◌>>◌}
 use Rattle.outcome.specs.Lent.{filled}
+use Rattle.outcome.specs.Refusing.{number_of, judged}
+use Rattle.outcome.specs.declared.Fault.{Fault}
+use Rattle.std.proofs.Common.{Result, Ok, Err}
+use Rattle.std.specs.Result.{IsErrAnd}
 use Rattle.cross_ranks.specs.Ranks.{unrank}
 use Rattle.cross_ranks.proofs.RankLaws.{unrank_lt}
 use Rattle.cross_order.specs.Order.{rising, ordered_by}
@@ -20,9 +24,9 @@ use Rattle.cross_cuts.specs.Cuts.{Cut, positions_of, start_of, start_row, crosse
 use Rattle.cross_cuts.specs.Every.{Every}
 use Rattle.cross_cuts.specs.Keys.{crossing_of, Held, Complete}
 use Rattle.cross_cuts.proofs.EveryLaws.{every_append, every_map, every_ordered_by}
-use Rattle.cross_answer.specs.Answer.{counts_of, MadeLists, made_lists, Crossed}
+use Rattle.cross_answer.specs.Answer.{counts, counts_of, MadeLists, made_lists, Crossed}
 use Rattle.cross_answer.specs.Giving.{position_in, shape_in, LongEnough, Written, InRange}
-use Rattle.cross_answer.specs.declared.CrossAnswer.TheVariants as answer
+use Rattle.cross_answer.specs.declared.Counts.{Counts}
 
 -- ---- keys compare as their crossings do
 keeps : (k l : ℕ) → before (crossing_of k) (crossing_of l) ≡ ltb k l
@@ -33,12 +37,6 @@ keeps k l = rw (unrank_lt (k / 256) (l / 256), unrank_lt (l / 256) (k / 256)) (b
     by false e true f c g = sym (le-ltb k l (omega (arith, ltb-true (l / 256) (k / 256) f)))
     by false e false f true g = sym (lt-ltb k l (omega (arith, ltb-false (l / 256) (k / 256) f, ltb-false (k / 256) (l / 256) e, ltb-true (k % 256) (l % 256) g)))
     by false e false f false g = sym (le-ltb k l (omega (arith, ltb-false (l / 256) (k / 256) f, ltb-false (k / 256) (l / 256) e, ltb-false (k % 256) (l % 256) g)))
-
--- ---- the first m keys, put into order where they stand; m - 0 stands for m, as the code has it
-pub ordered : (keys y : List ℕ) (m : ℕ) → y ≡ rising (take (m - 0) keys) → y ++ drop (m - 0) keys ≡ rising (take m keys) ++ drop m keys
-ordered keys y m e =
-    let d : m - 0 ≡ m = omega arith in
-    ap (λ l. l ++ drop (m - 0) keys) e ∙ ap (λ k. rising (take k keys) ++ drop k keys) d
 
 module _ (n m : ℕ) (bytes keys keys' : List ℕ) {w : ℕ} (held : Held w bytes keys n m) (sorted : keys' ≡ rising (take m keys) ++ drop m keys) where
   sorted_keys : take m keys' ≡ rising (take m keys)
@@ -89,8 +87,16 @@ shapes_read [] = refl
 shapes_read (k ∷ ks) = ap (λ l. k % 256 ∷ l) (shapes_read ks)
 
 -- ---- a refusal writes nothing
-pub refusal : (o : Outcome (List Cut)) (L : MadeLists) (number place : ℕ) → o ≡ refused number place → Crossed o L (answer.Refused number place) L
-refusal o L number place e = record { answer = sym (ap (part counts_of) e); lists = record { starts_list = rw e; positions_list = rw e; shapes_list = rw e } }
+-- the refusal that a fault says
+abbrev pub refusing : {A : Type 0} → Fault → Outcome A
+refusing f = refused (number_of f.reason) f.place
+
+pub says_err : {A : Type 0} (a : Result A Fault) (f : Fault) → IsErrAnd a (λ e. e ≡ f) → judged a ≡ refusing f
+says_err (Ok x) f h = absurd h
+says_err (Err e) f h = ap refusing h
+
+pub refusal : (o : Outcome (List Cut)) (L : MadeLists) (a : Result Counts Fault) (f : Fault) → o ≡ refusing f → judged a ≡ refusing f → Crossed o L a L
+refusal o L a f e says = record { answer = says ∙ sym (ap (part counts_of) e); lists = record { starts_list = rw e; positions_list = rw e; shapes_list = rw e } }
 
 -- ---- a shape at fault
 pub fault-refused : (number : ℕ) (cuts : List Cut) (a b c i : ℕ) → faultless number 0 cuts ≡ refused number i → answered number cuts a b c ≡ refused number i
@@ -114,14 +120,18 @@ module _ {wide number : ℕ} {cuts : List Cut} {bytes keys : List ℕ} {n m : �
   unfolding answered
   asked a b c = rw whole.none
 
-  pub short-starts : (L : MadeLists) → length L.starts < n → Crossed (answered number cuts (length L.starts) (length L.positions) (length L.shapes)) L (answer.Refused 9 n) L
-  short-starts L h = refusal _ L 9 n (asked _ _ _ ∙ rw (starts-count, lt-leb n (length L.starts) h))
+  -- a list is too short, and those before it are not
+  module _ (L : MadeLists) (a : Result Counts Fault) (f : Fault) (is : IsErrAnd a (λ e. e ≡ f)) where
+    pub short_starts : refusing f ≡ room n (length L.starts) → Crossed (answered number cuts (length L.starts) (length L.positions) (length L.shapes)) L a L
+    short_starts e = refusal _ L a f (asked _ _ _ ∙ rw (starts-count, ← e)) (says_err a f is)
 
-  pub short_positions : (L : MadeLists) → n ≤ length L.starts → length L.positions < m → Crossed (answered number cuts (length L.starts) (length L.positions) (length L.shapes)) L (answer.Refused 9 m) L
-  short_positions L g h = refusal _ L 9 m (asked _ _ _ ∙ rw (starts-count, crossings-count, le-leb n (length L.starts) g, lt-leb m (length L.positions) h))
+    module _ {u : Unit {0}} (s : given u ≡ room n (length L.starts)) where
+      pub short_positions : refusing f ≡ room m (length L.positions) → Crossed (answered number cuts (length L.starts) (length L.positions) (length L.shapes)) L a L
+      short_positions e = refusal _ L a f (asked _ _ _ ∙ rw (starts-count, crossings-count, ← s, ← e)) (says_err a f is)
 
-  pub short_shapes : (L : MadeLists) → n ≤ length L.starts → m ≤ length L.positions → length L.shapes < m → Crossed (answered number cuts (length L.starts) (length L.positions) (length L.shapes)) L (answer.Refused 9 m) L
-  short_shapes L g h k = refusal _ L 9 m (asked _ _ _ ∙ rw (starts-count, crossings-count, le-leb n (length L.starts) g, le-leb m (length L.positions) h, lt-leb m (length L.shapes) k))
+      pub short_shapes : {v : Unit {0}} → given v ≡ room m (length L.positions) → refusing f ≡ room m (length L.shapes)
+          → Crossed (answered number cuts (length L.starts) (length L.positions) (length L.shapes)) L a L
+      short_shapes p e = refusal _ L a f (asked _ _ _ ∙ rw (starts-count, crossings-count, ← s, ← p, ← e)) (says_err a f is)
 
   -- what is written is what the cuts give
   range : Every (λ x. allowed (position_of x)) (map crossing_of (rising (take m keys)))
@@ -137,10 +147,10 @@ module _ {wide number : ℕ} {cuts : List Cut} {bytes keys : List ℕ} {n m : �
     pub shapes_written : L'.shapes ≡ filled (map shape_of (line_crossings cuts)) L.shapes
     shapes_written = w.shapes ∙ ap (λ l. filled l L.shapes) (shapes_read (rising (take m keys)) ∙ ap (map shape_of) in_order)
 
-  pub given-all : (L L' : MadeLists) → LongEnough n m L → Written n m bytes keys L L' → Crossed (answered number cuts (length L.starts) (length L.positions) (length L.shapes)) L (answer.Crossed n m) L'
-  given-all L L' room w =
+  pub given-all : (L L' : MadeLists) → LongEnough n m L → Written n m bytes keys L L' → Crossed (answered number cuts (length L.starts) (length L.positions) (length L.shapes)) L (Ok (counts n m)) L'
+  given-all L L' long w =
       let o : answered number cuts (length L.starts) (length L.positions) (length L.shapes) ≡ given cuts =
-      asked _ _ _ ∙ rw (starts-count, crossings-count, le-leb n (length L.starts) room.starts, le-leb m (length L.positions) room.positions, le-leb m (length L.shapes) room.shapes) in
+      asked _ _ _ ∙ rw (starts-count, crossings-count, le-leb n (length L.starts) long.starts, le-leb m (length L.positions) long.positions, le-leb m (length L.shapes) long.shapes) in
       record {
         answer = rw (o, starts-count, crossings-count);
         lists = record { starts_list = rw o (starts-written L L' w); positions_list = rw o (positions_written L L' w); shapes_list = rw o (shapes_written L L' w) };

@@ -1,19 +1,13 @@
 -- A list that is written from its start with what a function gives of each entry: one law for every element type.
-use Prim.Native.Nat.{ℕ, zero, suc, ◌+◌, ◌/◌, ◌%◌, ◌<◌, ◌≤◌}
+use Prim.Native.Nat.{ℕ, zero, suc, ◌+◌, ◌<◌, ◌≤◌}
 use native.Mathlib.Nat.{zero-add}
 use native.Mathlib.Numerals.{add-one}
 use native.Mathlib.Omega.{arith}
 use mathlib.Core.Path.{◌≡◌, refl, sym, ap, ◌∙◌}
 use mathlib.Core.List.{List, [], ◌∷◌, ◌++◌, map}
-use lib.IntN.{ℤ}
 use lib.ListN.{length, take, drop, get_or, set, length-map, get_or-map}
 use lib.Seq.{paste, paste-zero, paste-suc, length-paste, length-take-le}
-use mir.Syntax.{w32}
-use mir.Val.{to_z, of_z}
-use mir.ValLaws.{to_z-of_z}
 use Rattle.outcome.specs.Lent.{filled}
-use Rattle.cross_ranks.proofs.RankLaws.{unrank-fits}
-use Rattle.cross_answer.specs.Giving.{position_in}
 
 map-take : {A : Type 0} (f : ℕ → A) (n : ℕ) (l : List ℕ) → take n (map f l) ≡ map f (take n l)
 map-take f zero l = refl
@@ -59,7 +53,3 @@ module _ {A : Type 0} (f : ℕ → A) (keys : List ℕ) (old : List A) (n : ℕ)
       ∙ ap (λ j. take j (map f keys) ++ drop (0 + j) old) e
       ∙ ap (λ x. x ++ drop (0 + n) old) (map-take f n keys)
       ∙ ap (λ j. map f (take n keys) ++ drop j old) (zero-add n ∙ sym l)
-
--- a position is stored by its bits
-pub position_stored : (key : ℕ) (z : ℤ) → z ≡ position_in key → to_z w32 (of_z w32 z) ≡ position_in key
-position_stored key z e = rw e (to_z-of_z w32 (position_in key) (unrank-fits (key / 256 % 4294967296) (omega arith)))

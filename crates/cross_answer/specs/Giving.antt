@@ -1,5 +1,5 @@
 -- What the code reads of a key, and when it may give what it gathered.
-use Rattle.std.specs.Prelude.{ℕ, ◌/◌, ◌%◌, ◌≤◌, ◌≡◌, List, [], ◌∷◌, map, ℤ, length, take}
+use Rattle.std.specs.Prelude.{ℕ, ◌/◌, ◌%◌, ◌<◌, ◌≤◌, ◌≡◌, List, [], ◌∷◌, map, ℤ, length, take}
 use Rattle.outcome.specs.Lent.{filled}
 use Rattle.cross_ranks.specs.Ranks.{unrank}
 use Rattle.cross_order.specs.Order.{rising}
@@ -14,6 +14,10 @@ position_in key = unrank (key / 256 % 4294967296)
 
 abbrev pub shape_in : ℕ → ℕ
 shape_in key = key % 256
+
+-- A call on a key gives what `of` does; keys have 64 bits.
+abbrev pub Reads : {T : Type 0} → (ℕ → T → Type 0) → (ℕ → T) → Type 0
+Reads gives of = (key : ℕ) (r : _) → key < 18446744073709551616 → gives key r → r ≡ of key
 
 -- There is room for n entries in the start row, and for m in each of positions and shapes.
 pub record LongEnough (n m : ℕ) (lent : MadeLists) : Type 0 where

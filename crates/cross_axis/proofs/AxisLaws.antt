@@ -19,9 +19,10 @@ use Rattle.cross_positions.proofs.Numbers.{distance-number}
 use Rattle.cross_quick.specs.Given.{given, is_there}
 use Rattle.cross_quick.proofs.GivenLaws.{found_rank}
 use Rattle.cross_shapes.specs.Shapes.{finite, is_zero, lesser, greater, wrong, from, between, axis_range}
-use Rattle.cross_shapes.proofs.BoxLaws.{lesser-rank, greater-rank}
-use Rattle.cross_axis.specs.Axes.{Codes, range_at, Sized, Fillable, Beside, Filled, SameNumbers}
+use Rattle.cross_shapes.proofs.BoxLaws.{lesser_rank, greater_rank}
+use Rattle.cross_axis.specs.Axes.{Codes, Beside, Filled, Stepped}
 use Rattle.cross_axis.specs.declared.Along.{Along}
+use Rattle.cross_axis.specs.declared.Span.{Span}
 
 -- ---- one box
 module _ (low high : Float) (along : Along) where
@@ -58,7 +59,7 @@ module _ (low high : Float) (along : Along) where
     ranged = rw z (ap (λ (o : Option ℤ). between o (position high along.origin along.component)) (at_low there.0) ∙ ap (λ (o : Option ℤ). between (some (unrank u)) o) (at_high there.1))
 
     pub slant_both : Codes (axis_range low high along.origin along.component) l g
-    slant_both = rw ranged (ap unrank el ∙ lesser-rank u v, (ap unrank eg ∙ greater-rank u v, omega (arith, bu, bv, eg)))
+    slant_both = rw ranged (ap unrank el ∙ lesser_rank u v, (ap unrank eg ∙ greater_rank u v, omega (arith, bu, bv, eg)))
 
 -- ---- one face
 not_zero : (s : Bool) (m : ℕ) (e : ℤ) → is_zero (fin s m e) ≡ false → eqb m 0 ≡ false
@@ -92,60 +93,63 @@ face_rank face along p u e m n =
     there (some z) n = refl
 
 -- ---- one box after another
-module _ {at n : ℕ} {along : Along} {lows highs : List Float} {lessers greaters : List ℕ} (f : Fillable at (at + n) along lows highs lessers greaters) (j : ℕ) (more : j < n) where
-  pub low-number : finite (get_or lows (at + j) nan) ≡ true
-  low-number = f.low (at + j) (omega arith) (omega arith)
-
-  pub high-number : finite (get_or highs (at + j) nan) ≡ true
-  high-number = f.high (at + j) (omega arith) (omega arith)
-
 pub beside-starts : {here there : ℕ} {old : List ℕ} → Beside here there old old
 beside-starts = record { sized = refl; below = λ j h. refl; above = λ j h. refl }
 
-beside-on : (here j : ℕ) {old new : List ℕ} (v : ℕ) → Beside here (here + j) old new → Beside here (here + (j + 1)) old (set new (here + j) v)
-beside-on here j {old} {new} v b = record {
-  sized = length-set new (here + j) v ∙ b.sized;
-  below = λ k l.
-      let d : k ≢ here + j = λ e. omega arith in
-      get_or-set_other new (here + j) k v 0 d ∙ b.below k l;
-  above = λ k l.
-      let d : k ≢ here + j = λ e. omega arith in
-      let m : here + j ≤ k = omega arith in
-      get_or-set_other new (here + j) k v 0 d ∙ b.above k m;
+beside-on : {here : ℕ} (k : ℕ) {old new : List ℕ} (v : ℕ) → here ≤ k → Beside here k old new → Beside here (k + 1) old (set new k v)
+beside-on k {old} {new} v past b = record {
+  sized = length-set new k v ∙ b.sized;
+  below = λ j l.
+      let d : j ≢ k = λ e. omega arith in
+      get_or-set_other new k j v 0 d ∙ b.below j l;
+  above = λ j l.
+      let d : j ≢ k = λ e. omega arith in
+      let m : k ≤ j = omega arith in
+      get_or-set_other new k j v 0 d ∙ b.above j m;
 }
 
-module _ {lows highs : List Float} (here : ℕ) {along : Along} {old-lessers old-greaters : List ℕ} where
-  pub filling_starts : Filled lows highs here (here + 0) along old-lessers old-greaters old-lessers old-greaters
-  filling_starts = record { lessers_beside = beside-starts; greaters_beside = beside-starts; said = record { right = λ k h l. absurd (omega arith) } }
+module _ {Gives : Float → Float → Span → Type 0} {lows highs : List Float} {here : ℕ} {old-lessers old-greaters : List ℕ} where
+  pub stepping_starts : Stepped Gives lows highs here here old-lessers old-greaters old-lessers old-greaters
+  stepping_starts = record { lessers_beside = beside-starts; greaters_beside = beside-starts; each = λ k h l. absurd (omega arith) }
 
-  module _ {lessers greaters : List ℕ} (j l g : ℕ) (n : ℕ) (inside : here + n ≤ 768) (sized : Sized lows highs old-lessers old-greaters) (more : j < n)
-      (before : Filled lows highs here (here + j) along old-lessers old-greaters lessers greaters) (coded : range_at lows highs along (here + j) ≢ wrong → Codes (range_at lows highs along (here + j)) l g) where
+  module _ {lessers greaters : List ℕ} (k : ℕ) (span : Span) (past : here ≤ k) (inside : k < 768) (long-lessers : length lessers ≡ 1024) (long-greaters : length greaters ≡ 1024)
+      (before : Stepped Gives lows highs here k old-lessers old-greaters lessers greaters) (gives : Gives (get_or lows k nan) (get_or highs k nan) span) where
     abbrev At : ℕ → Type 0
-    At k = range_at lows highs along k ≢ wrong → Codes (range_at lows highs along k) (get_or (set lessers (here + j) l) k 0) (get_or (set greaters (here + j) g) k 0)
+    At j = Gives (get_or lows j nan) (get_or highs j nan) (record { lesser = get_or (set lessers k span.lesser) j 0; greater = get_or (set greaters k span.greater) j 0 })
 
-    now_right : (k : ℕ) → here ≤ k → k < here + (j + 1) → At k
-    now_right k low less = go (eqb k (here + j)) refl
+    each_now : (j : ℕ) → here ≤ j → j < k + 1 → At j
+    each_now j low less = go (eqb j k) refl
       where
-        go : (t : Bool) → eqb k (here + j) ≡ t → At k
+        go : (t : Bool) → eqb j k ≡ t → At j
         go true e =
-            let s : here + j ≡ k = sym (eqb-true k (here + j) e) in
-            let m : here + j < length lessers = omega (arith, before.lessers_beside.sized, sized.lessers_length) in
-            let n : here + j < length greaters = omega (arith, before.greaters_beside.sized, sized.greaters_length) in
-            subst At s (rw (get_or-set_same lessers (here + j) l 0 m, get_or-set_same greaters (here + j) g 0 n) coded)
+            let s : k ≡ j = sym (eqb-true j k e) in
+            let m : k < length lessers = omega (arith, long-lessers) in
+            let n : k < length greaters = omega (arith, long-greaters) in
+            subst At s (rw (get_or-set_same lessers k span.lesser 0 m, get_or-set_same greaters k span.greater 0 n) gives)
         go false e =
-            let d : k ≢ here + j = eqb-false k (here + j) e in
-            let m : k < here + j = omega (arith, d) in
-            rw (get_or-set_other lessers (here + j) k l 0 d, get_or-set_other greaters (here + j) k g 0 d) (before.said.right k low m)
+            let d : j ≢ k = eqb-false j k e in
+            let m : j < k = omega (arith, d) in
+            rw (get_or-set_other lessers k j span.lesser 0 d, get_or-set_other greaters k j span.greater 0 d) (before.each j low m)
 
-    pub filling_on : Filled lows highs here (here + (j + 1)) along old-lessers old-greaters (set lessers (here + j) l) (set greaters (here + j) g)
-    filling_on = record {
-      lessers_beside = beside-on here j l before.lessers_beside;
-      greaters_beside = beside-on here j g before.greaters_beside;
-      said = record { right = now_right };
+    pub stepping_on : Stepped Gives lows highs here (k + 1) old-lessers old-greaters (set lessers k span.lesser) (set greaters k span.greater)
+    stepping_on = record {
+      lessers_beside = beside-on k span.lesser past before.lessers_beside;
+      greaters_beside = beside-on k span.greater past before.greaters_beside;
+      each = each_now;
     }
 
-  pub filling_ends : (j n : ℕ) {lessers greaters : List ℕ} → j ≤ n → n ≤ j → Filled lows highs here (here + j) along old-lessers old-greaters lessers greaters → Filled lows highs here (here + n) along old-lessers old-greaters lessers greaters
-  filling_ends j n {lessers} {greaters} h k f = let e : j ≡ n = omega arith in subst (λ (j : ℕ). Filled lows highs here (here + j) along old-lessers old-greaters lessers greaters) e f
+  pub stepping_ends : {lessers greaters : List ℕ} (k there : ℕ) → there ≤ k → k ≤ there → Stepped Gives lows highs here k old-lessers old-greaters lessers greaters → Stepped Gives lows highs here there old-lessers old-greaters lessers greaters
+  stepping_ends {lessers} {greaters} k there h l at = let e : k ≡ there = omega arith in subst (λ (j : ℕ). Stepped Gives lows highs here j old-lessers old-greaters lessers greaters) e at
+
+-- where the step says what the axis does, the boxes are filled
+pub stepped_filled : {Gives : Float → Float → Span → Type 0} {lows highs : List Float} {here there : ℕ} {old-lessers old-greaters lessers greaters : List ℕ} (along : Along)
+    → ((low high : Float) (span : Span) → Gives low high span → axis_range low high along.origin along.component ≢ wrong → Codes (axis_range low high along.origin along.component) span.lesser span.greater)
+    → Stepped Gives lows highs here there old-lessers old-greaters lessers greaters → Filled lows highs here there along old-lessers old-greaters lessers greaters
+stepped_filled along says at = record {
+  lessers_beside = at.lessers_beside;
+  greaters_beside = at.greaters_beside;
+  said = record { right = λ k low less. says _ _ _ (at.each k low less) };
+}
 
 -- ---- zero or not
 pub zero_known : (x : Float) (w t : Bool) → w ≡ is_zero x → w ≡ t → is_zero x ≡ t
@@ -164,9 +168,3 @@ told false e = absurd (true≢false (sym e))
 
 pub same_number : (x y : Float) → fits binary64 x ≡ true → fits binary64 y ≡ true → eqb (to_bits binary64 x) (to_bits binary64 y) ≡ true → x ≡ y
 same_number x y f g e = sym (of_bits-to_bits binary64 x (told (fits binary64 x) f)) ∙ ap (of_bits binary64) (eqb-true (to_bits binary64 x) (to_bits binary64 y) e) ∙ of_bits-to_bits binary64 y (told (fits binary64 y) g)
-
-pub same-along : (before now : Along) (o c : Bool) → (o ≡ true → before.origin ≡ now.origin) → o ≡ true → (c ≡ true → before.component ≡ now.component) → SameNumbers before now c
-same-along before now o c f h g = record { are = λ k. rw (f h, g k) refl }
-
-pub never_same : {before now : Along} → SameNumbers before now false
-never_same = record { are = λ h. absurd (true≢false (sym h)) }

@@ -4,6 +4,7 @@ use Rattle.std.specs.Float.{nan}
 use Rattle.cross_ranks.specs.Ranks.{unrank}
 use Rattle.cross_shapes.specs.Shapes.{finite, Range, wrong, missed, free, from, axis_range}
 use Rattle.cross_axis.specs.declared.Along.{Along}
+use Rattle.cross_axis.specs.declared.Span.{Span}
 
 -- A miss is a greater rank that is not above the lesser one; neither a position nor a miss is the least and the greatest rank; no ranks say
 -- that a position may not be given.
@@ -51,6 +52,12 @@ pub record Filled (lows highs : List Float) (here there : ℕ) (along : Along) (
   pub lessers_beside : Beside here there old-lessers lessers
   pub greaters_beside : Beside here there old-greaters greaters
   pub said : Said lows highs here there along lessers greaters
+
+-- From here to there the ranks are those that a step gives of each box, and nothing else is changed.
+pub record Stepped (Gives : Float → Float → Span → Type 0) (lows highs : List Float) (here there : ℕ) (old-lessers old-greaters lessers greaters : List ℕ) : Type 0 where
+  pub lessers_beside : Beside here there old-lessers lessers
+  pub greaters_beside : Beside here there old-greaters greaters
+  pub each : (k : ℕ) → here ≤ k → k < there → Gives (get_or lows k nan) (get_or highs k nan) (record { lesser = get_or lessers k 0; greater = get_or greaters k 0 })
 
 -- A yes means that they are the same numbers.
 pub record SameNumbers (before now : Along) (r : Bool) : Type 0 where

@@ -1,12 +1,20 @@
 // What one axis of a line says of boxes: a lesser and a greater rank each, with no branch in the loop.
 #![tactic(auto)]
 
-ghost use Rattle.std.specs.Prelude.{◌≡◌, true, false, ◌≢◌, ◌+◌, ◌≤◌};
+ghost use Rattle.std.specs.Prelude.{◌≡◌, ℕ, true, false, ◌≢◌, ◌+◌, ◌<◌, ◌≤◌, get_or};
+ghost use Rattle.std.specs.Float.{nan};
 ghost use Rattle.std.proofs.Math.Option.{none, some};
 ghost use Rattle.cross_ranks.specs.Ranks.{unrank};
 ghost use Rattle.cross_positions.specs.Positions.{position};
 ghost use Rattle.cross_shapes.specs.Shapes.{finite, is_zero, wrong, axis_range};
-ghost use Rattle.cross_axis.specs.Axes.{Codes, Sized, FiniteAlong, Fillable, Filled, SameNumbers};
+ghost use Rattle.cross_axis.specs.Axes.{Codes, FiniteAlong, Fillable, Filled, Stepped, SameNumbers};
+
+use cross_columns::{Columns, FACES, PART};
+
+// The ranks are three parts, as the faces are, and a fourth for what two axes say together.
+pub const TOGETHER: usize = FACES;
+
+pub const RANKS: usize = FACES + PART;
 
 // The line's two numbers on an axis.
 #[derive(Clone, Copy, Drop)]
@@ -15,9 +23,16 @@ pub struct Along {
     pub component: f64,
 }
 
-// The lesser and the greater rank of one box.
+// The lesser and the greater rank of each box on each axis.
 #[derive(Drop)]
-struct Ranks {
+pub struct Ranks {
+    pub lessers: [u32; RANKS],
+    pub greaters: [u32; RANKS],
+}
+
+// The lesser and the greater rank of one box on one axis.
+#[derive(Drop)]
+struct Span {
     lesser: u32,
     greater: u32,
 }
@@ -33,102 +48,90 @@ fn rank_of(face: f64, along: Along) -> u32
     cross_quick::rank_of_nearest(p)
 }
 
-fn ranks_slant(low: f64, high: f64, along: Along) -> Ranks
+#[tactic(auto, using(crate::proofs::AxisLaws::slant_both))]
+fn ranks_slant(low: f64, high: f64, along: Along) -> Span
     requires low_value { (finite low ≡ true) × ((finite high ≡ true) × FiniteAlong along) }
     requires component_value { is_zero along.component ≡ false }
     ensures { axis_range low high along.origin along.component ≢ wrong → Codes (axis_range low high along.origin along.component) result.lesser result.greater }
 {
     let u = rank_of(low, along);
     let v = rank_of(high, along);
-    Ranks {
-        lesser: cross_shapes::least(u, v),
-        greater: cross_shapes::most(u, v),
+    Span {
+        lesser: u.min(v),
+        greater: u.max(v),
     }
 }
 
-fn ranks_level(low: f64, high: f64, along: Along) -> Ranks
+#[tactic(auto, using(crate::proofs::AxisLaws::level_free, crate::proofs::AxisLaws::level_missed))]
+fn ranks_level(low: f64, high: f64, along: Along) -> Span
     requires { is_zero along.component ≡ true }
     ensures { axis_range low high along.origin along.component ≢ wrong → Codes (axis_range low high along.origin along.component) result.lesser result.greater }
 {
     if (low < along.origin) & (along.origin < high) {
-        return Ranks {
+        return Span {
             lesser: 0,
-            greater: 4294967295,
+            greater: u32::MAX,
         };
     }
-    Ranks {
+    Span {
         lesser: 0,
         greater: 0,
     }
 }
 
-// Where the line is not level on the axis.
-pub fn fill_slant(
+// What the step says of each of the n boxes from `at` on.
+fn fill_by<F: Fn(f64, f64) -> Span>(
     at: usize,
     n: usize,
-    along: Along,
-    lows: &[f64; 768],
-    highs: &[f64; 768],
-    lessers: &mut [u32; 1024],
-    greaters: &mut [u32; 1024],
+    columns: &Columns,
+    ranks: &mut Ranks,
+    says: F,
 )
-    requires fillable { Fillable at (at + n) along lows.now highs.now lessers.old greaters.old }
-    requires component_value { is_zero along.component ≡ false }
-    ensures { Filled lows.now highs.now at (at + n) along lessers.old greaters.old lessers.new greaters.new }
+    requires inside { at + n ≤ 768 }
+    requires callable { (k : ℕ) → at ≤ k → k < at + n → F.pre says (get_or columns.now.lows k nan) (get_or columns.now.highs k nan) }
+    ensures { Stepped (F.post says) columns.now.lows columns.now.highs at (at + n) ranks.old.lessers ranks.old.greaters ranks.new.lessers ranks.new.greaters }
 {
-    let mut j = 0usize;
-    while j < n {
-        let k = at + j;
-        let ranks = ranks_slant(lows[k], highs[k], along);
-        lessers[k] = ranks.lesser;
-        greaters[k] = ranks.greater;
-        j += 1;
+    for k in at..at + n {
+        let span = says(columns.lows[k], columns.highs[k]);
+        ranks.lessers[k] = span.lesser;
+        ranks.greaters[k] = span.greater;
     }
 }
 
-fn fill_level(
-    at: usize,
-    n: usize,
-    along: Along,
-    lows: &[f64; 768],
-    highs: &[f64; 768],
-    lessers: &mut [u32; 1024],
-    greaters: &mut [u32; 1024],
-)
-    requires n_bound { (at + n ≤ 768) × Sized lows.now highs.now lessers.old greaters.old }
-    requires component_value { is_zero along.component ≡ true }
-    ensures { Filled lows.now highs.now at (at + n) along lessers.old greaters.old lessers.new greaters.new }
+// Where the line is not level on the axis.
+pub fn fill_slant(at: usize, n: usize, along: Along, columns: &Columns, ranks: &mut Ranks)
+    requires fillable { Fillable at (at + n) along columns.now.lows columns.now.highs ranks.old.lessers ranks.old.greaters }
+    requires component_value { is_zero along.component ≡ false }
+    ensures { Filled columns.now.lows columns.now.highs at (at + n) along ranks.old.lessers ranks.old.greaters ranks.new.lessers ranks.new.greaters }
 {
-    let mut j = 0usize;
-    while j < n {
-        let k = at + j;
-        let ranks = ranks_level(lows[k], highs[k], along);
-        lessers[k] = ranks.lesser;
-        greaters[k] = ranks.greater;
-        j += 1;
-    }
+    fill_by(
+        at,
+        n,
+        columns,
+        ranks,
+        |low, high| ranks_slant(low, high, along),
+    );
 }
 
 // What the axis says of the n boxes from `at` on.
-pub fn fill(
-    at: usize,
-    n: usize,
-    along: Along,
-    lows: &[f64; 768],
-    highs: &[f64; 768],
-    lessers: &mut [u32; 1024],
-    greaters: &mut [u32; 1024],
-)
-    requires { Fillable at (at + n) along lows.now highs.now lessers.old greaters.old }
-    ensures { Filled lows.now highs.now at (at + n) along lessers.old greaters.old lessers.new greaters.new }
+pub fn fill(at: usize, n: usize, along: Along, columns: &Columns, ranks: &mut Ranks)
+    requires { Fillable at (at + n) along columns.now.lows columns.now.highs ranks.old.lessers ranks.old.greaters }
+    ensures { Filled columns.now.lows columns.now.highs at (at + n) along ranks.old.lessers ranks.old.greaters ranks.new.lessers ranks.new.greaters }
 {
     if cross_shapes::is_zero(along.component) {
-        fill_level(at, n, along, lows, highs, lessers, greaters);
+        fill_by(
+            at,
+            n,
+            columns,
+            ranks,
+            |low, high| ranks_level(low, high, along),
+        );
         return;
     }
-    fill_slant(at, n, along, lows, highs, lessers, greaters);
+    fill_slant(at, n, along, columns, ranks);
 }
 
+#[tactic(auto, using(crate::proofs::AxisLaws::no_nan, crate::proofs::AxisLaws::same_number))]
 fn same_bits(x: f64, y: f64) -> bool
     requires x_value { finite x ≡ true }
     requires y_value { finite y ≡ true }
@@ -142,8 +145,5 @@ pub fn same(before: Along, now: Along) -> bool
     requires { FiniteAlong before × FiniteAlong now }
     ensures { SameNumbers before now result }
 {
-    if same_bits(before.origin, now.origin) {
-        return same_bits(before.component, now.component);
-    }
-    false
+    same_bits(before.origin, now.origin) && same_bits(before.component, now.component)
 }

@@ -8,14 +8,15 @@ use borrow.Author.Tests.{ltb-true, ltb-false, lt-ltb, le-ltb, leb-true, lt-leb, 
 use lib.Dec.{ltb, leb}
 use lib.IntN.{ℤ, pos, negsuc, nat_abs, sub_ℕ, ◌+ℤ◌, ◌-ℤ◌}
 use lib.Signed.{lt_z, le_z}
+use Rattle.std.proofs.Common.{Some}
+use Rattle.std.specs.Int.{abs_diff}
 use Rattle.cross_ranks.specs.Ranks.{unrank}
 use Rattle.cross_ranks.proofs.RankLaws.{unrank_lt}
 use Rattle.cross_root.specs.Root.{Root}
 use Rattle.cross_root.proofs.Greatest.{is_greatest, root_within}
 use Rattle.cross_cuts.specs.Keys.{cut_of}
-use Rattle.cross_cuts.specs.declared.Met.{Met}
-use Rattle.cross_cuts.specs.declared.Met.TheVariants.{Fault, Never, Twice}
-use Rattle.cross_balls.specs.Balls.{within, in_ranges, squared, half_chord, sides, chord_cut, ball_cut}
+use Rattle.cross_cuts.specs.declared.Met.TheVariants.{Never, Twice}
+use Rattle.cross_balls.specs.Balls.{within, in_ranges, squared, half_chord, sides, chord_cut}
 use Rattle.cross_balls.specs.Small.{Small}
 
 -- ---- ranks compare as their numbers do
@@ -45,39 +46,14 @@ and_right true b e = e
 and_right false b e = absurd (false≢true e)
 
 module _ (rank low high : ℕ) where
-  within_is : within (unrank low) (unrank high) (unrank rank) ≡ (leb low rank && leb rank high)
+  pub within_is : within (unrank low) (unrank high) (unrank rank) ≡ (leb low rank && leb rank high)
   within_is = rw (unrank-le low rank, unrank-le rank high)
-
-  pub range_below : rank < low → false ≡ within (unrank low) (unrank high) (unrank rank)
-  range_below h = sym (within_is ∙ rw (lt-leb low rank h))
-
-  pub range_from : low ≤ rank → leb rank high ≡ within (unrank low) (unrank high) (unrank rank)
-  range_from h = sym (within_is ∙ rw (le-leb low rank h))
 
   in_low : within (unrank low) (unrank high) (unrank rank) ≡ true → low ≤ rank
   in_low e = leb-true low rank (and_left (leb low rank) (leb rank high) (sym within_is ∙ e))
 
   in_high : within (unrank low) (unrank high) (unrank rank) ≡ true → rank ≤ high
   in_high e = leb-true rank high (and_right (leb low rank) (leb rank high) (sym within_is ∙ e))
-
-module _ (u v radius centre : ℕ) (a : Bool) (ea : a ≡ within (unrank 2146483648) (unrank 2148483648) (unrank u)) where
-  pub ranges_u : a ≡ false → false ≡ in_ranges (unrank u) (unrank v) (unrank radius) (unrank centre)
-  unfolding in_ranges
-  ranges_u f = sym (rw (sym ea ∙ f))
-
-  module _ (b : Bool) (eb : b ≡ within (unrank 2146483648) (unrank 2148483648) (unrank v)) where
-    pub ranges_v : a ≡ true → b ≡ false → false ≡ in_ranges (unrank u) (unrank v) (unrank radius) (unrank centre)
-    unfolding in_ranges
-    ranges_v f g = sym (rw (sym ea ∙ f, sym eb ∙ g))
-
-    module _ (c : Bool) (ec : c ≡ within (unrank 2147483649) (unrank 2148483648) (unrank radius)) where
-      pub ranges_radius : a ≡ true → b ≡ true → c ≡ false → false ≡ in_ranges (unrank u) (unrank v) (unrank radius) (unrank centre)
-      unfolding in_ranges
-      ranges_radius f g h = sym (rw (sym ea ∙ f, sym eb ∙ g, sym ec ∙ h))
-
-      pub ranges_centre : (d : Bool) → d ≡ within (unrank 1147483648) (unrank 3147483648) (unrank centre) → a ≡ true → b ≡ true → c ≡ true → d ≡ in_ranges (unrank u) (unrank v) (unrank radius) (unrank centre)
-      unfolding in_ranges
-      ranges_centre d ed f g h = ed ∙ sym (rw (sym ea ∙ f, sym eb ∙ g, sym ec ∙ h))
 
 -- the ranks of numbers in range
 pub small : (u v radius centre : ℕ) (w : Bool) → w ≡ in_ranges (unrank u) (unrank v) (unrank radius) (unrank centre) → w ≡ true → Small u v radius centre
@@ -101,13 +77,6 @@ small u v radius centre w says so =
       centre_high = in_high centre 1147483648 3147483648 ec;
     }
 
-pub ball_met : (u v radius centre : ℕ) (w : Bool) (m : Met) → w ≡ in_ranges (unrank u) (unrank v) (unrank radius) (unrank centre) → w ≡ true → cut_of m ≡ chord_cut (unrank u) (unrank v) (unrank radius) (unrank centre)
-    → cut_of m ≡ ball_cut (unrank u) (unrank v) (unrank radius) (unrank centre)
-ball_met u v radius centre w m says so e = e ∙ sym (rw (sym says ∙ so))
-
-pub ball_fault : (u v radius centre : ℕ) (w : Bool) → w ≡ in_ranges (unrank u) (unrank v) (unrank radius) (unrank centre) → w ≡ false → cut_of Fault ≡ ball_cut (unrank u) (unrank v) (unrank radius) (unrank centre)
-ball_fault u v radius centre w says so = sym (rw (sym says ∙ so))
-
 -- ---- squares
 size_low : (m : ℕ) → m < 2147483648 → nat_abs (unrank m) ≡ 2147483648 - m
 size_low m h = rw (lt-ltb m 2147483648 h) (omega arith)
@@ -115,15 +84,21 @@ size_low m h = rw (lt-ltb m 2147483648 h) (omega arith)
 size-high : (m : ℕ) → 2147483648 ≤ m → nat_abs (unrank m) ≡ m - 2147483648
 size-high m h = rw (le-ltb m 2147483648 h)
 
-pub square_fits : (x : ℕ) → x ≤ 1000000 → x * x ≤ 1000000000000
+square_fits : (x : ℕ) → x ≤ 1000000 → x * x ≤ 1000000000000
 square_fits x h = mul-le-mul h h
 
-module _ (m : ℕ) (low : 2146483648 ≤ m) (high : m ≤ 2148483648) where
-  pub square_low : (s : ℕ) → s ≡ 2147483648 - m → m < 2147483648 → s * s ≡ squared (unrank m)
-  square_low s e h = let i : s ≡ nat_abs (unrank m) = e ∙ sym (size_low m h) in ap (λ x. x * x) i
-
-  pub square_high : (s : ℕ) → s ≡ m - 2147483648 → 2147483648 ≤ m → s * s ≡ squared (unrank m)
-  square_high s e h = let i : s ≡ nat_abs (unrank m) = e ∙ sym (size-high m h) in ap (λ x. x * x) i
+pub square_is : (m s : ℕ) → 2146483648 ≤ m → m ≤ 2148483648 → s ≡ abs_diff m 2147483648 → (s * s ≡ squared (unrank m)) × (s * s ≤ 1000000000000)
+square_is m s low high e = by (ltb m 2147483648) refl
+  where
+    by : (t : Bool) → ltb m 2147483648 ≡ t → (s * s ≡ squared (unrank m)) × (s * s ≤ 1000000000000)
+    by true f =
+        let h = ltb-true m 2147483648 f in
+        let i : s ≡ nat_abs (unrank m) = omega (arith, size_low m h) in
+        (ap (λ x. x * x) i, square_fits s (omega arith))
+    by false f =
+        let h = ltb-false m 2147483648 f in
+        let i : s ≡ nat_abs (unrank m) = omega (arith, size-high m h) in
+        (ap (λ x. x * x) i, square_fits s (omega arith))
 
 -- ---- the two sides
 sub_same : (a b c d : ℕ) → a + d ≡ c + b → sub_ℕ a b ≡ sub_ℕ c d
@@ -165,7 +140,7 @@ last_side c h = by (ltb c 2147483648) refl
 
 -- ---- the exits of `meet_chord`
 module _ (u v radius centre p q s : ℕ) (few : Small u v radius centre) (ep : p ≡ squared (unrank u)) (eq : q ≡ squared (unrank v)) (es : s ≡ squared (unrank radius)) where
-  pub chord_missed : s < p + q → cut_of (Never false) ≡ chord_cut (unrank u) (unrank v) (unrank radius) (unrank centre)
+  pub chord_missed : s < p + q → cut_of (Some (Never false)) ≡ chord_cut (unrank u) (unrank v) (unrank radius) (unrank centre)
   unfolding chord_cut
   chord_missed h = sym (rw (← ep, ← eq, ← es, lt-ltb s (p + q) h))
 
@@ -195,16 +170,16 @@ module _ (u v radius centre p q s : ℕ) (few : Small u v radius centre) (ep : p
     unfolding chord_cut
     chord_is = sym (rw (← half_is, ← ep, ← eq, ← es, le-ltb s (p + q) enough))
 
-    pub chord_none : half ≡ 0 → cut_of (Never false) ≡ chord_cut (unrank u) (unrank v) (unrank radius) (unrank centre)
+    pub chord_none : half ≡ 0 → cut_of (Some (Never false)) ≡ chord_cut (unrank u) (unrank v) (unrank radius) (unrank centre)
     chord_none z = sym (rw (eq-eqb half 0 z)) ∙ chord_is
 
-    pub chord_two : (a b c : ℕ) → c ≡ centre → a ≡ c - half → b ≡ c + half → (half ≡ 0 → ⊥) → cut_of (Twice a b) ≡ chord_cut (unrank u) (unrank v) (unrank radius) (unrank centre)
+    pub chord_two : (a b c : ℕ) → c ≡ centre → a ≡ c - half → b ≡ c + half → (half ≡ 0 → ⊥) → cut_of (Some (Twice a b)) ≡ chord_cut (unrank u) (unrank v) (unrank radius) (unrank centre)
     chord_two a b c ec ea eb z = two half refl z ∙ chord_is
       where
         l : half ≤ centre
         l = omega (arith, half_small, few.centre_low)
 
-        two : (h : ℕ) → half ≡ h → (half ≡ 0 → ⊥) → cut_of (Twice a b) ≡ sides half (unrank centre)
+        two : (h : ℕ) → half ≡ h → (half ≡ 0 → ⊥) → cut_of (Some (Twice a b)) ≡ sides half (unrank centre)
         two zero e n = absurd (n e)
         two (suc h) e n =
             let i : a ≡ centre - suc h = omega arith in

@@ -5,19 +5,12 @@ use native.Mathlib.Omega.{arith}
 use mathlib.Core.List.{List, [], ◌∷◌}
 use lib.IntN.{ℤ, pos}
 use lib.ListN.{length, get_or}
-use mir.Syntax.{w32}
-use mir.Val.{SFits, to_z, of_z}
-use mir.ValLaws.{to_z-of_z}
 use Rattle.cross_ranks.specs.Ranks.{unrank}
 use Rattle.cross_cuts.specs.Cuts.{fault}
 use Rattle.cross_cuts.specs.Keys.{cut_of}
 use Rattle.cross_cuts.specs.declared.Met.{Met}
-use Rattle.cross_cuts.specs.declared.Met.TheVariants.{Fault}
+use Rattle.std.proofs.Common.{Option, None}
 use Rattle.cross_balls.specs.Balls.{ball_cut, ball_cuts}
-
--- a number as it was read
-pub as_read : {y z : ℤ} → SFits w32 z → y ≡ to_z w32 (of_z w32 z) → y ≡ z
-as_read h e = e ∙ to_z-of_z w32 _ h
 
 pub length-cuts : (numbers : List ℤ) → length (ball_cuts numbers) ≡ (length numbers + 3) / 4
 unfolding ball_cuts
@@ -57,10 +50,10 @@ cut-whole (u ∷ v ∷ radius ∷ centre ∷ rest) (suc i) h =
     rw (e1, e2, e3, e0) (cut-whole rest i (omega arith))
 
 -- ---- the exits of `meet_at`
-pub at_begun : (numbers : List ℤ) (i : ℕ) → 4 * i < length numbers → length numbers < 4 * i + 4 → cut_of Fault ≡ get_or (ball_cuts numbers) i fault
+pub at_begun : (numbers : List ℤ) (i : ℕ) → 4 * i < length numbers → length numbers < 4 * i + 4 → cut_of None ≡ get_or (ball_cuts numbers) i fault
 at_begun numbers i h k = sym (cut_begun numbers i h k)
 
-pub at-whole : (numbers : List ℤ) (i u v radius centre : ℕ) (m : Met) → 4 * i + 4 ≤ length numbers
+pub at-whole : (numbers : List ℤ) (i u v radius centre : ℕ) (m : Option Met) → 4 * i + 4 ≤ length numbers
     → unrank u ≡ get_or numbers (4 * i) (pos 0) → unrank v ≡ get_or numbers (4 * i + 1) (pos 0) → unrank radius ≡ get_or numbers (4 * i + 2) (pos 0) → unrank centre ≡ get_or numbers (4 * i + 3) (pos 0)
     → cut_of m ≡ ball_cut (unrank u) (unrank v) (unrank radius) (unrank centre) → cut_of m ≡ get_or (ball_cuts numbers) i fault
 at-whole numbers i u v radius centre m h eu ev er ec e = e ∙ rw (eu, ev, er, ec) (sym (cut-whole numbers i h))

@@ -1,7 +1,7 @@
 // A ball beside a line that is parallel to an axis: where the line meets it.
 #![tactic(auto)]
 
-ghost use Rattle.std.specs.Prelude.{◌≡◌, ◌*◌, ◌<◌, ◌≤◌, pos, length, get_or};
+ghost use Rattle.std.specs.Prelude.{◌≡◌, ◌*◌, ◌<◌, ◌≤◌, pos, length, get_or, Some};
 ghost use Rattle.cross_ranks.specs.Ranks.{unrank};
 ghost use Rattle.cross_cuts.specs.Cuts.{fault};
 ghost use Rattle.cross_cuts.specs.Keys.{cut_of};
@@ -10,27 +10,39 @@ ghost use Rattle.cross_balls.specs.Small.{Small};
 
 use cross_cuts::Met;
 
+// The rank of 0, and how large offsets, radius and centre may be.
+const MIDDLE: u32 = 1 << 31;
+
+const OFFSET: u32 = 1_000_000;
+
+const RADIUS: u32 = 1_000_000;
+
+const CENTRE: u32 = 1_000_000_000;
+
+// A ball, each number by its rank: two offsets of line from centre, the radius, and the centre along the line.
+#[derive(Clone, Copy, Drop)]
+struct Ball {
+    u: u32,
+    v: u32,
+    radius: u32,
+    centre: u32,
+}
+
+#[tactic(auto, using(crate::proofs::BallLaws::within_is))]
 fn in_range(rank: u32, low: u32, high: u32) -> bool
     ensures { result ≡ within (unrank low) (unrank high) (unrank rank) }
 {
-    if rank < low {
-        return false;
-    }
-    rank <= high
+    low <= rank && rank <= high
 }
 
-// The four numbers of a ball are in their ranges, each by its rank.
-fn in_ranges(u: u32, v: u32, radius: u32, centre: u32) -> bool
-    ensures { result ≡ in_ranges (unrank u) (unrank v) (unrank radius) (unrank centre) }
+#[tactic(auto, unfolding(crate::specs::Balls::in_ranges))]
+fn in_ranges(ball: Ball) -> bool
+    ensures { result ≡ in_ranges (unrank ball.u) (unrank ball.v) (unrank ball.radius) (unrank ball.centre) }
 {
-    if in_range(u, 2146483648, 2148483648) {
-        if in_range(v, 2146483648, 2148483648) {
-            if in_range(radius, 2147483649, 2148483648) {
-                return in_range(centre, 1147483648, 3147483648);
-            }
-        }
-    }
-    false
+    in_range(ball.u, MIDDLE - OFFSET, MIDDLE + OFFSET)
+        && in_range(ball.v, MIDDLE - OFFSET, MIDDLE + OFFSET)
+        && in_range(ball.radius, MIDDLE + 1, MIDDLE + RADIUS)
+        && in_range(ball.centre, MIDDLE - CENTRE, MIDDLE + CENTRE)
 }
 
 // The square of the number that a rank of a small number stands for.
@@ -38,29 +50,17 @@ fn square(rank: u32) -> u64
     requires { (2146483648 ≤ rank) × (rank ≤ 2148483648) }
     ensures { (result ≡ squared (unrank rank)) × (result ≤ 1000000000000) }
 {
-    if rank < 2147483648 {
-        let size = basics::long_word(2147483648 - rank);
-        return size * size;
-    }
-    let size = basics::long_word(rank - 2147483648);
+    let size = u64::from(rank.abs_diff(MIDDLE));
     size * size
 }
 
-// A rank that is held in a word.
-fn rank_in(x: u64) -> u32
-    requires { x < 4294967296 }
-    ensures { result ≡ x }
-{
-    x as u32
-}
-
 // A ball whose numbers are in range: it is met where the half chord is not 0.
-fn meet_chord(u: u32, v: u32, radius: u32, centre: u32) -> Met
-    requires { Small u v radius centre }
-    ensures { cut_of result ≡ chord_cut (unrank u) (unrank v) (unrank radius) (unrank centre) }
+fn meet_chord(ball: Ball) -> Met
+    requires { Small ball.u ball.v ball.radius ball.centre }
+    ensures { cut_of (Some result) ≡ chord_cut (unrank ball.u) (unrank ball.v) (unrank ball.radius) (unrank ball.centre) }
 {
-    let off = square(u) + square(v);
-    let whole = square(radius);
+    let off = square(ball.u) + square(ball.v);
+    let whole = square(ball.radius);
     if whole < off {
         return Met::Never(false);
     }
@@ -68,19 +68,17 @@ fn meet_chord(u: u32, v: u32, radius: u32, centre: u32) -> Met
     if half == 0 {
         return Met::Never(false);
     }
-    let at = basics::long_word(centre);
-    let first = rank_in(at - half);
-    let last = rank_in(at + half);
-    Met::Twice(first, last)
+    let at = u64::from(ball.centre);
+    Met::Twice((at - half) as u32, (at + half) as u32)
 }
 
-fn meet_ball(u: u32, v: u32, radius: u32, centre: u32) -> Met
-    ensures { cut_of result ≡ ball_cut (unrank u) (unrank v) (unrank radius) (unrank centre) }
+fn meet_ball(ball: Ball) -> Option<Met>
+    ensures { cut_of result ≡ ball_cut (unrank ball.u) (unrank ball.v) (unrank ball.radius) (unrank ball.centre) }
 {
-    if in_ranges(u, v, radius, centre) {
-        return meet_chord(u, v, radius, centre);
+    if in_ranges(ball) {
+        return Some(meet_chord(ball));
     }
-    Met::Fault
+    None
 }
 
 fn rank_at(numbers: &[i32], k: usize) -> u32
@@ -91,17 +89,18 @@ fn rank_at(numbers: &[i32], k: usize) -> u32
 }
 
 // The i-th ball, from 0; one that is only begun is at fault.
-pub fn meet_at(numbers: &[i32], i: usize) -> Met
+pub fn meet_at(numbers: &[i32], i: usize) -> Option<Met>
     requires { (4 * i < length numbers.now) × (i < 256) }
     ensures { cut_of result ≡ get_or (ball_cuts numbers.now) i fault }
 {
     let k = 4 * i;
     if numbers.len() < k + 4 {
-        return Met::Fault;
+        return None;
     }
-    let u = rank_at(numbers, k);
-    let v = rank_at(numbers, k + 1);
-    let radius = rank_at(numbers, k + 2);
-    let centre = rank_at(numbers, k + 3);
-    meet_ball(u, v, radius, centre)
+    meet_ball(Ball {
+        u: rank_at(numbers, k),
+        v: rank_at(numbers, k + 1),
+        radius: rank_at(numbers, k + 2),
+        centre: rank_at(numbers, k + 3),
+    })
 }

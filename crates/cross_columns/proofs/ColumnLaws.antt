@@ -11,16 +11,9 @@ use lib.ListN.{length, drop, get_or, set, length-set}
 use lib.Seq.{get_or-set_same, get_or-set_other}
 use lib.Ieee.{Float, nan}
 use Rattle.cross_shapes.specs.declared.Shape.{Shape}
-use Rattle.cross_shapes.specs.declared.Shape.TheVariants.{HalfSpace, Block}
+use Rattle.cross_shapes.specs.declared.Block.{Block as Box}
 use Rattle.cross_line.specs.Lent.{shape_from}
-use Rattle.cross_columns.specs.Columns.{Column, Sized, Columns}
-
--- ---- one shape
-pub half_entry : (shape : Shape) (axis : ℕ) (face : Float) → shape ≡ HalfSpace axis face → Column shape face face face face face face (axis + 1)
-half_entry shape axis face e = rw e (record { is_half = refl; is_lx = refl; is_ly = refl; is_lz = refl; is_hx = refl; is_hy = refl; is_hz = refl })
-
-pub box_entry : (shape : Shape) (a b c d e f : Float) → shape ≡ Block a b c d e f → Column shape a b c d e f 0
-box_entry shape a b c d e f is = rw is (record { no_half = refl; is_lx = refl; is_ly = refl; is_lz = refl; is_hx = refl; is_hy = refl; is_hz = refl })
+use Rattle.cross_columns.specs.Columns.{Column, faces_at, Sized, Columns}
 
 -- ---- one number of each axis
 abbrev placed : Float → Float → Float → ℕ → List Float → List Float
@@ -71,17 +64,17 @@ module _ (x y z : Float) (i : ℕ) (faces : List Float) where
 pub empty : {kinds : List ℕ} {numbers lows highs : List Float} {halves : List ℕ} → Sized lows highs halves → Columns kinds numbers 0 lows highs halves
 empty s = record { sized = s; right = λ i l. absurd (omega arith) }
 
-module _ {kinds : List ℕ} {numbers lows highs : List Float} {halves : List ℕ} {i : ℕ} (shape : Shape) (a b c d e f : Float) (half : ℕ)
-    (before : Columns kinds numbers i lows highs halves) (inside : i < 256) (read : shape ≡ shape_from (get_or kinds i 0) (drop (6 * i) numbers)) (held : Column shape a b c d e f half) where
+module _ {kinds : List ℕ} {numbers lows highs : List Float} {halves : List ℕ} {i : ℕ} (shape : Shape) (faces : Box) (half : ℕ)
+    (before : Columns kinds numbers i lows highs halves) (inside : i < 256) (read : shape ≡ shape_from (get_or kinds i 0) (drop (6 * i) numbers)) (held : Column shape faces half) where
   abbrev lows' : List Float
-  lows' = placed a b c i lows
+  lows' = placed faces.lx faces.ly faces.lz i lows
 
   abbrev highs' : List Float
-  highs' = placed d e f i highs
+  highs' = placed faces.hx faces.hy faces.hz i highs
 
   abbrev Here : ℕ → Type 0
   Here j =
-      Column (shape_from (get_or kinds j 0) (drop (6 * j) numbers)) (get_or lows' j nan) (get_or lows' (256 + j) nan) (get_or lows' (512 + j) nan) (get_or highs' j nan) (get_or highs' (256 + j) nan) (get_or highs' (512 + j) nan) (get_or (set halves i half) j 0)
+      Column (shape_from (get_or kinds j 0) (drop (6 * j) numbers)) (faces_at lows' highs' j) (get_or (set halves i half) j 0)
 
   now_right : (j : ℕ) → j < i + 1 → Here j
   now_right j less = go (eqb j i) refl
@@ -97,12 +90,12 @@ module _ {kinds : List ℕ} {numbers lows highs : List Float} {halves : List ℕ
           let s : j ≡ i = eqb-true j i q in
           rw (
             s,
-            placed_x a b c i lows inside sl,
-            placed_y a b c i lows inside sl,
-            placed_z a b c i lows inside sl,
-            placed_x d e f i highs inside sh,
-            placed_y d e f i highs inside sh,
-            placed_z d e f i highs inside sh,
+            placed_x faces.lx faces.ly faces.lz i lows inside sl,
+            placed_y faces.lx faces.ly faces.lz i lows inside sl,
+            placed_z faces.lx faces.ly faces.lz i lows inside sl,
+            placed_x faces.hx faces.hy faces.hz i highs inside sh,
+            placed_y faces.hx faces.hy faces.hz i highs inside sh,
+            placed_z faces.hx faces.hy faces.hz i highs inside sh,
             get_or-set_same halves i half 0 (omega (arith, before.sized.halves_length)),
             ← read,
           ) held
@@ -110,12 +103,12 @@ module _ {kinds : List ℕ} {numbers lows highs : List Float} {halves : List ℕ
           let n : j ≢ i = eqb-false j i q in
           let l : j < 256 = omega arith in
           rw (
-            still_x a b c i lows inside sl j l n,
-            still_y a b c i lows inside sl j l n,
-            still_z a b c i lows inside sl j l n,
-            still_x d e f i highs inside sh j l n,
-            still_y d e f i highs inside sh j l n,
-            still_z d e f i highs inside sh j l n,
+            still_x faces.lx faces.ly faces.lz i lows inside sl j l n,
+            still_y faces.lx faces.ly faces.lz i lows inside sl j l n,
+            still_z faces.lx faces.ly faces.lz i lows inside sl j l n,
+            still_x faces.hx faces.hy faces.hz i highs inside sh j l n,
+            still_y faces.hx faces.hy faces.hz i highs inside sh j l n,
+            still_z faces.hx faces.hy faces.hz i highs inside sh j l n,
             get_or-set_other halves i j half 0 n,
           ) (before.right j (omega arith))
 
@@ -123,12 +116,9 @@ module _ {kinds : List ℕ} {numbers lows highs : List Float} {halves : List ℕ
   column_more x y ex ey =
       rw (ex, ey) (record {
         sized = record {
-          lows_length = placed-length a b c i lows ∙ before.sized.lows_length;
-          highs_length = placed-length d e f i highs ∙ before.sized.highs_length;
+          lows_length = placed-length faces.lx faces.ly faces.lz i lows ∙ before.sized.lows_length;
+          highs_length = placed-length faces.hx faces.hy faces.hz i highs ∙ before.sized.highs_length;
           halves_length = length-set halves i half ∙ before.sized.halves_length;
         };
         right = now_right;
       })
-
-pub ended : {kinds : List ℕ} {numbers : List Float} {i n : ℕ} {lows highs : List Float} {halves : List ℕ} → i ≤ n → n ≤ i → Columns kinds numbers i lows highs halves → Columns kinds numbers n lows highs halves
-ended {kinds} {numbers} {i} {n} {lows} {highs} {halves} h k f = let e : i ≡ n = omega arith in subst (λ (j : ℕ). Columns kinds numbers j lows highs halves) e f

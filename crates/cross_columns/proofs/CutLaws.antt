@@ -1,5 +1,5 @@
 -- The columns say of each line what the drawing's own numbers do.
-use mathlib.Core.Path.{◌≡◌, refl, sym, ap, ◌∙◌}
+use mathlib.Core.Path.{◌≡◌, refl, sym, ap, ◌∙◌, subst}
 use mathlib.Core.Bool.{Bool, true, false, cond, ◌&&◌, true≢false}
 use mathlib.Core.Logic.{◌≢◌}
 use mathlib.Core.List.{List, [], ◌∷◌}
@@ -16,10 +16,11 @@ use Rattle.cross_shapes.specs.Shapes.{finite, good_pair, origin_on, component_on
 use Rattle.cross_shapes.specs.declared.Probe.{Probe}
 use Rattle.cross_shapes.specs.declared.Shape.{Shape}
 use Rattle.cross_shapes.specs.declared.Shape.TheVariants.{HalfSpace, Block}
+use Rattle.cross_shapes.specs.declared.Block.{Block as Box}
 use Rattle.cross_line.specs.Lent.{shape_from}
 use Rattle.cross_line.specs.Crossing.{shape_cuts}
 use Rattle.cross_line.proofs.LentLaws.{length-cuts, cut_at}
-use Rattle.cross_columns.specs.Columns.{Column, Columns, FiniteFaces, cut_in, cuts_from, cuts_in}
+use Rattle.cross_columns.specs.Columns.{Column, faces_at, Columns, FiniteFaces, cut_in, cuts_from, cuts_in}
 
 module _ (probe : Probe) (lows highs : List Float) (halves : List ℕ) where
   from-length : (i n : ℕ) → length (cuts_from probe lows highs halves i n) ≡ n
@@ -39,13 +40,13 @@ module _ (probe : Probe) (lows highs : List Float) (halves : List ℕ) where
   pub cuts-at : (n j : ℕ) → j < n → get_or (cuts_in probe n lows highs halves) j fault ≡ cut_in probe lows highs halves j
   cuts-at n j h = let e : 0 + j ≡ j = omega arith in from_at 0 n j h ∙ ap (cut_in probe lows highs halves) e
 
-  column_cut : (shape : Shape) (j : ℕ) → Column shape (get_or lows j nan) (get_or lows (256 + j) nan) (get_or lows (512 + j) nan) (get_or highs j nan) (get_or highs (256 + j) nan) (get_or highs (512 + j) nan) (get_or halves j 0)
-      → shape_cut probe shape ≡ cut_in probe lows highs halves j
+  column_cut : (shape : Shape) (j : ℕ) → Column shape (faces_at lows highs j) (get_or halves j 0) → shape_cut probe shape ≡ cut_in probe lows highs halves j
   column_cut (HalfSpace axis face) j c =
-      let some : get_or halves j 0 ≡ 0 → ⊥ = λ z. omega (arith, c.is_half) in
-      let less : axis ≡ get_or halves j 0 - 1 = omega (arith, c.is_half) in
-      sym (rw (ne_eqb (get_or halves j 0) 0 some, ← less, ← c.is_lx))
-  column_cut (Block p q r s t u) j c = sym (rw (eq-eqb (get_or halves j 0) 0 c.no_half, ← c.is_lx, ← c.is_ly, ← c.is_lz, ← c.is_hx, ← c.is_hy, ← c.is_hz))
+      let some : get_or halves j 0 ≡ 0 → ⊥ = λ z. omega (arith, c.0) in
+      let less : axis ≡ get_or halves j 0 - 1 = omega (arith, c.0) in
+      let e : get_or lows j nan ≡ face = ap (λ (b : Box). b.lx) c.1 in
+      sym (rw (ne_eqb (get_or halves j 0) 0 some, ← less, e))
+  column_cut (Block b) j c = sym (rw (eq-eqb (get_or halves j 0) 0 c.0) (ap (λ (x : Box). shape_cut probe (Block x)) c.1))
 
   pub columns-cuts : {kinds : List ℕ} {numbers : List Float} → Columns kinds numbers (length kinds) lows highs halves → cuts_in probe (length kinds) lows highs halves ≡ shape_cuts probe kinds numbers
   columns-cuts {kinds} {numbers} columns =
@@ -85,19 +86,19 @@ box_pairs probe a b c d e f n = by (good_pair a d) (good_pair b e) (good_pair c 
     by true false u x y z n = absurd (n refl)
     by false t u x y z n = absurd (n refl)
 
-abbrev AllFinite : Float → Float → Float → Float → Float → Float → Type 0
-AllFinite a b c d e f = (finite a ≡ true) × ((finite b ≡ true) × ((finite c ≡ true) × ((finite d ≡ true) × ((finite e ≡ true) × (finite f ≡ true)))))
+abbrev AllFinite : Box → Type 0
+AllFinite b = (finite b.lx ≡ true) × ((finite b.ly ≡ true) × ((finite b.lz ≡ true) × ((finite b.hx ≡ true) × ((finite b.hy ≡ true) × (finite b.hz ≡ true)))))
 
-column_finite : (probe : Probe) (shape : Shape) (lx ly lz hx hy hz : Float) (half : ℕ) → Column shape lx ly lz hx hy hz half → shape_cut probe shape ≢ fault → AllFinite lx ly lz hx hy hz
-column_finite probe (HalfSpace axis face) lx ly lz hx hy hz half c n =
+column_finite : (probe : Probe) (shape : Shape) (b : Box) (half : ℕ) → Column shape b half → shape_cut probe shape ≢ fault → AllFinite b
+column_finite probe (HalfSpace axis face) b half c n =
     let f = half_finite probe axis face n in
-    rw (← c.is_lx, ← c.is_ly, ← c.is_lz, ← c.is_hx, ← c.is_hy, ← c.is_hz) (f, (f, (f, (f, (f, f)))))
-column_finite probe (Block p q r s t u) lx ly lz hx hy hz half c n =
-    let g = box_pairs probe p q r s t u n in
-    let x = pair-finite p s g.0 in
-    let y = pair-finite q t g.1.0 in
-    let z = pair-finite r u g.1.1 in
-    rw (← c.is_lx, ← c.is_ly, ← c.is_lz, ← c.is_hx, ← c.is_hy, ← c.is_hz) (x.0, (y.0, (z.0, (x.1, (y.1, z.1)))))
+    subst AllFinite (sym c.1) (f, (f, (f, (f, (f, f)))))
+column_finite probe (Block a) b half c n =
+    let g = box_pairs probe a.lx a.ly a.lz a.hx a.hy a.hz n in
+    let x = pair-finite a.lx a.hx g.0 in
+    let y = pair-finite a.ly a.hy g.1.0 in
+    let z = pair-finite a.lz a.hz g.1.1 in
+    subst AllFinite (sym c.1) (x.0, (y.0, (z.0, (x.1, (y.1, z.1)))))
 
 is_refused : Outcome (Unit {0}) → Bool
 is_refused (given a) = false
@@ -117,9 +118,9 @@ none-at-fault number k (c ∷ cs) e zero h = (sound-cut c number k (faultless nu
 none-at-fault number k (c ∷ cs) e (suc i) h = none-at-fault number (k + 1) cs (sound-cut c number k (faultless number (k + 1) cs) e).1 i (omega arith)
 
 module _ {kinds : List ℕ} {numbers lows highs : List Float} {halves : List ℕ} (columns : Columns kinds numbers (length kinds) lows highs halves) (probe : Probe) (none : faultless 16 0 (shape_cuts probe kinds numbers) ≡ given tt) where
-  shape-finite : (j : ℕ) → j < length kinds → AllFinite (get_or lows j nan) (get_or lows (256 + j) nan) (get_or lows (512 + j) nan) (get_or highs j nan) (get_or highs (256 + j) nan) (get_or highs (512 + j) nan)
+  shape-finite : (j : ℕ) → j < length kinds → AllFinite (faces_at lows highs j)
   shape-finite j h =
-      column_finite probe (shape_from (get_or kinds j 0) (drop (6 * j) numbers)) _ _ _ _ _ _ (get_or halves j 0) (columns.right j h)
+      column_finite probe (shape_from (get_or kinds j 0) (drop (6 * j) numbers)) _ (get_or halves j 0) (columns.right j h)
       (λ e. none-at-fault 16 0 (shape_cuts probe kinds numbers) none j (omega (arith, h, length-cuts probe kinds numbers)) (cut_at probe kinds numbers j h ∙ e))
 
   pub columns-finite : FiniteFaces (length kinds) lows highs

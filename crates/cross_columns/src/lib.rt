@@ -2,77 +2,70 @@
 #![tactic(auto)]
 
 ghost use Rattle.std.specs.Prelude.{◌≡◌, ◌+◌, ◌<◌, ◌≤◌, length, set};
-ghost use Rattle.cross_columns.specs.Columns.{Column, Columns, Sized};
+ghost use Rattle.cross_columns.specs.Columns.{Column, Columns as Filled};
 
-use cross_shapes::Shape;
+use cross_line::Drawing;
+use cross_shapes::{Block, Shape};
+
+// An axis is a part of the faces, with room for the shapes of a drawing.
+pub const PART: usize = cross_cuts::SHAPES;
+
+pub const FACES: usize = 3 * PART;
+
+// The shapes' faces, x, then y, then z; and of each shape 0 for a box, or the axis of a half-space, 1 more.
+#[derive(Drop)]
+pub struct Columns {
+    pub lows: [f64; FACES],
+    pub highs: [f64; FACES],
+    pub halves: [u32; PART],
+}
 
 // A shape's faces by axis, and 0 for a box, or the axis of a half-space, 1 more.
 #[derive(Drop)]
 struct Entry {
-    lx: f64,
-    ly: f64,
-    lz: f64,
-    hx: f64,
-    hy: f64,
-    hz: f64,
+    faces: Block,
     half: u32,
 }
 
 fn entry_of(shape: Shape) -> Entry
-    ensures { Column shape result.lx result.ly result.lz result.hx result.hy result.hz result.half }
+    ensures { Column shape result.faces result.half }
 {
     match shape {
         Shape::HalfSpace(axis, face) => Entry {
-            lx: face,
-            ly: face,
-            lz: face,
-            hx: face,
-            hy: face,
-            hz: face,
-            half: axis as u32 + 1,
+            faces: Block {
+                lx: face,
+                ly: face,
+                lz: face,
+                hx: face,
+                hy: face,
+                hz: face,
+            },
+            half: u32::from(axis) + 1,
         },
-        Shape::Block(a, b, c, d, e, f) => Entry {
-            lx: a,
-            ly: b,
-            lz: c,
-            hx: d,
-            hy: e,
-            hz: f,
-            half: 0,
-        },
+        Shape::Block(faces) => Entry { faces, half: 0 },
     }
 }
 
 // One number of each axis.
-fn put(x: f64, y: f64, z: f64, i: usize, faces: &mut [f64; 768])
-    requires { (i < 256) × (length faces.old ≡ 768) }
+fn put(x: f64, y: f64, z: f64, i: usize, faces: &mut [f64; FACES])
+    requires { i < 256 }
     ensures { faces.new ≡ set (set (set faces.old i x) (256 + i) y) (512 + i) z }
 {
-    let at_y = 256 + i;
-    let at_z = 512 + i;
     faces[i] = x;
-    faces[at_y] = y;
-    faces[at_z] = z;
+    faces[PART + i] = y;
+    faces[2 * PART + i] = z;
 }
 
 // Fills the columns.
-pub fn fill_columns(
-    kinds: &[u8],
-    numbers: &[f64],
-    lows: &mut [f64; 768],
-    highs: &mut [f64; 768],
-    halves: &mut [u32; 256],
-)
-    requires kinds_len_bound { length kinds.now ≤ 256 }
-    requires sized { Sized lows.old highs.old halves.old }
-    ensures { Columns kinds.now numbers.now (length kinds.now) lows.new highs.new halves.new }
+pub fn fill_columns(drawing: Drawing<'_>, columns: &mut Columns)
+    requires { length drawing.kinds.now ≤ 256 }
+    ensures { Filled drawing.entry.kinds.now drawing.entry.numbers.now (length drawing.entry.kinds.now) columns.new.lows columns.new.highs columns.new.halves }
 {
-    let mut i = 0usize;
-    while i < kinds.len() {
-        let entry = entry_of(cross_line::shape_at(kinds, numbers, i));
-        put(entry.lx, entry.ly, entry.lz, i, lows);
-        put(entry.hx, entry.hy, entry.hz, i, highs);
-        halves[i] = entry.half;
-        i += 1;
+    for i in 0..drawing.kinds.len() {
+        let entry = entry_of(cross_line::shape_at(drawing, i));
+        let faces = entry.faces;
+        put(faces.lx, faces.ly, faces.lz, i, &mut columns.lows);
+        put(faces.hx, faces.hy, faces.hz, i, &mut columns.highs);
+        columns.halves[i] = entry.half;
     }
 }

@@ -1,21 +1,17 @@
 -- How the code holds one line's crossings: what it meets of a shape, a key for each crossing, and what it has gathered so far.
-use Rattle.std.specs.Prelude.{ℕ, ◌+◌, ◌*◌, ◌/◌, ◌%◌, ◌≤◌, ◌≡◌, Bool, true, false, cond, List, [], ◌∷◌, ◌++◌, map, ◌≢◌, length, take, drop, get_or}
+use Rattle.std.specs.Prelude.{ℕ, ◌+◌, ◌*◌, ◌/◌, ◌%◌, ◌≤◌, ◌≡◌, true, false, List, [], ◌∷◌, ◌++◌, map, ◌≢◌, length, take, drop, get_or, Option, Some, None, Result, Ok, Err}
 use Rattle.outcome.specs.Outcome.{given, refused}
 use Rattle.cross_ranks.specs.Ranks.{unrank}
 use Rattle.cross_cuts.specs.Cuts.{Cut, fault, cut, sound, start_row, LineCrossing, crossed_at, crossings_from, faultless}
 use Rattle.cross_cuts.specs.declared.Met.{Met}
-use Rattle.cross_cuts.specs.declared.Met.TheVariants.{Fault, Never, Once, Twice}
-use Rattle.cross_cuts.specs.declared.Added.{Added}
-use Rattle.cross_cuts.specs.declared.Added.TheVariants as added
-use Rattle.cross_cuts.specs.declared.Row.{Row}
-use Rattle.cross_cuts.specs.declared.Row.TheVariants as row
+use Rattle.cross_cuts.specs.declared.Met.TheVariants.{Never, Once, Twice}
 
--- What the line has of a shape, by what the code meets: no, one or two crossings, each by its rank.
-abbrev pub cut_of : Met → Cut
-cut_of Fault = fault
-cut_of (Never inside) = cut inside []
-cut_of (Once inside a) = cut inside (unrank a ∷ [])
-cut_of (Twice a b) = cut false (unrank a ∷ unrank b ∷ [])
+-- What the line has of a shape, by what the code meets: none where the shape is at fault, else no, one or two crossings, each by its rank.
+abbrev pub cut_of : Option Met → Cut
+cut_of None = fault
+cut_of (Some (Never inside)) = cut inside []
+cut_of (Some (Once inside a)) = cut inside (unrank a ∷ [])
+cut_of (Some (Twice a b)) = cut false (unrank a ∷ unrank b ∷ [])
 
 -- A crossing's key rises as positions do, and at one position as shapes do.
 abbrev pub key_of : ℕ → ℕ → ℕ
@@ -23,9 +19,6 @@ key_of rank shape = rank * 256 + shape
 
 abbrev pub crossing_of : ℕ → LineCrossing
 crossing_of key = crossed_at (unrank (key / 256)) (key % 256)
-
-abbrev pub bit_of : Bool → ℕ
-bit_of inside = cond inside 1 0
 
 -- Room for w shapes, a byte and two keys each; i shapes and m crossings are there.
 pub record Held (w : ℕ) (starts keys : List ℕ) (i m : ℕ) : Type 0 where
@@ -40,11 +33,11 @@ pub record Gathered (cuts : List Cut) (starts keys : List ℕ) (i m : ℕ) : Typ
   pub started : take i starts ≡ start_row cuts
   pub keyed : map crossing_of (take m keys) ≡ crossings_from 0 cuts
 
--- One cut more: it is at fault, or it is there with the others.
-abbrev pub Adds : ℕ → Cut → List ℕ → List ℕ → ℕ → ℕ → List ℕ → List ℕ → Added → Type 0
-Adds w c starts keys i m starts' keys' added.Fault = c ≡ fault
-Adds w c starts keys i m starts' keys' (added.Count n) =
-    (sound c ≡ true) × Held w starts' keys' (i + 1) n × ((cuts : List Cut) → Gathered cuts starts keys i m → Gathered (cuts ++ (c ∷ [])) starts' keys' (i + 1) n)
+-- One cut more: it is not at fault, and it is there with the others.
+pub record Adds (w : ℕ) (c : Cut) (starts keys : List ℕ) (i m : ℕ) (starts' keys' : List ℕ) (n : ℕ) : Type 0 where
+  pub faultless_cut : sound c ≡ true
+  pub held : Held w starts' keys' (i + 1) n
+  pub gathered : (cuts : List Cut) → Gathered cuts starts keys i m → Gathered (cuts ++ (c ∷ [])) starts' keys' (i + 1) n
 
 -- No byte is another than before but that of shape i.
 pub record Elsewhere (i : ℕ) (starts starts' : List ℕ) : Type 0 where
@@ -64,6 +57,6 @@ pub record Complete (w number : ℕ) (all : List Cut) (starts keys : List ℕ) (
   pub none : faultless number 0 all ≡ given tt
 
 -- By cases: the first cut at fault, which is refused; or all of them are gathered.
-abbrev pub Ends : ℕ → ℕ → List Cut → List ℕ → List ℕ → Row → Type 0
-Ends w number all starts keys (row.Fault i) = faultless number 0 all ≡ refused number i
-Ends w number all starts keys (row.Count m) = Complete w number all starts keys (length all) m
+abbrev pub Ends : ℕ → ℕ → List Cut → List ℕ → List ℕ → Result ℕ ℕ → Type 0
+Ends w number all starts keys (Err i) = faultless number 0 all ≡ refused number i
+Ends w number all starts keys (Ok m) = Complete w number all starts keys (length all) m

@@ -49,9 +49,9 @@ unfolding half_space_cut box_cut
 shape_few probe (HalfSpace axis face) =
     let here = face_cut face (origin_on probe axis) (component_on probe axis) in
     few_of (ltb 2 axis) fault (cond (finite face) here fault) (omega arith) (few_of (finite face) here fault (face_few face (origin_on probe axis) (component_on probe axis)) (omega arith))
-shape_few probe (Block lx ly lz hx hy hz) =
-    let range = box_range probe lx ly lz hx hy hz in
-    few_of (good_pair lx hx && (good_pair ly hy && good_pair lz hz)) (crossed_twice range) fault (twice_few range) (omega arith)
+shape_few probe (Block b) =
+    let range = box_range probe b.lx b.ly b.lz b.hx b.hy b.hz in
+    few_of (good_pair b.lx b.hx && (good_pair b.ly b.hy && good_pair b.lz b.hz)) (crossed_twice range) fault (twice_few range) (omega arith)
 
 shapes_few : (probe : Probe) (i : ℕ) (shapes : List Shape) → length (crossings_from i (map (λ shape. shape_cut probe shape) shapes)) ≤ 2 * length shapes
 unfolding crossings_from

@@ -11,12 +11,11 @@ use lib.Ieee.{Float}
 use Rattle.outcome.specs.Outcome.{refused}
 use Rattle.cross_cuts.specs.Cuts.{line_crossings}
 use Rattle.cross_cuts.specs.Keys.{Held, Ends}
-use Rattle.cross_cuts.specs.declared.Row.{Row}
-use Rattle.cross_cuts.specs.declared.Row.TheVariants as row
+use Rattle.std.proofs.Common.{Result, Ok, Err}
 use Rattle.cross_answer.proofs.GiveLaws.{crossings-count}
 use Rattle.cross_shapes.specs.declared.Probe.{Probe}
 use Rattle.cross_line.specs.Crossing.{good_probe, shape_cuts}
-use Rattle.cross_line.specs.Making.{Gatherable, Gathers}
+use Rattle.cross_line.specs.Making.{Gatherable}
 use Rattle.cross_line.proofs.LentLaws.{length-cuts, cuts_in_range}
 use Rattle.cross_drawn.specs.Asking.{line_judged}
 use Rattle.cross_drawn.specs.Drawn.{lines_from, drawn}
@@ -33,16 +32,16 @@ module _ (kinds : List ℕ) (numbers : List Float) (probe : Probe) (w : Bool) (s
   unfolding line_judged
   bad_probe e = rw (sym says ∙ e)
 
-  pub lined : w ≡ true → (wide : ℕ) {bytes keys : List ℕ} {r : Row} → wide ≡ 256 → Gathers wide 16 (shape_cuts probe kinds numbers) bytes keys r → LineEnds kinds numbers probe bytes keys r
+  pub lined : w ≡ true → (wide : ℕ) (bytes keys : List ℕ) (r : Result ℕ ℕ) → wide ≡ 256 → Ends wide 16 (shape_cuts probe kinds numbers) bytes keys r → LineEnds kinds numbers probe bytes keys r
   unfolding line_judged
-  lined e wide {bytes} {keys} {r} sized gathers = by r (rw sized at gathers.ends)
+  lined e wide bytes keys r sized ends = by r (rw sized at ends)
     where
-      by : (r : Row) → Ends 256 16 (shape_cuts probe kinds numbers) bytes keys r → LineEnds kinds numbers probe bytes keys r
-      by (row.Fault i) ends = rw (sym says ∙ e) ends
-      by (row.Count m) ends = record { not_at_fault = rw (sym says ∙ e) ends.none; gathered = rw (length-cuts probe kinds numbers) at ends }
+      by : (r : Result ℕ ℕ) → Ends 256 16 (shape_cuts probe kinds numbers) bytes keys r → LineEnds kinds numbers probe bytes keys r
+      by (Err i) ends = rw (sym says ∙ e) ends
+      by (Ok m) ends = record { not_at_fault = rw (sym says ∙ e) ends.none; gathered = rw (length-cuts probe kinds numbers) at ends }
 
-pub all_gatherable : (kinds : List ℕ) (numbers : List Float) (probe : Probe) (bytes keys : List ℕ) → length kinds ≤ 256 → length bytes ≡ 256 → length keys ≡ 512 → Gatherable (shape_cuts probe kinds numbers) (length kinds) bytes keys
-all_gatherable kinds numbers probe bytes keys few b k = record { counted = sym (length-cuts probe kinds numbers); few = few; room = omega arith; twice = omega arith }
+pub all_gatherable : (n : ℕ) (bytes keys : List ℕ) → n ≤ 256 → length bytes ≡ 256 → length keys ≡ 512 → Gatherable n bytes keys
+all_gatherable n bytes keys few b k = record { few = few; room = omega arith; twice = omega arith }
 
 module _ (kinds : List ℕ) (numbers : List Float) (probe : Probe) (bytes keys : List ℕ) (m : ℕ) (sound : Sound kinds numbers probe bytes keys m) where
   pub sound-held : Held 256 bytes keys (length kinds) m

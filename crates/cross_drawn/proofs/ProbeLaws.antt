@@ -1,11 +1,12 @@
 -- The lines that are lent, one by one.
-use Prim.Native.Nat.{ℕ, zero, suc, ◌+◌, ◌*◌, ◌/◌, ◌%◌, ◌<◌}
+use Prim.Native.Nat.{ℕ, zero, suc, ◌+◌, ◌*◌, ◌/◌, ◌<◌}
 use native.Mathlib.Omega.{arith}
 use mathlib.Core.Path.{◌≡◌, refl, sym, ap, ◌∙◌}
 use mathlib.Core.List.{List}
 use lib.ListN.{length, drop, get_or}
 use lib.Seq.{drop-drop, get_or-drop}
 use lib.Ieee.{Float, nan}
+use Rattle.std.specs.Int.{div_ceil}
 use Rattle.cross_shapes.specs.declared.Probe.{Probe}
 use Rattle.cross_drawn.specs.Lent.{probe_from, probes_from, probes_of}
 
@@ -26,11 +27,8 @@ pub length_probes : (lines : List Float) → length (probes_of lines) ≡ (lengt
 length_probes lines = length_probes-from ((length lines + 5) / 6) lines
 
 -- as the code counts them
-pub whole-lines : (lines : List Float) → length lines % 6 ≡ 0 → length lines / 6 ≡ length (probes_of lines)
-whole-lines lines e = omega (arith, length_probes lines)
-
-pub line_begun : (lines : List Float) → (length lines % 6 ≡ 0 → ⊥) → length lines / 6 + 1 ≡ length (probes_of lines)
-line_begun lines n = omega (arith, n, length_probes lines)
+pub lines_counted : (lines : List Float) → div_ceil (length lines) 6 ≡ length (probes_of lines)
+lines_counted lines = omega (arith, length_probes lines)
 
 probe_from_lem : (n : ℕ) (lines : List Float) (k : ℕ) (d : Probe) → k < n → get_or (probes_from n lines) k d ≡ probe_from (drop (6 * k) lines)
 unfolding probes_from

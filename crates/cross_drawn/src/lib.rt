@@ -5,19 +5,15 @@ ghost use Rattle.std.specs.Prelude.{◌≡◌, ◌*◌, ◌≤◌, length, drop}
 ghost use Rattle.cross_drawn.specs.Lent.{probe_from, probes_of};
 ghost use Rattle.cross_drawn.specs.Gathered.{LineEnds};
 
-use cross_cuts::Row;
-use cross_line::Maker;
+use cross_line::Drawing;
 use cross_shapes::Probe;
 
 // How many lines there are: a line begun counts.
+#[tactic(auto, using(crate::proofs::ProbeLaws::lines_counted))]
 pub fn line_count(lines: &[f64]) -> usize
     ensures { result ≡ length (probes_of lines.now) }
 {
-    let n = lines.len();
-    if n % 6 == 0 {
-        return n / 6;
-    }
-    n / 6 + 1
+    lines.len().div_ceil(6)
 }
 
 pub fn probe_at(lines: &[f64], k: usize) -> Probe
@@ -35,21 +31,19 @@ pub fn probe_at(lines: &[f64], k: usize) -> Probe
     }
 }
 
-// One line judged, and what it has of its shapes gathered.
+// One line judged, and what it has of its shapes gathered: how many crossings there are, or the place of the first fault.
 pub fn one_line(
     probe: Probe,
-    kinds: &[u8],
-    numbers: &[f64],
+    drawing: Drawing<'_>,
     bytes: &mut [u8],
     keys: &mut [u64],
-) -> Row
-    requires { (length kinds.now ≤ 256) × (length bytes.old ≡ 256) × (length keys.old ≡ 512) }
-    ensures { LineEnds kinds.now numbers.now probe bytes.new keys.new result }
+) -> Result<usize, usize>
+    requires { (length drawing.kinds.now ≤ 256) × (length bytes.old ≡ 256) × (length keys.old ≡ 512) }
+    ensures { LineEnds drawing.entry.kinds.now drawing.entry.numbers.now probe bytes.new keys.new result }
 {
-    if cross_line::good_probe(probe) {
-        let balls = [0i32; 0];
-        let n = kinds.len();
-        return cross_line::gather(Maker::Drawn(probe), kinds, numbers, &balls, n, bytes, keys);
+    if !cross_line::good_probe(probe) {
+        return Err(cross_line::LINE);
     }
-    Row::Fault(65535)
+    let n = drawing.kinds.len();
+    cross_line::gather(|i| cross_line::meet_at(probe, drawing, i), n, bytes, keys)
 }

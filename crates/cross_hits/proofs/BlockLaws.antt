@@ -11,10 +11,10 @@ use Rattle.word_bits.specs.Words.{bit}
 use Rattle.word_bits.specs.Lowest.{Lowest, Others}
 use Rattle.word_bits.proofs.Digits.{bit-and}
 use Rattle.word_bits.proofs.Walk.{Rest, rest-starts, rest_up, rest-none, rest-on, rest-ends}
-use Rattle.cross_cuts.specs.Cuts.{Cut, fault, cut}
+use Rattle.outcome.specs.Outcome.{refused}
+use Rattle.cross_cuts.specs.Cuts.{Cut, fault, cut, faultless}
 use Rattle.cross_cuts.specs.Keys.{Held, Going, Ends}
-use Rattle.cross_cuts.specs.declared.Row.{Row}
-use Rattle.cross_cuts.specs.declared.Row.TheVariants as row
+use Rattle.std.proofs.Common.{Result, Ok, Err}
 use Rattle.cross_cuts.proofs.GatherLaws.{going_starts, going_past, going_ends}
 use Rattle.cross_shapes.specs.Shapes.{finite}
 use Rattle.cross_shapes.specs.declared.Probe.{Probe}
@@ -93,14 +93,14 @@ module _ {probe : Probe} {cuts : List Cut} {lows highs : List Float} {alone : Al
         let p = at.crosses.over j n (off (j / 16) (omega arith) (omega arith)) in
         (p.1, at.clear.zero j h n p.0)))
 
-    gathered : ((b : ℕ) → at.done ≤ b → 16 * b < length cuts → bit alone.left b ≡ false) → Ends 256 16 cuts bytes keys (row.Count m)
+    gathered : ((b : ℕ) → at.done ≤ b → 16 * b < length cuts → bit alone.left b ≡ false) → Ends 256 16 cuts bytes keys (Ok m)
     gathered off = going_ends 16 cuts bytes keys (length cuts) m (past (length cuts) (omega arith) (omega arith) off) (omega arith)
 
-    pub gather_none : rest ≡ 0 → Ends 256 16 cuts bytes keys (row.Count m)
+    pub gather_none : rest ≡ 0 → Ends 256 16 cuts bytes keys (Ok m)
     gather_none e = gathered (λ b h k. rest-ends (subst (λ (r : ℕ). Rest alone.left r at.done) e at.walked) b h)
 
     module _ {b : ℕ} (low : Lowest rest b) where
-      pub gather_last : alone.shapes ≤ 16 * b → Ends 256 16 cuts bytes keys (row.Count m)
+      pub gather_last : alone.shapes ≤ 16 * b → Ends 256 16 cuts bytes keys (Ok m)
       gather_last over = gathered (λ c h k. rest-none at.walked low c h (omega (arith, at.crosses.counted)))
 
       module _ (more : 16 * b < alone.shapes) where
@@ -179,10 +179,9 @@ module _ {probe : Probe} {cuts : List Cut} {lows highs : List Float} {alone : Al
           pub greaters_further : Beside alone.start (alone.start + 256) g₀ g'
           greaters_further = further at.greaters_beside bg
 
-          pub gather_on : (bytes' keys' : List ℕ) (size : ℕ) → size ≡ min 16 (alone.shapes - 16 * b) → (found : Row) → Reached cuts halves bytes' keys' (16 * b + size) found → (k : ℕ) → found ≡ row.Count k → {r : ℕ} → Others rest r
+          pub gather_on : (bytes' keys' : List ℕ) (size : ℕ) → size ≡ min 16 (alone.shapes - 16 * b) → (k : ℕ) → Reached cuts halves bytes' keys' (16 * b + size) (Ok k) → {r : ℕ} → Others rest r
               → Gathering probe cuts lows highs alone masks halves l₀ g₀ l' g' bytes' keys' r k
-          gather_on bytes' keys' size es found whole k counted {r} others =
-              let reached : Reached cuts halves bytes' keys' (16 * b + size) (row.Count k) = rw counted at whole in
+          gather_on bytes' keys' size es k reached {r} others =
               let n = at.crosses.counted in
               let e : 16 * b + size ≡ min (16 * (b + 1)) (length cuts) = omega arith in
               record {
@@ -195,5 +194,5 @@ module _ {probe : Probe} {cuts : List Cut} {lows highs : List Float} {alone : Al
                 clear = subst (λ (i : ℕ). Clear halves bytes' i (length cuts)) e reached.1;
               }
 
-pub fault-ends : (cuts : List Cut) (halves bytes keys : List ℕ) (stop : ℕ) (found : Row) → Reached cuts halves bytes keys stop found → (i : ℕ) → found ≡ row.Fault i → Ends 256 16 cuts bytes keys (row.Fault i)
-fault-ends cuts halves bytes keys stop found reached i e = rw e at reached
+pub fault-ends : (cuts : List Cut) (bytes keys : List ℕ) (i : ℕ) (r : Result ℕ ℕ) → faultless 16 0 cuts ≡ refused 16 i → r ≡ Err i → Ends 256 16 cuts bytes keys r
+fault-ends cuts bytes keys i r h e = rw e h

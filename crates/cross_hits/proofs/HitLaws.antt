@@ -1,16 +1,17 @@
 -- What one axis says beside two together, of one shape and of sixteen.
 use mathlib.Core.Path.{◌≡◌, refl, sym, ap, ◌∙◌, subst}
-use mathlib.Core.Bool.{Bool, true, false, cond, not, ◌&&◌, ◌||◌, true≢false}
+use mathlib.Core.Bool.{Bool, true, false, cond, not, ◌&&◌, ◌||◌, true≢false, and-true, and-false, or-false}
 use mathlib.Core.List.{List, [], ◌∷◌}
 use mathlib.Core.Option.{Option, none, some}
 use Prim.Native.Nat.{ℕ, zero, suc, ◌+◌, ◌-◌, ◌<◌, ◌≤◌, min, max}
 use native.Mathlib.Omega.{arith}
 use lib.Dec.{eqb, ltb}
-use borrow.Author.Tests.{eqb-true, eq-eqb, ne_eqb, ltb-false, lt-ltb, le-ltb}
+use borrow.Author.Tests.{eqb-true, eqb-false, eq-eqb, ne_eqb, ltb-false, lt-ltb, le-ltb}
 use lib.IntN.{ℤ}
 use lib.ListN.{length, get_or}
 use lib.Ieee.{Float, nan, lt, is_nan, binary64, of_bits}
-use Rattle.word_bits.specs.Words.{Picked}
+use Rattle.word_bits.specs.Words.{bit, WithBit, Picked}
+use Rattle.word_bits.proofs.Digits.{bit-none}
 use Rattle.cross_ranks.specs.Ranks.{unrank}
 use Rattle.cross_positions.specs.Positions.{distance, nearest_whole, in_range, position}
 use Rattle.cross_quick.specs.Given.{given, is_there}
@@ -18,13 +19,14 @@ use Rattle.cross_quick.proofs.GivenLaws.{found_rank, given-number}
 use Rattle.cross_cuts.specs.Cuts.{Cut, fault, cut}
 use Rattle.cross_cuts.specs.Keys.{cut_of}
 use Rattle.cross_cuts.specs.declared.Met.{Met}
-use Rattle.cross_cuts.specs.declared.Met.TheVariants.{Fault, Never, Once, Twice}
+use Rattle.cross_cuts.specs.declared.Met.TheVariants.{Never, Once, Twice}
+use Rattle.std.proofs.Common.{Option as Opt, Some, None}
 use Rattle.cross_shapes.specs.Shapes.{finite, is_zero, origin_on, component_on, face_cut, half_space_cut, axis_range}
 use Rattle.cross_shapes.specs.declared.Probe.{Probe}
 use Rattle.cross_shapes.proofs.FloatLaws.{zero_is}
 use Rattle.cross_axis.specs.Axes.{Codes, range_at, Fillable, Filled, Beside}
 use Rattle.cross_axis.specs.declared.Along.{Along}
-use Rattle.cross_hits.specs.Hits.{box_met, enters, leaves, level_at, slant_at, MetAt, Told, Crosses}
+use Rattle.cross_hits.specs.Hits.{Chosen, box_met, enters, leaves, level_at, slant_at, MetAt, Told, Crosses}
 use Rattle.cross_hits.specs.declared.Alone.{Alone}
 
 -- ---- one shape
@@ -54,17 +56,46 @@ no_half half t h = by (eqb half 0) refl h
 box_on : (half : ℕ) (t : Bool) → half ≡ 0 → (not (eqb half 0) || t) ≡ true → t ≡ true
 box_on half t e h = rw (eq-eqb half 0 e) at h
 
+-- ---- bits put on one after another, by what is answered of each
+pub chosen_starts : {Gives : ℕ → Bool → Type 0} → Chosen Gives 0 0
+chosen_starts = record { are = λ c h. absurd (omega arith); none = λ c h l. bit-none c }
+
+pub chosen_on : {Gives : ℕ → Bool → Type 0} {n w : ℕ} {on : Bool} {r : ℕ} → n < 32 → Chosen Gives n w → Gives n on → WithBit w n on r → Chosen Gives (n + 1) r
+chosen_on {Gives} {n} {w} {on} {r} inside before says put = record { are = λ c h. go c h (eqb c n) refl; none = λ c h l. past c h l }
+  where
+    go : (c : ℕ) → c < n + 1 → (t : Bool) → eqb c n ≡ t → Gives c (bit r c)
+    go c h true q =
+        let e : n ≡ c = sym (eqb-true c n q) in
+        let b : on ≡ bit r c = sym (put.is c (omega arith) ∙ rw (q, ← e, before.none n (omega arith) inside, and-true on)) in
+        subst (Gives c) b (subst (λ (i : ℕ). Gives i on) e says)
+    go c h false q =
+        let d : c ≡ n → ⊥ = eqb-false c n q in
+        let l : c < n = omega (arith, d) in
+        subst (Gives c) (sym (put.is c (omega arith) ∙ rw (q, and-false on, or-false (bit w c)))) (before.are c l)
+
+    past : (c : ℕ) → n + 1 ≤ c → c < 32 → bit r c ≡ false
+    past c h l =
+        let d : c ≡ n → ⊥ = λ e. omega arith in
+        put.is c l ∙ rw (ne_eqb c n d, and-false on, before.none c (omega arith) l)
+
+pub chosen_ends : {Gives : ℕ → Bool → Type 0} {n w : ℕ} (all : ℕ) → n ≤ all → all ≤ n → Chosen Gives n w → Chosen Gives all w
+chosen_ends {Gives} {n} {w} all h k at = let e : n ≡ all = omega arith in subst (λ (m : ℕ). Chosen Gives m w) e at
+
+-- where each answer is this one
+pub chosen_picked : {Gives : ℕ → Bool → Type 0} {n w : ℕ} (these : ℕ → Bool) → ((c : ℕ) (b : Bool) → Gives c b → b ≡ these c) → Chosen Gives n w → Picked these n w
+chosen_picked these says at = record { are = λ c h. says c _ (at.are c h); none = at.none }
+
 -- ---- a half-space
 there_not : (o : Option ℤ) → is_there o ≡ false → o ≡ none
 there_not none e = refl
 there_not (some z) e = absurd (true≢false e)
 
 module _ (face origin component : Float) (w : Bool) (says : w ≡ is_zero component) where
-  pub face_level : w ≡ true → cut_of (Never (lt origin face)) ≡ face_cut face origin component
+  pub face_level : w ≡ true → cut_of (Some (Never (lt origin face))) ≡ face_cut face origin component
   face_level e = sym (rw (sym says ∙ e))
 
   module _ (crossed : w ≡ false) (p : Float) (far : p ≡ distance face origin component) (good : Bool) (told : good ≡ given p) where
-    pub face_once : good ≡ true → (rank : ℕ) → (given p ≡ true → some (unrank rank) ≡ nearest_whole p) → cut_of (Once (lt (of_bits binary64 0) component) rank) ≡ face_cut face origin component
+    pub face_once : good ≡ true → (rank : ℕ) → (given p ≡ true → some (unrank rank) ≡ nearest_whole p) → cut_of (Some (Once (lt (of_bits binary64 0) component) rank)) ≡ face_cut face origin component
     face_once e rank m =
         let at : position face origin component ≡ some (unrank rank) = ap (λ (x : Float). in_range (nearest_whole x)) (sym far) ∙ sym (found_rank p rank told e (m (sym told ∙ e))) in
         ap (λ (z : Float). cut (lt z component) (unrank rank ∷ [])) zero_is ∙ sym (rw (sym says ∙ crossed, at))
@@ -72,7 +103,7 @@ module _ (face origin component : Float) (w : Bool) (says : w ≡ is_zero compon
     pub face_number : good ≡ true → is_nan p ≡ false
     face_number e = given-number p (sym told ∙ e)
 
-    pub face_nowhere : good ≡ false → cut_of Fault ≡ face_cut face origin component
+    pub face_nowhere : good ≡ false → cut_of None ≡ face_cut face origin component
     unfolding given
     face_nowhere e =
         let at : position face origin component ≡ none = ap (λ (x : Float). in_range (nearest_whole x)) (sym far) ∙ there_not (in_range (nearest_whole p)) (sym told ∙ e) in
@@ -89,7 +120,7 @@ module _ (probe : Probe) (half : ℕ) (face : Float) (w : Bool) (says : w ≡ fi
   abbrev axis : ℕ
   axis = half - 1
 
-  pub half_unsound : w ≡ false → cut_of Fault ≡ half_space_cut probe axis face
+  pub half_unsound : w ≡ false → cut_of None ≡ half_space_cut probe axis face
   unfolding half_space_cut
   half_unsound e = sym (ap (λ (b : Bool). cond (ltb 2 axis) fault (cond b (face_cut face (origin_on probe axis) (component_on probe axis)) fault)) (sym says ∙ e) ∙ by (ltb 2 axis))
     where
@@ -97,11 +128,11 @@ module _ (probe : Probe) (half : ℕ) (face : Float) (w : Bool) (says : w ≡ fi
       by true = refl
       by false = refl
 
-  pub half_beyond : 0 < half → (half ≡ 1 → ⊥) → (half ≡ 2 → ⊥) → (half ≡ 3 → ⊥) → cut_of Fault ≡ half_space_cut probe axis face
+  pub half_beyond : 0 < half → (half ≡ 1 → ⊥) → (half ≡ 2 → ⊥) → (half ≡ 3 → ⊥) → cut_of None ≡ half_space_cut probe axis face
   unfolding half_space_cut
   half_beyond h a b c = sym (rw (lt-ltb 2 axis (above_3 half h a b c)))
 
-  module _ (good : w ≡ true) (m : Met) where
+  module _ (good : w ≡ true) (m : Opt Met) where
     half_on : axis ≤ 2 → cut_of m ≡ face_cut face (origin_on probe axis) (component_on probe axis) → cut_of m ≡ half_space_cut probe axis face
     unfolding half_space_cut
     half_on h e = e ∙ sym (rw (le-ltb 2 axis h, sym says ∙ good))
@@ -126,13 +157,13 @@ module _ (probe : Probe) (cuts : List Cut) (alone : Alone) (halves : List ℕ) (
     met : box_met a b ≡ get_or cuts i fault
     met = ap (λ (x : ℕ). box_met x b) ea ∙ ap (λ (y : ℕ). box_met (enters alone lessers i) y) eb ∙ sym (at.box box)
 
-    pub met-twice : a < b → cut_of (Twice a b) ≡ get_or cuts i fault
+    pub met-twice : a < b → cut_of (Some (Twice a b)) ≡ get_or cuts i fault
     met-twice h = sym (rw (lt-ltb a b h)) ∙ met
 
-    pub met_never : b ≤ a → cut_of (Never false) ≡ get_or cuts i fault
+    pub met_never : b ≤ a → cut_of (Some (Never false)) ≡ get_or cuts i fault
     met_never h = sym (rw (le-ltb a b h)) ∙ met
 
-  pub met_half : (get_or halves i 0 ≡ 0 → ⊥) → (r : Met) → cut_of r ≡ half_space_cut probe (get_or halves i 0 - 1) (get_or lows i nan) → MetAt probe cuts alone halves lows lessers greaters i → cut_of r ≡ get_or cuts i fault
+  pub met_half : (get_or halves i 0 ≡ 0 → ⊥) → (r : Opt Met) → cut_of r ≡ half_space_cut probe (get_or halves i 0 - 1) (get_or lows i nan) → MetAt probe cuts alone halves lows lessers greaters i → cut_of r ≡ get_or cuts i fault
   met_half other r meets at = meets ∙ sym (at.half other)
 
 -- ---- what the third axis says of sixteen shapes

@@ -12,9 +12,7 @@ use Rattle.word_bits.proofs.Walk.{Rest, rest-starts, rest_up, rest-here, rest-no
 use Rattle.cross_cuts.specs.Cuts.{Cut, fault, cut}
 use Rattle.cross_cuts.specs.Keys.{cut_of, Held, Adds, Elsewhere, Going}
 use Rattle.cross_cuts.specs.declared.Met.{Met}
-use Rattle.cross_cuts.specs.declared.Added.{Added}
-use Rattle.cross_cuts.specs.declared.Added.TheVariants as added
-use Rattle.cross_cuts.specs.declared.Row.TheVariants as row
+use Rattle.std.proofs.Common.{Option, None, Ok, Err}
 use Rattle.cross_cuts.proofs.GatherLaws.{going_fault, going_on, going_past}
 use Rattle.cross_shapes.specs.declared.Probe.{Probe}
 use Rattle.cross_hits.specs.Hits.{MetAt, Begun, Clear, Reached}
@@ -45,11 +43,10 @@ module _ {block : Block} {bytes keys : List ℕ} {rest m z : ℕ} (at : Walked b
   pub walk_here : block.start + z < length bytes
   walk_here = omega (arith, at.held.starts_sized)
 
-  pub walk_on : (met : Met) (bytes' keys' : List ℕ) (a : Added) (n r : ℕ) → Adds (length bytes) (cut_of met) bytes keys (block.start + z) m bytes' keys' a → a ≡ added.Count n → Others rest r → Walked block bytes' keys' r n
-  walk_on met bytes' keys' a n r adds e others =
-      let counted : Adds 256 (cut_of met) bytes keys (block.start + z) m bytes' keys' (added.Count n) = rw (at.held.starts_sized, e) at adds in
+  pub walk_on : {c : Cut} {bytes' keys' : List ℕ} {n r : ℕ} → Adds (length bytes) c bytes keys (block.start + z) m bytes' keys' n → Others rest r → Walked block bytes' keys' r n
+  walk_on {c} {bytes'} {keys'} {n} adds others =
       let next : block.start + z + 1 ≡ block.start + (z + 1) = omega arith in
-      record { done = z + 1; walked = rest-on at.walked low others; held = subst (λ (i : ℕ). Held 256 bytes' keys' i n) next counted.1 }
+      record { done = z + 1; walked = rest-on at.walked low others; held = subst (λ (i : ℕ). Held 256 bytes' keys' i n) next (rw at.held.starts_sized at adds.held) }
 
 -- ---- what is gathered
 pub record Visiting (probe : Probe) (cuts : List Cut) (alone : Alone) (halves : List ℕ) (lows : List Float) (lessers greaters bytes₀ keys₀ : List ℕ) (block : Block) (bytes keys : List ℕ) (rest m : ℕ) : Type 0 where
@@ -93,50 +90,48 @@ module _ {probe : Probe} {alone : Alone} {halves : List ℕ} {lows : List Float}
         let q = subst (λ (k : ℕ). (get_or halves k 0 ≡ 0) × (get_or cuts k fault ≡ cut false [])) i p in
         (q.1, at.clear.zero j h (omega arith) q.0)))
 
-    visit_ends : ((c : ℕ) → at.done ≤ c → c < block.size → bit block.hits c ≡ false) → Reached cuts halves bytes keys (block.start + block.size) (row.Count m)
+    visit_ends : ((c : ℕ) → at.done ≤ c → c < block.size → bit block.hits c ≡ false) → Reached cuts halves bytes keys (block.start + block.size) (Ok m)
     visit_ends off =
         let s = at.short in
         (past block.size s (omega arith) off, record { zero = λ j h l z. at.clear.zero j (omega arith) l z })
 
-    module _ {z : ℕ} (low : Lowest rest z) (more : z < block.size) (met : Met) (says : MetAt probe cuts alone halves lows lessers greaters (block.start + z) → cut_of met ≡ get_or cuts (block.start + z) fault)
-        (bytes' keys' : List ℕ) (a : Added) (adds : Adds (length bytes) (cut_of met) bytes keys (block.start + z) m bytes' keys' a) where
+    module _ {z : ℕ} (low : Lowest rest z) (more : z < block.size) {c : Cut} (says : MetAt probe cuts alone halves lows lessers greaters (block.start + z) → c ≡ get_or cuts (block.start + z) fault) where
       here : Going 256 16 cuts bytes keys (block.start + z) m
       here = past z (rest_up at.walked low) (omega arith) (rest-none at.walked low)
 
       inside : block.start + z < length cuts
       inside = let w = at.begun.within in omega arith
 
-      in_all : Adds 256 (cut_of met) bytes keys (block.start + z) m bytes' keys' a
-      in_all = rw at.going.held.starts_sized at adds
-
-      is : cut_of met ≡ get_or cuts (block.start + z) fault
+      is : c ≡ get_or cuts (block.start + z) fault
       is = says (at.begun.told.on z more (rest-here at.walked low))
 
-      pub visit_fault : a ≡ added.Fault → Reached cuts halves bytes' keys' (block.start + block.size) (row.Fault (block.start + z))
-      visit_fault e = going_fault 16 cuts bytes keys (block.start + z) m here inside (cut_of met) is bytes' keys' a in_all e
+      pub visit_fault : c ≡ fault → Reached cuts halves bytes keys (block.start + block.size) (Err (block.start + z))
+      visit_fault e = going_fault 16 cuts bytes keys (block.start + z) m here inside c is e
 
-      pub visit_on : (n r : ℕ) → a ≡ added.Count n → Elsewhere (block.start + z) bytes bytes' → Others rest r → Visiting probe cuts alone halves lows lessers greaters bytes₀ keys₀ block bytes' keys' r n
-      visit_on n r e elsewhere others =
+      pub visit_on : {bytes' keys' : List ℕ} {n r : ℕ} → Adds (length bytes) c bytes keys (block.start + z) m bytes' keys' n → Elsewhere (block.start + z) bytes bytes' → Others rest r
+          → Visiting probe cuts alone halves lows lessers greaters bytes₀ keys₀ block bytes' keys' r n
+      visit_on {bytes'} {keys'} {n} adds elsewhere others =
           let next : block.start + z + 1 ≡ block.start + (z + 1) = omega arith in
           let up = rest_up at.walked low in
+          let in_all : Adds 256 c bytes keys (block.start + z) m bytes' keys' n = rw at.going.held.starts_sized at adds in
           record {
             begun = at.begun;
             done = z + 1;
             short = omega arith;
             walked = rest-on at.walked low others;
-            going = subst (λ (i : ℕ). Going 256 16 cuts bytes' keys' i n) next (going_on 16 cuts bytes keys (block.start + z) m here inside (cut_of met) is bytes' keys' a in_all n e);
+            going = subst (λ (i : ℕ). Going 256 16 cuts bytes' keys' i n) next (going_on 16 cuts bytes keys (block.start + z) m here inside c is bytes' keys' n in_all);
             clear = record { zero = λ j h l z'. elsewhere.same j (λ q. omega arith) ∙ at.clear.zero j (omega arith) l z' };
           }
 
   -- no bit that is on is left in the block
   pub visit_last : {bytes keys : List ℕ} {rest m z : ℕ} → Visits probe alone halves lows lessers greaters bytes₀ keys₀ block bytes keys rest m → Lowest rest z → block.size ≤ z
-      → (cuts : List Cut) → Begun probe cuts alone halves lows lessers greaters bytes₀ keys₀ block → Reached cuts halves bytes keys (block.start + block.size) (row.Count m)
+      → (cuts : List Cut) → Begun probe cuts alone halves lows lessers greaters bytes₀ keys₀ block → Reached cuts halves bytes keys (block.start + block.size) (Ok m)
   visit_last visits low past cuts begun =
       let at = visits cuts begun in
       visit_ends at (λ c h l. rest-none at.walked low c h (omega arith))
 
   pub visit_none : {bytes keys : List ℕ} {rest m : ℕ} → Visits probe alone halves lows lessers greaters bytes₀ keys₀ block bytes keys rest m → rest ≡ 0
-      → (cuts : List Cut) → Begun probe cuts alone halves lows lessers greaters bytes₀ keys₀ block → Reached cuts halves bytes keys (block.start + block.size) (row.Count m)
+      → (cuts : List Cut) → Begun probe cuts alone halves lows lessers greaters bytes₀ keys₀ block → Reached cuts halves bytes keys (block.start + block.size) (Ok m)
   visit_none visits e cuts begun =
       let at = visits cuts begun in
       visit_ends at (λ c h l. rest-ends (subst (λ (r : ℕ). Rest block.hits r at.done) e at.walked) c h)

@@ -1,5 +1,5 @@
 -- What an axis says of every shape beside what the two others say together, and what is gathered of it.
-use Rattle.std.specs.Prelude.{ℕ, ◌+◌, ◌-◌, ◌/◌, ◌%◌, ◌<◌, ◌≤◌, min, max, ◌≡◌, Bool, true, false, cond, not, ◌&&◌, ◌||◌, ◌≢◌, List, [], ◌∷◌, ltb, eqb, length, get_or, Float}
+use Rattle.std.specs.Prelude.{Result, Ok, Err, ℕ, ◌+◌, ◌-◌, ◌/◌, ◌%◌, ◌<◌, ◌≤◌, min, max, ◌≡◌, Bool, true, false, cond, not, ◌&&◌, ◌||◌, ◌≢◌, List, [], ◌∷◌, ltb, eqb, length, get_or, Float}
 use Rattle.std.specs.Float.{nan}
 use Rattle.std.specs.Float.Ieee.{lt}
 use Rattle.outcome.specs.Outcome.{refused}
@@ -13,8 +13,6 @@ use Rattle.cross_hits.specs.declared.Alone.{Alone}
 use Rattle.cross_hits.specs.declared.Block.{Block}
 use Rattle.cross_cuts.specs.Cuts.{Cut, fault, cut, faultless}
 use Rattle.cross_cuts.specs.Keys.{Going}
-use Rattle.cross_cuts.specs.declared.Row.{Row}
-use Rattle.cross_cuts.specs.declared.Row.TheVariants as row
 
 -- A box that is entered at one rank and left at another: "two crossings if the first is smaller, else none".
 abbrev pub box_met : ℕ → ℕ → Cut
@@ -38,6 +36,11 @@ level_at alone halves lows highs i = is_half halves i || (lt (get_or lows (alone
 -- A half-space, or a box that is crossed.
 abbrev pub slant_at : Alone → List ℕ → List ℕ → List ℕ → ℕ → Bool
 slant_at alone halves lessers greaters i = is_half halves i || ltb (enters alone lessers i) (leaves alone greaters i)
+
+-- The first n bits of a word of 32 are answers that may be given, and the others are off.
+pub record Chosen (Gives : ℕ → Bool → Type 0) (n w : ℕ) : Type 0 where
+  pub are : (c : ℕ) → c < n → Gives c (bit w c)
+  pub none : (c : ℕ) → n ≤ c → c < 32 → bit w c ≡ false
 
 pub record Sized (alone : Alone) (halves lessers greaters : List ℕ) : Type 0 where
   pub inside : alone.start ≤ 512
@@ -82,9 +85,9 @@ pub record Clear (halves bytes : List ℕ) (start stop : ℕ) : Type 0 where
   pub zero : (j : ℕ) → start ≤ j → j < stop → get_or halves j 0 ≡ 0 → get_or bytes j 0 ≡ 0
 
 -- The first shape at fault; or the shapes below stop are gathered, and no byte of a box from there on is set.
-abbrev pub Reached : List Cut → List ℕ → List ℕ → List ℕ → ℕ → Row → Type 0
-Reached all halves bytes keys stop (row.Fault i) = faultless 16 0 all ≡ refused 16 i
-Reached all halves bytes keys stop (row.Count m) = Going 256 16 all bytes keys stop m × Clear halves bytes stop (length all)
+abbrev pub Reached : List Cut → List ℕ → List ℕ → List ℕ → ℕ → Result ℕ ℕ → Type 0
+Reached all halves bytes keys stop (Err i) = faultless 16 0 all ≡ refused 16 i
+Reached all halves bytes keys stop (Ok m) = Going 256 16 all bytes keys stop m × Clear halves bytes stop (length all)
 
 -- A block before it is gathered: the shapes before it are.
 pub record Begun (probe : Probe) (cuts : List Cut) (alone : Alone) (halves : List ℕ) (lows : List Float) (lessers greaters bytes keys : List ℕ) (block : Block) : Type 0 where

@@ -102,14 +102,14 @@ module _ (probe : Probe) (reach : Reach) (x : AllGiven reach.x probe.ox probe.dx
   shape-sound (HalfSpace axis face) w =
       rw (le-ltb 2 axis w.an_axis, w.a_number)
       (face_sound (on axis reach.x reach.y reach.z) (origin_on probe axis) (component_on probe axis) (on-axis axis (eqb axis 0) (eqb axis 1) refl refl) face w.a_number w.reached)
-  shape-sound (Block lx ly lz hx hy hz) w =
-      let rx = axis-right reach.x probe.ox probe.dx x lx hx w.0 in
-      let ry = axis-right reach.y probe.oy probe.dy y ly hy w.1.0 in
-      let rz = axis-right reach.z probe.oz probe.dz z lz hz w.1.1 in
-      let xy = meet (axis_range lx hx probe.ox probe.dx) (axis_range ly hy probe.oy probe.dy) in
+  shape-sound (Block b) w =
+      let rx = axis-right reach.x probe.ox probe.dx x b.lx b.hx w.0 in
+      let ry = axis-right reach.y probe.oy probe.dy y b.ly b.hy w.1.0 in
+      let rz = axis-right reach.z probe.oz probe.dz z b.lz b.hz w.1.1 in
+      let xy = meet (axis_range b.lx b.hx probe.ox probe.dx) (axis_range b.ly b.hy probe.oy probe.dy) in
       rw (w.0.sound, w.1.0.sound, w.1.1.sound)
-      (twice-sound (meet xy (axis_range lz hz probe.oz probe.dz))
-      (meet_right xy (axis_range lz hz probe.oz probe.dz) (meet_right (axis_range lx hx probe.ox probe.dx) (axis_range ly hy probe.oy probe.dy) rx ry) rz))
+      (twice-sound (meet xy (axis_range b.lz b.hz probe.oz probe.dz))
+      (meet_right xy (axis_range b.lz b.hz probe.oz probe.dz) (meet_right (axis_range b.lx b.hx probe.ox probe.dx) (axis_range b.ly b.hy probe.oy probe.dy) rx ry) rz))
 
 -- ---- all shapes
 none-at-fault : (number i : ℕ) (cuts : List Cut) → ((j : ℕ) → j < length cuts → sound (get_or cuts j fault) ≡ true) → faultless number i cuts ≡ given tt

@@ -12,10 +12,11 @@ use lib.Ieee.{Float, lt, binary64, of_bits}
 use Rattle.cross_shapes.specs.Shapes.{finite, on, good_pair}
 use Rattle.cross_shapes.specs.declared.Shape.{Shape}
 use Rattle.cross_shapes.specs.declared.Shape.TheVariants.{HalfSpace, Block}
+use Rattle.cross_shapes.specs.declared.Block.{Block as Box}
 use Rattle.cross_line.specs.Lent.{shape_from}
 use Rattle.cross_reach.specs.Reach.{Reaches, Plain, Wider}
 use Rattle.cross_judge.specs.Covering.{FaceWithin, PairWithin, Within, Covers}
-use Rattle.cross_judge.specs.Growing.{PlainAll, Widened, Spans, Grown}
+use Rattle.cross_judge.specs.Growing.{PlainAll, Spans, Grown}
 use Rattle.cross_judge.specs.declared.Reach.{Reach}
 
 pub pair-finite : (low high : Float) → good_pair low high ≡ true → (finite low ≡ true) × (finite high ≡ true)
@@ -25,52 +26,20 @@ pair-finite low high h =
     (a.0, ((and-eq-true_iff (finite high) (lt low high)).0 a.1).0)
 
 -- ---- one axis
-pub wanted_face : (wanted : Bool) (reach face r : Float) → Wider reach face r → Widened wanted reach face r
-wanted_face wanted reach face r w = record { plain = w.plain; covers = λ h. w.covers; keeps = w.keeps }
-
-pub unwanted_face : (wanted : Bool) (reach face : Float) → Plain reach → wanted ≡ false → Widened wanted reach face reach
-unwanted_face wanted reach face p e = record { plain = p; covers = λ h. absurd (true≢false (sym h ∙ e)); keeps = λ x k. k }
-
 pub two_faces : (reach low high more r : Float) → Wider reach low more → Wider more high r → Spans reach low high r
 two_faces reach low high more r w v = record { plain = v.plain; first = λ h. v.keeps low (w.covers h); last = v.covers; keeps = λ x k. v.keeps x (w.keeps x k) }
 
 -- ---- one shape
 module _ (reach : Reach) where
-  pub half_space_grown : (axis : ℕ) (face x y z : Float) (known : Bool) → known ≡ finite face → Widened (eqb axis 0) reach.x face x → Widened (eqb axis 1) reach.y face y → Widened (eqb axis 2) reach.z face z
-      → Grown reach (HalfSpace axis face) (record { good = reach.good && (ltb axis 3 && known); x = x; y = y; z = z })
-  half_space_grown axis face x y z known is wx wy wz = record {
-    plain = (wx.plain, (wy.plain, wz.plain));
-    before = λ h. ((and-eq-true_iff reach.good (ltb axis 3 && known)).0 h).0;
-    here = λ h. by h (eqb axis 0) refl (eqb axis 1) refl;
-    keeps_x = wx.keeps;
-    keeps_y = wy.keeps;
-    keeps_z = wz.keeps;
-  }
-    where
-      small : (reach.good && (ltb axis 3 && known)) ≡ true → axis ≤ 2
-      small h = let a = ltb-true axis 3 ((and-eq-true_iff (ltb axis 3) known).0 ((and-eq-true_iff reach.good (ltb axis 3 && known)).0 h).1).0 in omega arith
-
-      number : (reach.good && (ltb axis 3 && known)) ≡ true → finite face ≡ true
-      number h = sym is ∙ ((and-eq-true_iff (ltb axis 3) known).0 ((and-eq-true_iff reach.good (ltb axis 3 && known)).0 h).1).1
-
-      by : (reach.good && (ltb axis 3 && known)) ≡ true → (a : Bool) → eqb axis 0 ≡ a → (b : Bool) → eqb axis 1 ≡ b → FaceWithin (record { good = reach.good && (ltb axis 3 && known); x = x; y = y; z = z }) axis face
-      by h true e b f = record { an_axis = small h; a_number = number h; reached = rw e (wx.covers e (number h)) }
-      by h false e true f = record { an_axis = small h; a_number = number h; reached = rw (e, f) (wy.covers f (number h)) }
-      by h false e false f =
-          let no : axis ≢ 0 = eqb-false axis 0 e in
-          let nor : axis ≢ 1 = eqb-false axis 1 f in
-          let two : axis ≡ 2 = omega (arith, small h, no, nor) in
-          record { an_axis = small h; a_number = number h; reached = rw (e, f) (wz.covers (eq-eqb axis 2 two) (number h)) }
-
-  pub box_grown : (lx ly lz hx hy hz x y z : Float) (gx gy gz : Bool) → gx ≡ good_pair lx hx → gy ≡ good_pair ly hy → gz ≡ good_pair lz hz → Spans reach.x lx hx x → Spans reach.y ly hy y → Spans reach.z lz hz z
-      → Grown reach (Block lx ly lz hx hy hz) (record { good = reach.good && (gx && (gy && gz)); x = x; y = y; z = z })
-  box_grown lx ly lz hx hy hz x y z gx gy gz ex ey ez sx sy sz = record {
+  pub box_grown : (b : Box) (x y z : Float) (gx gy gz : Bool) → gx ≡ good_pair b.lx b.hx → gy ≡ good_pair b.ly b.hy → gz ≡ good_pair b.lz b.hz → Spans reach.x b.lx b.hx x → Spans reach.y b.ly b.hy y → Spans reach.z b.lz b.hz z
+      → Grown reach (Block b) (record { good = reach.good && (gx && (gy && gz)); x = x; y = y; z = z })
+  box_grown b x y z gx gy gz ex ey ez sx sy sz = record {
     plain = (sx.plain, (sy.plain, sz.plain));
     before = λ h. ((and-eq-true_iff reach.good (gx && (gy && gz))).0 h).0;
     here = λ h.
         let all = (and-eq-true_iff gx (gy && gz)).0 ((and-eq-true_iff reach.good (gx && (gy && gz))).0 h).1 in
         let rest = (and-eq-true_iff gy gz).0 all.1 in
-        (pair lx hx x reach.x sx (sym ex ∙ all.0), (pair ly hy y reach.y sy (sym ey ∙ rest.0), pair lz hz z reach.z sz (sym ez ∙ rest.1)));
+        (pair b.lx b.hx x reach.x sx (sym ex ∙ all.0), (pair b.ly b.hy y reach.y sy (sym ey ∙ rest.0), pair b.lz b.hz z reach.z sz (sym ez ∙ rest.1)));
     keeps_x = sx.keeps;
     keeps_y = sy.keeps;
     keeps_z = sz.keeps;
@@ -78,9 +47,6 @@ module _ (reach : Reach) where
     where
       pair : (low high r old : Float) → Spans old low high r → good_pair low high ≡ true → PairWithin r low high
       pair low high r old s g = record { sound = g; first = s.first (pair-finite low high g).0; last = s.last (pair-finite low high g).1 }
-
-pub shape_grown : (reach r : Reach) (shape other : Shape) → shape ≡ other → Grown reach other r → Grown reach shape r
-shape_grown reach r shape other e g = subst (λ s. Grown reach s r) (sym e) g
 
 -- ---- what was covered stays covered
 module _ (reach r : Reach) (shape : Shape) (grown : Grown reach shape r) where
@@ -91,11 +57,11 @@ module _ (reach r : Reach) (shape : Shape) (grown : Grown reach shape r) where
 
   kept : (other : Shape) → Within reach other → Within r other
   kept (HalfSpace axis face) w = record { an_axis = w.an_axis; a_number = w.a_number; reached = kept_on axis face (eqb axis 0) (eqb axis 1) refl refl w.reached }
-  kept (Block lx ly lz hx hy hz) w = (
-    record { sound = w.0.sound; first = grown.keeps_x lx w.0.first; last = grown.keeps_x hx w.0.last },
+  kept (Block b) w = (
+    record { sound = w.0.sound; first = grown.keeps_x b.lx w.0.first; last = grown.keeps_x b.hx w.0.last },
     (
-      record { sound = w.1.0.sound; first = grown.keeps_y ly w.1.0.first; last = grown.keeps_y hy w.1.0.last },
-      record { sound = w.1.1.sound; first = grown.keeps_z lz w.1.1.first; last = grown.keeps_z hz w.1.1.last },
+      record { sound = w.1.0.sound; first = grown.keeps_y b.ly w.1.0.first; last = grown.keeps_y b.hy w.1.0.last },
+      record { sound = w.1.1.sound; first = grown.keeps_z b.lz w.1.1.first; last = grown.keeps_z b.hz w.1.1.last },
     ),
   )
 

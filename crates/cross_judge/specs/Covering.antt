@@ -24,7 +24,7 @@ pub record PairWithin (reach low high : Float) : Type 0 where
 
 abbrev pub Within : Reach → Shape → Type 0
 Within reach (HalfSpace axis face) = FaceWithin reach axis face
-Within reach (Block lx ly lz hx hy hz) = PairWithin reach.x lx hx × (PairWithin reach.y ly hy × PairWithin reach.z lz hz)
+Within reach (Block b) = PairWithin reach.x b.lx b.hx × (PairWithin reach.y b.ly b.hy × PairWithin reach.z b.lz b.hz)
 
 -- If the reach is good, the first n shapes are sound, and it covers their faces.
 pub record Covers (kinds : List ℕ) (numbers : List Float) (n : ℕ) (reach : Reach) : Type 0 where

@@ -1,5 +1,5 @@
 -- The reach as it grows, shape by shape.
-use Rattle.std.specs.Prelude.{◌≡◌, Bool, true, Float}
+use Rattle.std.specs.Prelude.{◌≡◌, true, Float}
 use Rattle.cross_shapes.specs.Shapes.{finite}
 use Rattle.cross_shapes.specs.declared.Shape.{Shape}
 use Rattle.cross_reach.specs.Reach.{Reaches, Plain}
@@ -8,12 +8,6 @@ use Rattle.cross_judge.specs.declared.Reach.{Reach}
 
 abbrev pub PlainAll : Reach → Type 0
 PlainAll reach = Plain reach.x × (Plain reach.y × Plain reach.z)
-
--- A face more, if it is wanted.
-pub record Widened (wanted : Bool) (reach face r : Float) : Type 0 where
-  pub plain : Plain r
-  pub covers : wanted ≡ true → finite face ≡ true → Reaches r face
-  pub keeps : (x : Float) → Reaches reach x → Reaches r x
 
 -- Two faces more.
 pub record Spans (reach low high r : Float) : Type 0 where

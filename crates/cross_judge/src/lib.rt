@@ -3,11 +3,12 @@
 
 ghost use Rattle.std.specs.Prelude.{◌≡◌, true, ◌≤◌, length};
 ghost use Rattle.cross_reach.specs.Reach.{Plain};
-ghost use Rattle.cross_shapes.specs.declared.Shape.TheVariants.{HalfSpace, Block};
+ghost use Rattle.cross_shapes.specs.declared.Shape.TheVariants.{HalfSpace, Block as Box};
 ghost use Rattle.cross_judge.specs.Covering.{Covers, NoFault};
-ghost use Rattle.cross_judge.specs.Growing.{PlainAll, Widened, Spans, Grown};
+ghost use Rattle.cross_judge.specs.Growing.{PlainAll, Spans, Grown};
 
-use cross_shapes::{Probe, Shape};
+use cross_line::Drawing;
+use cross_shapes::{Block, Probe, Shape};
 
 // What is read of a drawing once: whether each of its shapes is sound, and how far from zero its faces reach on each axis.
 #[derive(Clone, Copy, Drop)]
@@ -18,16 +19,8 @@ pub struct Reach {
     pub z: f64,
 }
 
-fn widen_if(wanted: bool, reach: f64, face: f64) -> f64
-    requires { Plain reach }
-    ensures { Widened wanted reach face result }
-{
-    if wanted {
-        return cross_reach::widen(reach, face);
-    }
-    reach
-}
-
+// The reach on one axis with two faces more.
+#[tactic(auto, using(crate::proofs::GrowLaws::two_faces))]
 fn span(reach: f64, low: f64, high: f64) -> f64
     requires { Plain reach }
     ensures { Spans reach low high result }
@@ -35,54 +28,63 @@ fn span(reach: f64, low: f64, high: f64) -> f64
     cross_reach::widen(cross_reach::widen(reach, low), high)
 }
 
-fn cover_half_space(reach: Reach, axis: u8, face: f64) -> Reach
-    requires { PlainAll reach }
-    ensures { Grown reach (HalfSpace axis face) result }
-{
-    let x = widen_if(axis == 0, reach.x, face);
-    let y = widen_if(axis == 1, reach.y, face);
-    let z = widen_if(axis == 2, reach.z, face);
-    let good = (axis < 3) & cross_shapes::is_finite(face);
-    Reach {
-        good: reach.good & good,
-        x: x,
-        y: y,
-        z: z,
+impl Reach {
+    fn with_half_space(self, axis: u8, face: f64) -> Reach
+        requires { PlainAll self }
+        ensures { Grown self (HalfSpace axis face) result }
+    {
+        let good = self.good & ((axis < 3) & cross_shapes::is_finite(face));
+        match axis {
+            0 => Reach {
+                good,
+                x: cross_reach::widen(self.x, face),
+                ..self
+            },
+            1 => Reach {
+                good,
+                y: cross_reach::widen(self.y, face),
+                ..self
+            },
+            2 => Reach {
+                good,
+                z: cross_reach::widen(self.z, face),
+                ..self
+            },
+            _ => Reach { good, ..self },
+        }
+    }
+
+    #[tactic(auto, using(crate::proofs::GrowLaws::box_grown))]
+    fn with_box(self, b: Block) -> Reach
+        requires { PlainAll self }
+        ensures { Grown self (Box b) result }
+    {
+        let x = cross_shapes::good_pair(b.lx, b.hx);
+        let y = cross_shapes::good_pair(b.ly, b.hy);
+        let z = cross_shapes::good_pair(b.lz, b.hz);
+        Reach {
+            good: self.good & (x & (y & z)),
+            x: span(self.x, b.lx, b.hx),
+            y: span(self.y, b.ly, b.hy),
+            z: span(self.z, b.lz, b.hz),
+        }
+    }
+
+    // The reach with a shape more.
+    fn with(self, shape: Shape) -> Reach
+        requires { PlainAll self }
+        ensures { Grown self shape result }
+    {
+        match shape {
+            Shape::HalfSpace(axis, face) => self.with_half_space(axis, face),
+            Shape::Block(b) => self.with_box(b),
+        }
     }
 }
 
-fn cover_box(reach: Reach, lx: f64, ly: f64, lz: f64, hx: f64, hy: f64, hz: f64) -> Reach
-    requires { PlainAll reach }
-    ensures { Grown reach (Block lx ly lz hx hy hz) result }
-{
-    let x = span(reach.x, lx, hx);
-    let y = span(reach.y, ly, hy);
-    let z = span(reach.z, lz, hz);
-    let gx = cross_shapes::good_pair(lx, hx);
-    let gy = cross_shapes::good_pair(ly, hy);
-    let gz = cross_shapes::good_pair(lz, hz);
-    Reach {
-        good: reach.good & (gx & (gy & gz)),
-        x: x,
-        y: y,
-        z: z,
-    }
-}
-
-// The reach with a shape more.
-fn cover(reach: Reach, shape: Shape) -> Reach
-    requires { PlainAll reach }
-    ensures { Grown reach shape result }
-{
-    match shape {
-        Shape::HalfSpace(axis, face) => cover_half_space(reach, axis, face),
-        Shape::Block(lx, ly, lz, hx, hy, hz) => cover_box(reach, lx, ly, lz, hx, hy, hz),
-    }
-}
-
-pub fn reach_of(kinds: &[u8], numbers: &[f64]) -> Reach
-    requires { length kinds.now ≤ 256 }
-    ensures { Covers kinds.now numbers.now (length kinds.now) result }
+pub fn reach_of(drawing: Drawing<'_>) -> Reach
+    requires { length drawing.kinds.now ≤ 256 }
+    ensures { Covers drawing.entry.kinds.now drawing.entry.numbers.now (length drawing.entry.kinds.now) result }
 {
     let mut reach = Reach {
         good: true,
@@ -90,10 +92,8 @@ pub fn reach_of(kinds: &[u8], numbers: &[f64]) -> Reach
         y: 0.0,
         z: 0.0,
     };
-    let mut i = 0usize;
-    while i < kinds.len() {
-        reach = cover(reach, cross_line::shape_at(kinds, numbers, i));
-        i += 1;
+    for i in 0..drawing.kinds.len() {
+        reach = reach.with(cross_line::shape_at(drawing, i));
     }
     reach
 }

@@ -19,14 +19,16 @@ use Rattle.cross_positions.specs.Positions.{allowed, in_range, nearest_whole, di
 use Rattle.cross_cuts.specs.Cuts.{Cut, fault, cut}
 use Rattle.cross_shapes.specs.Shapes.{finite, is_zero, lesser, greater, Range, wrong, missed, free, from, between, axis_range, meet, box_range, crossed_twice, good_pair, box_cut, half_space_cut}
 use Rattle.cross_shapes.specs.declared.Probe.{Probe}
-use Rattle.cross_shapes.proofs.BoxLaws.{lesser-rank, greater-rank}
+use Rattle.cross_shapes.proofs.BoxLaws.{lesser_rank, greater_rank}
 use Rattle.cross_line.specs.Crossing.{all_three, good_probe}
 use Rattle.cross_columns.specs.Columns.{cuts_in}
 use Rattle.cross_columns.proofs.CutLaws.{cuts-length, cuts-at, box_pairs, none-at-fault}
 use Rattle.cross_axis.specs.Axes.{Codes, range_at, Said}
 use Rattle.cross_axis.specs.declared.Along.{Along}
 use Rattle.cross_hits.specs.Hits.{box_met, Passed, Crosses}
-use Rattle.cross_kept.specs.Keeping.{IsAxis, x_axis, y_axis, z_axis, first, second, along_of, Joined, remains, Pairs, Ranked, Over}
+use Rattle.cross_kept.specs.Keeping.{starts_at, first, second, along_of, Joined, remains, Pairs, Ranked, Over}
+use Rattle.cross_kept.specs.declared.Axis.{Axis}
+use Rattle.cross_kept.specs.declared.Axis.TheVariants.{X, Y, Z}
 use Rattle.cross_kept.specs.declared.Kept.{Kept}
 use Rattle.cross_kept.proofs.KeepLaws.{axis_near, low-on, high-on, finite-along}
 
@@ -57,8 +59,8 @@ codes-meet (from a b) free l g m h c d =
     let f : min g h ≡ g = omega (arith, d.1, c.1.1) in
     (ap unrank e ∙ c.0, (ap unrank f ∙ c.1.0, omega (arith, c.1.1)))
 codes-meet (from a b) (from p q) l g m h c d = (
-  greater-rank l m ∙ ap (λ (x : ℤ). greater x (unrank m)) c.0 ∙ ap (λ (y : ℤ). greater a y) d.0,
-  (lesser-rank g h ∙ ap (λ (x : ℤ). lesser x (unrank h)) c.1.0 ∙ ap (λ (y : ℤ). lesser b y) d.1.0, omega (arith, c.1.1)),
+  greater_rank l m ∙ ap (λ (x : ℤ). greater x (unrank m)) c.0 ∙ ap (λ (y : ℤ). greater a y) d.0,
+  (lesser_rank g h ∙ ap (λ (x : ℤ). lesser x (unrank h)) c.1.0 ∙ ap (λ (y : ℤ). lesser b y) d.1.0, omega (arith, c.1.1)),
 )
 
 -- ---- no position and no miss on all of three axes: none of them goes along the line
@@ -211,7 +213,7 @@ both_found (some a) (some b) n = (λ e. true≢false (ap is_some e), λ e. true�
 
 -- whatever may be given has ranks
 both_coded : (x y : Option ℤ) (m n : ℕ) → some (unrank m) ≡ x → some (unrank n) ≡ y → m ≤ 4294967295 → n ≤ 4294967295 → Codes (between x y) (min m n) (max m n)
-both_coded x y m n e f a b = rw (← e, ← f) (lesser-rank m n, (greater-rank m n, omega arith))
+both_coded x y m n e f a b = rw (← e, ← f) (lesser_rank m n, (greater_rank m n, omega arith))
 
 slant_coded : (p q : Option ℤ) → between (in_range p) (in_range q) ≢ wrong → (l : ℕ) × ((g : ℕ) × Codes (between (in_range p) (in_range q)) l g)
 slant_coded p q w =
@@ -249,7 +251,7 @@ module _ {probe : Probe} {kept : Kept} {halves : List ℕ} {lows highs : List Fl
   held = over.follows.ranked
 
   pairs : Pairs kept halves lows highs l g
-  pairs = held.pairs over.follows.paired
+  pairs = held.pairs
 
   module _ (i : ℕ) (h : i < kept.shapes) where
     half_cut : get_or halves i 0 ≢ 0 → get_or cuts i fault ≡ half_space_cut probe (get_or halves i 0 - 1) (get_or lows i nan)
@@ -271,17 +273,17 @@ module _ {probe : Probe} {kept : Kept} {halves : List ℕ} {lows highs : List Fl
           Three_ranged probe (get_or lows i nan) (get_or lows (256 + i) nan) (get_or lows (512 + i) nan) (get_or highs i nan) (get_or highs (256 + i) nan) (get_or highs (512 + i) nan)
           (box_ranged probe (get_or lows i nan) (get_or lows (256 + i) nan) (get_or lows (512 + i) nan) (get_or highs i nan) (get_or highs (256 + i) nan) (get_or highs (512 + i) nan) sound_box)
 
-      sure_x : range_at lows highs (along_of probe 0) (0 + i) ≢ wrong
+      sure_x : range_at lows highs (along_of probe X) (0 + i) ≢ wrong
       sure_x = rw (zero-add i) ranged.0
 
-      sure_y : range_at lows highs (along_of probe 256) (256 + i) ≢ wrong
+      sure_y : range_at lows highs (along_of probe Y) (256 + i) ≢ wrong
       sure_y = ranged.1.0
 
-      sure_z : range_at lows highs (along_of probe 512) (512 + i) ≢ wrong
+      sure_z : range_at lows highs (along_of probe Z) (512 + i) ≢ wrong
       sure_z = ranged.1.1
 
-      module _ (ax bx ay by az bz : ℕ) (cx : Codes (range_at lows highs (along_of probe 0) (0 + i)) ax bx) (cy : Codes (range_at lows highs (along_of probe 256) (256 + i)) ay by)
-          (cz : Codes (range_at lows highs (along_of probe 512) (512 + i)) az bz) where
+      module _ (ax bx ay by az bz : ℕ) (cx : Codes (range_at lows highs (along_of probe X) (0 + i)) ax bx) (cy : Codes (range_at lows highs (along_of probe Y) (256 + i)) ay by)
+          (cz : Codes (range_at lows highs (along_of probe Z) (512 + i)) az bz) where
         Three_say : get_or cuts i fault ≡ box_met (max3 ax ay az) (min3 bx by bz)
         Three_say =
             let p = box_pairs probe (get_or lows i nan) (get_or lows (256 + i) nan) (get_or lows (512 + i) nan) (get_or highs i nan) (get_or highs (256 + i) nan) (get_or highs (512 + i) nan) sound_box in
@@ -289,40 +291,41 @@ module _ {probe : Probe} {kept : Kept} {halves : List ℕ} {lows highs : List Fl
             ∙ box_cut_lem probe over.lent.good (get_or lows i nan) (get_or lows (256 + i) nan) (get_or lows (512 + i) nan) (get_or highs i nan) (get_or highs (256 + i) nan) (get_or highs (512 + i) nan) ax bx ay by az bz
             (rw (zero-add i) at cx) cy cz p.0 p.1.0 p.1.1
 
-  says : {alone : ℕ} → IsAxis alone → (i : ℕ) → i < kept.shapes → get_or halves i 0 ≡ 0
-      → Said lows highs (first alone) (first alone + kept.shapes) (along_of probe (first alone)) l g → Said lows highs (second alone) (second alone + kept.shapes) (along_of probe (second alone)) l g
-      → Joined (first alone) (second alone) kept.shapes l g → (a b : ℕ) → Codes (range_at lows highs (along_of probe alone) (alone + i)) a b
+  says : (alone : Axis) (i : ℕ) → i < kept.shapes → get_or halves i 0 ≡ 0
+      → Said lows highs (starts_at (first alone)) (starts_at (first alone) + kept.shapes) (along_of probe (first alone)) l g
+      → Said lows highs (starts_at (second alone)) (starts_at (second alone) + kept.shapes) (along_of probe (second alone)) l g
+      → Joined (starts_at (first alone)) (starts_at (second alone)) kept.shapes l g → (a b : ℕ) → Codes (range_at lows highs (along_of probe alone) (starts_at alone + i)) a b
       → get_or cuts i fault ≡ box_met (max a (get_or l (768 + i) 0)) (min b (get_or g (768 + i) 0))
-  says x_axis i h box one other joined a b c =
+  says X i h box one other joined a b c =
       let e : max3 a (get_or l (256 + i) 0) (get_or l (512 + i) 0) ≡ max a (get_or l (768 + i) 0) = omega (arith, joined.lesser i h) in
       let f : min3 b (get_or g (256 + i) 0) (get_or g (512 + i) 0) ≡ min b (get_or g (768 + i) 0) = omega (arith, joined.greater i h) in
       Three_say i h box a b (get_or l (256 + i) 0) (get_or g (256 + i) 0) (get_or l (512 + i) 0) (get_or g (512 + i) 0) c
       (one.right (256 + i) (omega arith) (omega arith) (sure_y i h box)) (other.right (512 + i) (omega arith) (omega arith) (sure_z i h box))
       ∙ rw (e, f)
-  says y_axis i h box one other joined a b c =
+  says Y i h box one other joined a b c =
       let e : max3 (get_or l (0 + i) 0) a (get_or l (512 + i) 0) ≡ max a (get_or l (768 + i) 0) = omega (arith, joined.lesser i h) in
       let f : min3 (get_or g (0 + i) 0) b (get_or g (512 + i) 0) ≡ min b (get_or g (768 + i) 0) = omega (arith, joined.greater i h) in
       Three_say i h box (get_or l (0 + i) 0) (get_or g (0 + i) 0) a b (get_or l (512 + i) 0) (get_or g (512 + i) 0)
       (one.right (0 + i) (omega arith) (omega arith) (sure_x i h box)) c (other.right (512 + i) (omega arith) (omega arith) (sure_z i h box))
       ∙ rw (e, f)
-  says z_axis i h box one other joined a b c =
+  says Z i h box one other joined a b c =
       let e : max3 (get_or l (0 + i) 0) (get_or l (256 + i) 0) a ≡ max a (get_or l (768 + i) 0) = omega (arith, joined.lesser i h) in
       let f : min3 (get_or g (0 + i) 0) (get_or g (256 + i) 0) b ≡ min b (get_or g (768 + i) 0) = omega (arith, joined.greater i h) in
       Three_say i h box (get_or l (0 + i) 0) (get_or g (0 + i) 0) (get_or l (256 + i) 0) (get_or g (256 + i) 0) a b
       (one.right (0 + i) (omega arith) (omega arith) (sure_x i h box)) (other.right (256 + i) (omega arith) (omega arith) (sure_y i h box)) c
       ∙ rw (e, f)
 
-  sure : {alone : ℕ} → IsAxis alone → (i : ℕ) → i < kept.shapes → get_or halves i 0 ≡ 0 → range_at lows highs (along_of probe alone) (alone + i) ≢ wrong
-  sure x_axis i h box = sure_x i h box
-  sure y_axis i h box = sure_y i h box
-  sure z_axis i h box = sure_z i h box
+  sure : (alone : Axis) (i : ℕ) → i < kept.shapes → get_or halves i 0 ≡ 0 → range_at lows highs (along_of probe alone) (starts_at alone + i) ≢ wrong
+  sure X i h box = sure_x i h box
+  sure Y i h box = sure_y i h box
+  sure Z i h box = sure_z i h box
 
-  Three : (i : ℕ) → i < kept.shapes → get_or halves i 0 ≡ 0 → (a b : ℕ) → Codes (range_at lows highs (along_of probe kept.alone) (kept.alone + i)) a b
+  Three : (i : ℕ) → i < kept.shapes → get_or halves i 0 ≡ 0 → (a b : ℕ) → Codes (range_at lows highs (along_of probe kept.alone) (starts_at kept.alone + i)) a b
       → get_or cuts i fault ≡ box_met (max a (get_or l (768 + i) 0)) (min b (get_or g (768 + i) 0))
   Three i h box =
-      says held.axis i h box
-      (subst (λ (a : Along). Said lows highs (first kept.alone) (first kept.alone + kept.shapes) a l g) over.follows.one pairs.said_one)
-      (subst (λ (a : Along). Said lows highs (second kept.alone) (second kept.alone + kept.shapes) a l g) over.follows.other pairs.said_other)
+      says kept.alone i h box
+      (subst (λ (a : Along). Said lows highs (starts_at (first kept.alone)) (starts_at (first kept.alone) + kept.shapes) a l g) over.follows.one pairs.said_one)
+      (subst (λ (a : Along). Said lows highs (starts_at (second kept.alone)) (starts_at (second kept.alone) + kept.shapes) a l g) over.follows.other pairs.said_other)
       pairs.joined
 
   -- a shape that does not remain
@@ -330,25 +333,25 @@ module _ {probe : Probe} {kept : Kept} {halves : List ℕ} {lows highs : List Fl
   passes i h e =
       let n = no_rest (get_or halves i 0) (get_or l (768 + i) 0) (get_or g (768 + i) 0) e in
       let along = along_of probe kept.alone in
-      let c = coded (get_or lows (kept.alone + i) nan) (get_or highs (kept.alone + i) nan) along.origin along.component (sure held.axis i h n.0) in
+      let c = coded (get_or lows (starts_at kept.alone + i) nan) (get_or highs (starts_at kept.alone + i) nan) along.origin along.component (sure kept.alone i h n.0) in
       let empty : min c.1.0 (get_or g (768 + i) 0) ≤ max c.0 (get_or l (768 + i) 0) = omega (arith, n.1) in
       (n.0, Three i h n.0 c.0 c.1.0 c.1.1 ∙ rw (le-ltb (max c.0 (get_or l (768 + i) 0)) (min c.1.0 (get_or g (768 + i) 0)) empty))
 
-  pub over_crosses : (a : Along) → a ≡ along_of probe kept.alone → Crosses probe cuts lows highs (record { start = kept.alone; along = a; shapes = kept.shapes; left = kept.left }) kept.masks halves l g
-  over_crosses a e =
-      let n = cuts-length probe lows highs halves kept.shapes in
+  pub over_crosses : (start : ℕ) → start ≡ starts_at kept.alone → (a : Along) → a ≡ along_of probe kept.alone → Crosses probe cuts lows highs (record { start = start; along = a; shapes = kept.shapes; left = kept.left }) kept.masks halves l g
+  over_crosses start es a e =
+      rw es (let n = cuts-length probe lows highs halves kept.shapes in
       record {
         few = omega (arith, n, held.few);
         counted = sym n;
         masks_length = pairs.leaves.long;
         ranks = held.sized;
-        sized = record { inside = axis_near held.axis; halves_length = held.halves_length; lessers_length = held.sized.lessers_length; greaters_length = held.sized.greaters_length };
+        sized = record { inside = axis_near kept.alone; halves_length = held.halves_length; lessers_length = held.sized.lessers_length; greaters_length = held.sized.greaters_length };
         numbers = finite-along probe over.lent.good a kept.alone e;
-        low = λ i h. low-on over.lent.faces held.axis i (omega arith);
-        high = λ i h. high-on over.lent.faces held.axis i (omega arith);
+        low = λ i h. low-on over.lent.faces kept.alone i (omega arith);
+        high = λ i h. high-on over.lent.faces kept.alone i (omega arith);
         half = λ i h. half_cut i (omega arith);
-        sure = λ i h box. rw e (sure held.axis i (omega arith) box);
+        sure = λ i h box. rw e (sure kept.alone i (omega arith) box);
         right = λ i h box u v codes. Three i (omega arith) box u v (rw e at codes);
         passed = λ i h off. passes i (omega arith) (sym (pairs.leaves.over i (omega arith)) ∙ off);
         over = λ i h off. passes i (omega arith) (pairs.leaves.none i (omega arith) off);
-      }
+      })

@@ -20,105 +20,34 @@ use Rattle.cross_columns.specs.Columns.{FiniteFaces}
 use Rattle.cross_axis.specs.Axes.{Sized, FiniteAlong, Fillable, Said, Beside, Filled, SameNumbers}
 use Rattle.cross_axis.specs.declared.Along.{Along}
 use Rattle.cross_axis.proofs.AxisLaws.{beside-starts}
-use Rattle.cross_kept.specs.Keeping.{IsAxis, x_axis, y_axis, z_axis, first, second, along_of, AxisStill, Serves, Joined, Paired, remains, Leaves, Ranked, CanPair, Followable, Follows, NothingKept}
+use Rattle.cross_kept.specs.Keeping.{starts_at, first, second, along_of, Serves, Joined, Paired, remains, Leaves, Ranked, CanPair, Follows}
+use Rattle.cross_kept.specs.declared.Axis.{Axis}
+use Rattle.cross_kept.specs.declared.Axis.TheVariants.{X, Y, Z}
 use Rattle.cross_kept.specs.declared.Kept.{Kept}
 
--- ---- before the first line
-zero_finite : finite (of_bits binary64 0) ≡ true
-unfolding finite of_bits
-zero_finite = refl
+-- ---- a line's numbers on an axis
+along-finite : (probe : Probe) → good_probe probe ≡ true → (axis : Axis) → FiniteAlong (along_of probe axis)
+along-finite probe good X = record { origin = origin_x probe good; component = direction_x probe good }
+along-finite probe good Y = record { origin = origin_y probe good; component = direction_y probe good }
+along-finite probe good Z = record { origin = origin_z probe good; component = direction_z probe good }
 
-abbrev nothing : Along
-nothing = record { origin = of_bits binary64 0; component = of_bits binary64 0 }
-
-pub none_kept : (shapes : ℕ) (masks : List ℕ) → NothingKept shapes (record { one = nothing; other = nothing; alone = 0; shapes = shapes; left = 0; masks = masks; paired = false })
-none_kept shapes masks =
-    let f : FiniteAlong nothing = record { origin = zero_finite; component = zero_finite } in
-    record { shapes_are = refl; numbers = record { one = f; other = f }; axis = x_axis; apart = refl }
-
-pub ranked_starts : (shapes : ℕ) (kept : Kept) (halves : List ℕ) (lows highs : List Float) (lessers greaters : List ℕ) → shapes ≤ 256 → NothingKept shapes kept → length halves ≡ 256 → Sized lows highs lessers greaters → Ranked kept halves lows highs lessers greaters
-ranked_starts shapes kept halves lows highs lessers greaters few none h s = record {
-  few = omega (arith, none.shapes_are);
-  halves_length = h;
-  sized = s;
-  numbers = none.numbers;
-  axis = none.axis;
-  pairs = λ p. absurd (true≢false (sym p ∙ none.apart));
-}
-
--- ---- which axis stands alone
-pub still_alone : {before : ℕ} → AxisStill before before
-still_alone = record { is = λ a. a }
-
-pub alone_z : {before : ℕ} → AxisStill before 512
-alone_z = record { is = λ a. z_axis }
-
-pub alone_y : {before : ℕ} → AxisStill before 256
-alone_y = record { is = λ a. y_axis }
-
-pub alone_x : {before : ℕ} → AxisStill before 0
-alone_x = record { is = λ a. x_axis }
-
-pub first_is : (alone : ℕ) → alone ≡ 0 → 256 ≡ first alone
-first_is alone e = rw e refl
-
-pub first_else : (alone : ℕ) → alone ≢ 0 → 0 ≡ first alone
-first_else alone n = rw (ne_eqb alone 0 n) refl
-
-pub second_is : (alone : ℕ) → alone ≡ 512 → 256 ≡ second alone
-second_is alone e = rw e refl
-
-pub second_else : (alone : ℕ) → alone ≢ 512 → 512 ≡ second alone
-second_else alone n = rw (ne_eqb alone 512 n) refl
-
-pub along_x : (probe : Probe) (start : ℕ) → start ≡ 0 → record { origin = probe.ox; component = probe.dx } ≡ along_of probe start
-along_x probe start e = rw e refl
-
-pub along_y : (probe : Probe) (start : ℕ) → start ≢ 0 → start ≡ 256 → record { origin = probe.oy; component = probe.dy } ≡ along_of probe start
-along_y probe start n e = rw e refl
-
-pub along_z : (probe : Probe) (start : ℕ) → start ≢ 0 → start ≢ 256 → record { origin = probe.oz; component = probe.dz } ≡ along_of probe start
-along_z probe start n m = rw (ne_eqb start 0 n, ne_eqb start 256 m) refl
-
-along-finite : (probe : Probe) → good_probe probe ≡ true → (start : ℕ) → FiniteAlong (along_of probe start)
-along-finite probe good start = by (eqb start 0) (eqb start 256)
-  where
-    by : (s t : Bool) → FiniteAlong (cond s (record { origin = probe.ox; component = probe.dx }) (cond t (record { origin = probe.oy; component = probe.dy }) (record { origin = probe.oz; component = probe.dz })))
-    by true t = record { origin = origin_x probe good; component = direction_x probe good }
-    by false true = record { origin = origin_y probe good; component = direction_y probe good }
-    by false false = record { origin = origin_z probe good; component = direction_z probe good }
-
-pub finite-along : (probe : Probe) → good_probe probe ≡ true → (a : Along) (start : ℕ) → a ≡ along_of probe start → FiniteAlong a
-finite-along probe good a start e = rw e (along-finite probe good start)
+pub finite-along : (probe : Probe) → good_probe probe ≡ true → (a : Along) (axis : Axis) → a ≡ along_of probe axis → FiniteAlong a
+finite-along probe good a axis e = rw e (along-finite probe good axis)
 
 -- ---- what is kept serves another line
-pub serves_is : (probe : Probe) (kept : Kept) (one other : ℕ) → one ≡ first kept.alone → other ≡ second kept.alone → (a b : Along) → a ≡ along_of probe one → b ≡ along_of probe other → (p q : Bool)
-    → SameNumbers kept.one a p → SameNumbers kept.other b q → Serves probe kept (kept.paired && (p && q))
+pub serves_is : (probe : Probe) (kept : Kept) (one other : Axis) → one ≡ first kept.alone → other ≡ second kept.alone → (a b : Along) → a ≡ along_of probe one → b ≡ along_of probe other → (p q : Bool)
+    → SameNumbers kept.one a p → SameNumbers kept.other b q → Serves probe kept (p && q)
 serves_is probe kept one other e f a b ea eb p q sp sq = record {
-  paired = λ h. (all h).0;
   one = λ h. sp.are (two h).0 ∙ (ea ∙ ap (along_of probe) e);
   other = λ h. sq.are (two h).1 ∙ (eb ∙ ap (along_of probe) f);
 }
   where
-    all : (kept.paired && (p && q)) ≡ true → (kept.paired ≡ true) × ((p && q) ≡ true)
-    all h = (and-eq-true_iff kept.paired (p && q)).0 h
+    two : (p && q) ≡ true → (p ≡ true) × (q ≡ true)
+    two h = (and-eq-true_iff p q).0 h
 
-    two : (kept.paired && (p && q)) ≡ true → (p ≡ true) × (q ≡ true)
-    two h = (and-eq-true_iff p q).0 (all h).1
-
-module _ {probe : Probe} {kept : Kept} {halves : List ℕ} {lows highs : List Float} {lessers greaters : List ℕ} (can : Followable probe kept halves lows highs lessers greaters) where
-  pub serves_follows : (r : Bool) → Serves probe kept r → r ≡ true → Follows probe kept.shapes halves lows highs lessers greaters kept
-  serves_follows r serves h = record { shapes_still = refl; one = serves.one h; other = serves.other h; paired = serves.paired h; ranked = can.ranked }
-
-  pub can_pair : (alone : ℕ) → AxisStill kept.alone alone → CanPair probe alone kept.shapes halves lows highs lessers greaters
-  can_pair alone still = record {
-    good = can.good;
-    axis = still.is can.ranked.axis;
-    few = can.ranked.few;
-    halves_length = can.ranked.halves_length;
-    sized = can.ranked.sized;
-    faces = can.faces;
-  }
+pub serves_follows : {probe : Probe} {kept : Kept} {shapes : ℕ} {halves : List ℕ} {lows highs : List Float} {lessers greaters : List ℕ} → (kept.shapes ≡ shapes) × Ranked kept halves lows highs lessers greaters
+    → (r : Bool) → Serves probe kept r → r ≡ true → Follows probe shapes halves lows highs lessers greaters kept
+serves_follows held r serves h = record { shapes_still = held.0; one = serves.one h; other = serves.other h; ranked = held.1 }
 
 -- ---- two axes put together
 pub record Pairing (one other i : ℕ) (old-lessers old-greaters lessers greaters : List ℕ) : Type 0 where
@@ -273,146 +202,131 @@ leaves_stay few lt gt v = record {
 }
 
 -- the axis that stands alone is beside the two others, and beside what they say together
-record Apart (alone : ℕ) (old new : List ℕ) : Type 0 where
-  one : Stays (first alone) old new
-  other : Stays (second alone) old new
+record Apart (alone : Axis) (old new : List ℕ) : Type 0 where
+  one : Stays (starts_at (first alone)) old new
+  other : Stays (starts_at (second alone)) old new
   both : Stays 768 old new
 
-apart : {alone : ℕ} {old new : List ℕ} → IsAxis alone → Beside alone (alone + 256) old new → Apart alone old new
-apart x_axis b = record { one = stays_above 256 b (omega arith); other = stays_above 512 b (omega arith); both = stays_above 768 b (omega arith) }
-apart y_axis b = record { one = stays_below 0 b (omega arith); other = stays_above 512 b (omega arith); both = stays_above 768 b (omega arith) }
-apart z_axis b = record { one = stays_below 0 b (omega arith); other = stays_below 256 b (omega arith); both = stays_above 768 b (omega arith) }
+apart : (alone : Axis) {old new : List ℕ} → Beside (starts_at alone) (starts_at alone + 256) old new → Apart alone old new
+apart X b = record { one = stays_above 256 b (omega arith); other = stays_above 512 b (omega arith); both = stays_above 768 b (omega arith) }
+apart Y b = record { one = stays_below 0 b (omega arith); other = stays_above 512 b (omega arith); both = stays_above 768 b (omega arith) }
+apart Z b = record { one = stays_below 0 b (omega arith); other = stays_below 256 b (omega arith); both = stays_above 768 b (omega arith) }
 
 still_sized : {lows highs : List Float} {l₀ g₀ l g : List ℕ} → Sized lows highs l₀ g₀ → length l ≡ length l₀ → length g ≡ length g₀ → Sized lows highs l g
 still_sized s el eg = record { lows_length = s.lows_length; highs_length = s.highs_length; lessers_length = el ∙ s.lessers_length; greaters_length = eg ∙ s.greaters_length }
 
 -- after the axis that stands alone was asked
 pub ranked_beside : {kept : Kept} {halves : List ℕ} {lows highs : List Float} {l₀ g₀ l g : List ℕ} → Ranked kept halves lows highs l₀ g₀
-    → Beside kept.alone (kept.alone + 256) l₀ l → Beside kept.alone (kept.alone + 256) g₀ g → Ranked kept halves lows highs l g
+    → Beside (starts_at kept.alone) (starts_at kept.alone + 256) l₀ l → Beside (starts_at kept.alone) (starts_at kept.alone + 256) g₀ g → Ranked kept halves lows highs l g
 ranked_beside {kept} m bl bg =
-    let al = apart m.axis bl in
-    let ag = apart m.axis bg in
+    let al = apart kept.alone bl in
+    let ag = apart kept.alone bg in
     record {
       few = m.few;
       halves_length = m.halves_length;
       sized = still_sized m.sized bl.sized bg.sized;
       numbers = m.numbers;
-      axis = m.axis;
-      pairs = λ h.
-          let p = m.pairs h in
+      pairs =
+          let p = m.pairs in
           record {
             said_one = said_stays m.few al.one ag.one p.said_one;
             said_other = said_stays m.few al.other ag.other p.said_other;
-            joined = joined_stays m.few (first kept.alone) (second kept.alone) al.one al.other al.both ag.one ag.other ag.both p.joined;
+            joined = joined_stays m.few (starts_at (first kept.alone)) (starts_at (second kept.alone)) al.one al.other al.both ag.one ag.other ag.both p.joined;
             leaves = leaves_stay m.few al.both ag.both p.leaves;
           };
     }
 
 -- ---- two axes filled, one after the other, and put together
-first-axis : {alone : ℕ} → IsAxis alone → IsAxis (first alone)
-first-axis x_axis = y_axis
-first-axis y_axis = x_axis
-first-axis z_axis = x_axis
-
-second-axis : {alone : ℕ} → IsAxis alone → IsAxis (second alone)
-second-axis x_axis = z_axis
-second-axis y_axis = z_axis
-second-axis z_axis = y_axis
-
-pub axis_near : {start : ℕ} → IsAxis start → start ≤ 512
-axis_near x_axis = omega arith
-axis_near y_axis = omega arith
-axis_near z_axis = omega arith
+pub axis_near : (axis : Axis) → starts_at axis ≤ 512
+axis_near X = omega arith
+axis_near Y = omega arith
+axis_near Z = omega arith
 
 -- filling the second leaves the first as it is
-first_stays : {alone there : ℕ} {old new : List ℕ} → IsAxis alone → Beside (second alone) there old new → Stays (first alone) old new
-first_stays x_axis b = stays_below 256 b (omega arith)
-first_stays y_axis b = stays_below 0 b (omega arith)
-first_stays z_axis b = stays_below 0 b (omega arith)
+first_stays : (alone : Axis) {there : ℕ} {old new : List ℕ} → Beside (starts_at (second alone)) there old new → Stays (starts_at (first alone)) old new
+first_stays X b = stays_below 256 b (omega arith)
+first_stays Y b = stays_below 0 b (omega arith)
+first_stays Z b = stays_below 0 b (omega arith)
 
 -- an axis of finite faces
-pub low-on : {shapes : ℕ} {lows highs : List Float} → FiniteFaces shapes lows highs → {start : ℕ} → IsAxis start → (i : ℕ) → i < shapes → finite (get_or lows (start + i) nan) ≡ true
-low-on f x_axis i h = let e : i ≡ 0 + i = omega arith in rw (← e) (f.low.x i h)
-low-on f y_axis i h = f.low.y i h
-low-on f z_axis i h = f.low.z i h
+pub low-on : {shapes : ℕ} {lows highs : List Float} → FiniteFaces shapes lows highs → (axis : Axis) (i : ℕ) → i < shapes → finite (get_or lows (starts_at axis + i) nan) ≡ true
+low-on f X i h = let e : i ≡ 0 + i = omega arith in rw (← e) (f.low.x i h)
+low-on f Y i h = f.low.y i h
+low-on f Z i h = f.low.z i h
 
-pub high-on : {shapes : ℕ} {lows highs : List Float} → FiniteFaces shapes lows highs → {start : ℕ} → IsAxis start → (i : ℕ) → i < shapes → finite (get_or highs (start + i) nan) ≡ true
-high-on f x_axis i h = let e : i ≡ 0 + i = omega arith in rw (← e) (f.high.x i h)
-high-on f y_axis i h = f.high.y i h
-high-on f z_axis i h = f.high.z i h
+pub high-on : {shapes : ℕ} {lows highs : List Float} → FiniteFaces shapes lows highs → (axis : Axis) (i : ℕ) → i < shapes → finite (get_or highs (starts_at axis + i) nan) ≡ true
+high-on f X i h = let e : i ≡ 0 + i = omega arith in rw (← e) (f.high.x i h)
+high-on f Y i h = f.high.y i h
+high-on f Z i h = f.high.z i h
 
-fillable : (probe : Probe) {shapes start : ℕ} {lows highs : List Float} {l g : List ℕ} → good_probe probe ≡ true → FiniteFaces shapes lows highs → shapes ≤ 256 → Sized lows highs l g → IsAxis start → Fillable start (start + shapes) (along_of probe start) lows highs l g
-fillable probe {shapes} {start} {lows} {highs} good faces few sized axis = record {
+fillable : (probe : Probe) {shapes : ℕ} {lows highs : List Float} {l g : List ℕ} → good_probe probe ≡ true → FiniteFaces shapes lows highs → shapes ≤ 256 → Sized lows highs l g → (axis : Axis)
+    → Fillable (starts_at axis) (starts_at axis + shapes) (along_of probe axis) lows highs l g
+fillable probe {shapes} {lows} {highs} good faces few sized axis = record {
   sized = sized;
   inside = omega (arith, axis_near axis);
-  numbers = along-finite probe good start;
+  numbers = along-finite probe good axis;
   low = λ k h l.
-      let e : start + (k - start) ≡ k = omega arith in
-      subst (λ (i : ℕ). finite (get_or lows i nan) ≡ true) e (low-on faces axis (k - start) (omega arith));
+      let e : starts_at axis + (k - starts_at axis) ≡ k = omega arith in
+      subst (λ (i : ℕ). finite (get_or lows i nan) ≡ true) e (low-on faces axis (k - starts_at axis) (omega arith));
   high = λ k h l.
-      let e : start + (k - start) ≡ k = omega arith in
-      subst (λ (i : ℕ). finite (get_or highs i nan) ≡ true) e (high-on faces axis (k - start) (omega arith));
+      let e : starts_at axis + (k - starts_at axis) ≡ k = omega arith in
+      subst (λ (i : ℕ). finite (get_or highs i nan) ≡ true) e (high-on faces axis (k - starts_at axis) (omega arith));
 }
 
-module _ {probe : Probe} {alone shapes : ℕ} {halves : List ℕ} {lows highs : List Float} {l₀ g₀ : List ℕ} (can : CanPair probe alone shapes halves lows highs l₀ g₀) (one other : ℕ) (e : one ≡ first alone) (f : other ≡ second alone) (a b : Along) (ea : a ≡ along_of probe one) (eb : b ≡ along_of probe other) where
+module _ {probe : Probe} {shapes : ℕ} {halves : List ℕ} {lows highs : List Float} {l₀ g₀ : List ℕ} (can : CanPair probe shapes halves lows highs l₀ g₀) (alone : Axis) (one other : ℕ) (e : one ≡ starts_at (first alone)) (f : other ≡ starts_at (second alone))
+    (a b : Along) (ea : a ≡ along_of probe (first alone)) (eb : b ≡ along_of probe (second alone)) where
   pub one_fillable : Fillable one (one + shapes) a lows highs l₀ g₀
-  one_fillable = rw (ea, e) (fillable probe can.good can.faces can.few can.sized (first-axis can.axis))
+  one_fillable = rw (ea, e) (fillable probe can.good can.faces can.few can.sized (first alone))
 
   pub one_near : one ≤ 512
-  one_near = rw e (axis_near (first-axis can.axis))
+  one_near = rw e (axis_near (first alone))
 
   pub other_near : other ≤ 512
-  other_near = rw f (axis_near (second-axis can.axis))
+  other_near = rw f (axis_near (second alone))
 
   module _ {l₁ g₁ : List ℕ} (filled : Filled lows highs one (one + shapes) a l₀ g₀ l₁ g₁) where
     sized_then : Sized lows highs l₁ g₁
     sized_then = still_sized can.sized filled.lessers_beside.sized filled.greaters_beside.sized
 
     pub other_fillable : Fillable other (other + shapes) b lows highs l₁ g₁
-    other_fillable = rw (eb, f) (fillable probe can.good can.faces can.few sized_then (second-axis can.axis))
+    other_fillable = rw (eb, f) (fillable probe can.good can.faces can.few sized_then (second alone))
 
-    module _ {l₂ g₂ : List ℕ} (filled' : Filled lows highs other (other + shapes) b l₁ g₁ l₂ g₂) where
-      pub both_sized : Sized lows highs l₂ g₂
-      both_sized = still_sized sized_then filled'.lessers_beside.sized filled'.greaters_beside.sized
+    module _ {l₂ g₂ : List ℕ} (filled' : Filled lows highs other (other + shapes) b l₁ g₁ l₂ g₂) {l g : List ℕ} (paired : Paired one other shapes l₂ g₂ l g) where
+      paired_sized : Sized lows highs l g
+      paired_sized = still_sized (still_sized sized_then filled'.lessers_beside.sized filled'.greaters_beside.sized) paired.lessers_beside.sized paired.greaters_beside.sized
 
-      module _ {l g : List ℕ} (paired : Paired one other shapes l₂ g₂ l g) where
-        pub paired_sized : Sized lows highs l g
-        paired_sized = still_sized both_sized paired.lessers_beside.sized paired.greaters_beside.sized
+      -- what the first says stays when the second is filled, and what both say when they are put together
+      said-first : Said lows highs (starts_at (first alone)) (starts_at (first alone) + shapes) a l g
+      said-first =
+          let near : starts_at (first alone) + 256 ≤ 768 = omega (arith, axis_near (first alone)) in
+          let s : Said lows highs (starts_at (first alone)) (starts_at (first alone) + shapes) a l₁ g₁ = subst (λ (o : ℕ). Said lows highs o (o + shapes) a l₁ g₁) e filled.said in
+          let bl = subst (λ (o : ℕ). Beside o (o + shapes) l₁ l₂) f filled'.lessers_beside in
+          let bg = subst (λ (o : ℕ). Beside o (o + shapes) g₁ g₂) f filled'.greaters_beside in
+          said_stays can.few (stays_below (starts_at (first alone)) paired.lessers_beside near) (stays_below (starts_at (first alone)) paired.greaters_beside near)
+          (said_stays can.few (first_stays alone bl) (first_stays alone bg) s)
 
-        -- what the first says stays when the second is filled, and what both say when they are put together
-        said-first : Said lows highs (first alone) (first alone + shapes) a l g
-        said-first =
-            let near : first alone + 256 ≤ 768 = omega (arith, axis_near (first-axis can.axis)) in
-            let s : Said lows highs (first alone) (first alone + shapes) a l₁ g₁ = subst (λ (o : ℕ). Said lows highs o (o + shapes) a l₁ g₁) e filled.said in
-            let bl = subst (λ (o : ℕ). Beside o (o + shapes) l₁ l₂) f filled'.lessers_beside in
-            let bg = subst (λ (o : ℕ). Beside o (o + shapes) g₁ g₂) f filled'.greaters_beside in
-            said_stays can.few (stays_below (first alone) paired.lessers_beside near) (stays_below (first alone) paired.greaters_beside near)
-            (said_stays can.few (first_stays can.axis bl) (first_stays can.axis bg) s)
+      said-second : Said lows highs (starts_at (second alone)) (starts_at (second alone) + shapes) b l g
+      said-second =
+          let near : starts_at (second alone) + 256 ≤ 768 = omega (arith, axis_near (second alone)) in
+          let s : Said lows highs (starts_at (second alone)) (starts_at (second alone) + shapes) b l₂ g₂ = subst (λ (o : ℕ). Said lows highs o (o + shapes) b l₂ g₂) f filled'.said in
+          said_stays can.few (stays_below (starts_at (second alone)) paired.lessers_beside near) (stays_below (starts_at (second alone)) paired.greaters_beside near) s
 
-        said-second : Said lows highs (second alone) (second alone + shapes) b l g
-        said-second =
-            let near : second alone + 256 ≤ 768 = omega (arith, axis_near (second-axis can.axis)) in
-            let s : Said lows highs (second alone) (second alone + shapes) b l₂ g₂ = subst (λ (o : ℕ). Said lows highs o (o + shapes) b l₂ g₂) f filled'.said in
-            said_stays can.few (stays_below (second alone) paired.lessers_beside near) (stays_below (second alone) paired.greaters_beside near) s
-
-        pub pair_follows : (masks : List ℕ) (left : ℕ) → Leaves halves l g masks left shapes
-            → Follows probe shapes halves lows highs l g (record { one = a; other = b; alone = alone; shapes = shapes; left = left; masks = masks; paired = true })
-        pair_follows masks left leaves = record {
-          shapes_still = refl;
-          one = ea ∙ ap (along_of probe) e;
-          other = eb ∙ ap (along_of probe) f;
-          paired = refl;
-          ranked = record {
-            few = can.few;
-            halves_length = can.halves_length;
-            sized = paired_sized;
-            numbers = record { one = finite-along probe can.good a one ea; other = finite-along probe can.good b other eb };
-            axis = can.axis;
-            pairs = λ h. record {
-              said_one = said-first;
-              said_other = said-second;
-              joined = subst (λ (o : ℕ). Joined (first alone) o shapes l g) f (subst (λ (o : ℕ). Joined o other shapes l g) e paired.joined);
-              leaves = leaves;
-            };
+      pub pair_follows : (masks : List ℕ) (left : ℕ) → Leaves halves l g masks left shapes
+          → Follows probe shapes halves lows highs l g (record { one = a; other = b; alone = alone; shapes = shapes; left = left; masks = masks })
+      pair_follows masks left leaves = record {
+        shapes_still = refl;
+        one = ea;
+        other = eb;
+        ranked = record {
+          few = can.few;
+          halves_length = can.halves_length;
+          sized = paired_sized;
+          numbers = record { one = finite-along probe can.good a (first alone) ea; other = finite-along probe can.good b (second alone) eb };
+          pairs = record {
+            said_one = said-first;
+            said_other = said-second;
+            joined = subst (λ (o : ℕ). Joined (starts_at (first alone)) o shapes l g) f (subst (λ (o : ℕ). Joined o other shapes l g) e paired.joined);
+            leaves = leaves;
           };
-        }
+        };
+      }

@@ -12,35 +12,28 @@ use lib.Ieee.{Float, nan}
 use Rattle.outcome.specs.Outcome.{Outcome, given, refused, unfit}
 use Rattle.cross_cuts.specs.Cuts.{Cut, fault, cut, start_of, faultless}
 use Rattle.cross_cuts.specs.Keys.{Complete, Ends}
-use Rattle.cross_cuts.specs.declared.Row.{Row}
-use Rattle.cross_cuts.specs.declared.Row.TheVariants as row
+use Rattle.std.specs.Prelude.{Result, Ok, Err}
+use Rattle.std.specs.Result.{result_unwrap_or}
 use Rattle.cross_shapes.specs.Shapes.{Range, wrong, missed, free, from, box_range, crossed_twice, good_pair, box_cut}
 use Rattle.cross_shapes.specs.declared.Probe.{Probe}
 use Rattle.cross_columns.specs.Columns.{cuts_in}
 use Rattle.cross_columns.proofs.CutLaws.{cuts-length, cuts-at}
 use Rattle.cross_axis.specs.Axes.{Beside}
 use Rattle.cross_hits.specs.Hits.{Clear}
-use Rattle.cross_kept.specs.Keeping.{Over, Crossed, Counted}
+use Rattle.cross_kept.specs.Keeping.{starts_at, Over, Crossed}
 use Rattle.cross_kept.specs.declared.Kept.{Kept}
 use Rattle.cross_kept.proofs.KeepLaws.{ranked_beside}
 
 -- ---- how many crossings
-pub fault_counted : (r : Row) (place n : ℕ) → r ≡ row.Fault place → Counted r n
-fault_counted r place n f = record { is = λ m e. absurd (let z : ◌≡◌ {A = ℕ} 0 1 = cc in omega arith) }
-
-pub count_counted : (r : Row) (m : ℕ) → r ≡ row.Count m → Counted r m
-count_counted r m f = record { is = λ k e. cc }
-
 is_refused : Outcome (Unit {0}) → Bool
 is_refused (given a) = false
 is_refused (refused number place) = true
 is_refused (unfit number place) = true
 
-complete : (cuts : List Cut) (shapes : ℕ) → length cuts ≡ shapes → (bytes keys : List ℕ) → faultless 16 0 cuts ≡ given tt → (r : Row) (n : ℕ) → Ends 256 16 cuts bytes keys r → Counted r n → Complete 256 16 cuts bytes keys shapes n
+complete : (cuts : List Cut) (shapes : ℕ) → length cuts ≡ shapes → (bytes keys : List ℕ) → faultless 16 0 cuts ≡ given tt → (r : Result ℕ ℕ) → Ends 256 16 cuts bytes keys r → Complete 256 16 cuts bytes keys shapes (result_unwrap_or r 0)
 unfolding is_refused
-complete cuts shapes long bytes keys no_fault (row.Fault i) n ends counted = absurd (true≢false (ap is_refused (sym ends ∙ no_fault)))
-complete cuts shapes long bytes keys no_fault (row.Count m) n ends counted =
-    subst (λ (k : ℕ). Complete 256 16 cuts bytes keys k n) long (subst (λ (k : ℕ). Complete 256 16 cuts bytes keys (length cuts) k) (sym (counted.is m refl)) ends)
+complete cuts shapes long bytes keys no_fault (Err i) ends = absurd (true≢false (ap is_refused (sym ends ∙ no_fault)))
+complete cuts shapes long bytes keys no_fault (Ok m) ends = subst (λ (k : ℕ). Complete 256 16 cuts bytes keys k m) long ends
 
 -- ---- a line starts outside of every box
 twice-outside : (r : Range) → start_of (crossed_twice r) ≡ 0
@@ -75,8 +68,10 @@ clear_after probe shapes lows highs halves bytes keys m done = record {
 
 -- ---- the line, over its axes
 module _ {probe : Probe} {kept : Kept} {halves : List ℕ} {lows highs : List Float} {l₀ g₀ bytes₀ keys₀ : List ℕ} (over : Over probe kept halves lows highs l₀ g₀ bytes₀ keys₀) where
-  pub over-crossed : {l g bytes keys : List ℕ} → Beside kept.alone (kept.alone + 256) l₀ l → Beside kept.alone (kept.alone + 256) g₀ g → (r : Row) (n : ℕ) → Ends 256 16 (cuts_in probe kept.shapes lows highs halves) bytes keys r → Counted r n
+  pub over-crossed : {l g bytes keys : List ℕ} (start : ℕ) → start ≡ starts_at kept.alone → Beside start (start + 256) l₀ l → Beside start (start + 256) g₀ g → (r : Result ℕ ℕ) (n : ℕ) → Ends 256 16 (cuts_in probe kept.shapes lows highs halves) bytes keys r → n ≡ result_unwrap_or r 0
       → Crossed probe kept halves lows highs l g bytes keys n
-  over-crossed {l} {g} {bytes} {keys} bl bg r n ends counted =
-      let done = complete (cuts_in probe kept.shapes lows highs halves) kept.shapes (cuts-length probe lows highs halves kept.shapes) bytes keys over.lent.no_fault r n ends counted in
-      record { ranked = ranked_beside over.follows.ranked bl bg; gathered = done; clear = clear_after probe kept.shapes lows highs halves bytes keys n done }
+  over-crossed {l} {g} {bytes} {keys} start e bl bg r n ends counted =
+      let whole = complete (cuts_in probe kept.shapes lows highs halves) kept.shapes (cuts-length probe lows highs halves kept.shapes) bytes keys over.lent.no_fault r ends in
+      let done : Complete 256 16 (cuts_in probe kept.shapes lows highs halves) bytes keys kept.shapes n = subst (λ (m : ℕ). Complete 256 16 (cuts_in probe kept.shapes lows highs halves) bytes keys kept.shapes m) (sym counted) whole in
+      let ranked = ranked_beside over.follows.ranked (subst (λ (o : ℕ). Beside o (o + 256) l₀ l) e bl) (subst (λ (o : ℕ). Beside o (o + 256) g₀ g) e bg) in
+      record { ranked = ranked; gathered = done; clear = clear_after probe kept.shapes lows highs halves bytes keys n done }

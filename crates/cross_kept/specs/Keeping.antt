@@ -1,48 +1,48 @@
 -- One line after another over one drawing: what is kept between them, and what a line gives.
-use Rattle.std.specs.Prelude.{ℕ, ◌+◌, ◌/◌, ◌%◌, ◌<◌, ◌≤◌, min, max, ◌≡◌, Bool, true, false, cond, not, ◌||◌, List, eqb, ltb, length, get_or, Float}
+use Rattle.std.specs.Prelude.{Option, Some, ℕ, ◌+◌, ◌/◌, ◌%◌, ◌<◌, ◌≤◌, min, max, ◌≡◌, Bool, true, false, cond, not, ◌||◌, List, eqb, ltb, length, get_or, Float}
 use Rattle.outcome.specs.Outcome.{given}
 use Rattle.word_bits.specs.Words.{bit}
 use Rattle.cross_cuts.specs.Cuts.{faultless}
 use Rattle.cross_cuts.specs.Keys.{Complete}
-use Rattle.cross_cuts.specs.declared.Row.{Row}
-use Rattle.cross_cuts.specs.declared.Row.TheVariants as row
 use Rattle.cross_shapes.specs.declared.Probe.{Probe}
 use Rattle.cross_line.specs.Crossing.{good_probe}
 use Rattle.cross_columns.specs.Columns.{FiniteFaces, cuts_in}
 use Rattle.cross_axis.specs.Axes.{Sized, FiniteAlong, Said, Beside}
 use Rattle.cross_axis.specs.declared.Along.{Along}
 use Rattle.cross_hits.specs.Hits.{Clear}
+use Rattle.cross_kept.specs.declared.Axis.{Axis}
+use Rattle.cross_kept.specs.declared.Axis.TheVariants.{X, Y, Z}
 use Rattle.cross_kept.specs.declared.Kept.{Kept}
 
--- One of the three axes, by where it starts.
-pub data IsAxis : ℕ → Type 0 where
-  x_axis : IsAxis 0
-  y_axis : IsAxis 256
-  z_axis : IsAxis 512
+-- Where the part of an axis starts.
+abbrev pub starts_at : Axis → ℕ
+starts_at X = 0
+starts_at Y = 256
+starts_at Z = 512
 
--- Where the two others start.
-abbrev pub first : ℕ → ℕ
-first alone = cond (eqb alone 0) 256 0
+-- The two others.
+abbrev pub first : Axis → Axis
+first X = Y
+first Y = X
+first Z = X
 
-abbrev pub second : ℕ → ℕ
-second alone = cond (eqb alone 512) 256 512
+abbrev pub second : Axis → Axis
+second X = Z
+second Y = Z
+second Z = Y
 
-pub record AxisStill (before now : ℕ) : Type 0 where
-  pub is : IsAxis before → IsAxis now
-
--- A line's numbers on the axis that starts there.
-abbrev pub along_of : Probe → ℕ → Along
-along_of probe start =
-    cond (eqb start 0) (record { origin = probe.ox; component = probe.dx })
-    (cond (eqb start 256) (record { origin = probe.oy; component = probe.dy }) (record { origin = probe.oz; component = probe.dz }))
+-- A line's numbers on an axis.
+abbrev pub along_of : Probe → Axis → Along
+along_of probe X = record { origin = probe.ox; component = probe.dx }
+along_of probe Y = record { origin = probe.oy; component = probe.dy }
+along_of probe Z = record { origin = probe.oz; component = probe.dz }
 
 pub record Numbers (kept : Kept) : Type 0 where
   pub one : FiniteAlong kept.one
   pub other : FiniteAlong kept.other
 
--- A yes means that two axes are kept, and that they are this line's.
+-- A yes means that the two axes that are kept are this line's.
 pub record Serves (probe : Probe) (kept : Kept) (r : Bool) : Type 0 where
-  pub paired : r ≡ true → kept.paired ≡ true
   pub one : r ≡ true → kept.one ≡ along_of probe (first kept.alone)
   pub other : r ≡ true → kept.other ≡ along_of probe (second kept.alone)
 
@@ -69,9 +69,9 @@ pub record Leaves (halves lessers greaters masks : List ℕ) (left shapes : ℕ)
 
 -- Two axes are together: what each says, what both say, and what remains.
 pub record Pairs (kept : Kept) (halves : List ℕ) (lows highs : List Float) (lessers greaters : List ℕ) : Type 0 where
-  pub said_one : Said lows highs (first kept.alone) (first kept.alone + kept.shapes) kept.one lessers greaters
-  pub said_other : Said lows highs (second kept.alone) (second kept.alone + kept.shapes) kept.other lessers greaters
-  pub joined : Joined (first kept.alone) (second kept.alone) kept.shapes lessers greaters
+  pub said_one : Said lows highs (starts_at (first kept.alone)) (starts_at (first kept.alone) + kept.shapes) kept.one lessers greaters
+  pub said_other : Said lows highs (starts_at (second kept.alone)) (starts_at (second kept.alone) + kept.shapes) kept.other lessers greaters
+  pub joined : Joined (starts_at (first kept.alone)) (starts_at (second kept.alone)) kept.shapes lessers greaters
   pub leaves : Leaves halves lessers greaters kept.masks kept.left kept.shapes
 
 -- What is kept.
@@ -80,29 +80,25 @@ pub record Ranked (kept : Kept) (halves : List ℕ) (lows highs : List Float) (l
   pub halves_length : length halves ≡ 256
   pub sized : Sized lows highs lessers greaters
   pub numbers : Numbers kept
-  pub axis : IsAxis kept.alone
-  pub pairs : kept.paired ≡ true → Pairs kept halves lows highs lessers greaters
+  pub pairs : Pairs kept halves lows highs lessers greaters
 
 -- Two axes of a line may be put together.
-pub record CanPair (probe : Probe) (alone shapes : ℕ) (halves : List ℕ) (lows highs : List Float) (lessers greaters : List ℕ) : Type 0 where
+pub record CanPair (probe : Probe) (shapes : ℕ) (halves : List ℕ) (lows highs : List Float) (lessers greaters : List ℕ) : Type 0 where
   pub good : good_probe probe ≡ true
-  pub axis : IsAxis alone
   pub few : shapes ≤ 256
   pub halves_length : length halves ≡ 256
   pub sized : Sized lows highs lessers greaters
   pub faces : FiniteFaces shapes lows highs
 
-pub record Followable (probe : Probe) (kept : Kept) (halves : List ℕ) (lows highs : List Float) (lessers greaters : List ℕ) : Type 0 where
-  pub good : good_probe probe ≡ true
-  pub faces : FiniteFaces kept.shapes lows highs
-  pub ranked : Ranked kept halves lows highs lessers greaters
+-- What may be kept, of so many shapes.
+pub record Keeps (shapes : ℕ) (halves : List ℕ) (lows highs : List Float) (lessers greaters : List ℕ) (kept : Option Kept) : Type 0 where
+  pub ranked : (k : Kept) → kept ≡ Some k → (k.shapes ≡ shapes) × Ranked k halves lows highs lessers greaters
 
 -- Two axes of this line are together.
 pub record Follows (probe : Probe) (shapes : ℕ) (halves : List ℕ) (lows highs : List Float) (lessers greaters : List ℕ) (r : Kept) : Type 0 where
   pub shapes_still : r.shapes ≡ shapes
   pub one : r.one ≡ along_of probe (first r.alone)
   pub other : r.other ≡ along_of probe (second r.alone)
-  pub paired : r.paired ≡ true
   pub ranked : Ranked r halves lows highs lessers greaters
 
 -- A line that is not at fault, and room for what it has.
@@ -123,13 +119,3 @@ pub record Crossed (probe : Probe) (kept : Kept) (halves : List ℕ) (lows highs
   pub ranked : Ranked kept halves lows highs lessers greaters
   pub gathered : Complete 256 16 (cuts_in probe kept.shapes lows highs halves) bytes keys kept.shapes count
   pub clear : Clear halves bytes 0 kept.shapes
-
-pub record Counted (r : Row) (n : ℕ) : Type 0 where
-  pub is : (m : ℕ) → r ≡ row.Count m → n ≡ m
-
--- Nothing is kept yet.
-pub record NothingKept (shapes : ℕ) (kept : Kept) : Type 0 where
-  pub shapes_are : kept.shapes ≡ shapes
-  pub numbers : Numbers kept
-  pub axis : IsAxis kept.alone
-  pub apart : kept.paired ≡ false

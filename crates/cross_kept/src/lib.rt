@@ -2,219 +2,169 @@
 // over; the third, which stands alone, is asked of those, and the shapes are gathered as for one line.
 #![tactic(auto)]
 
-ghost use Rattle.std.specs.Prelude.{◌≡◌, true, false, ◌+◌, ◌<◌, ◌≤◌, length};
-ghost use Rattle.word_bits.specs.Words.{Picked};
+ghost use Rattle.std.specs.Prelude.{◌≡◌, true, ◌<◌, ◌≤◌};
 ghost use Rattle.cross_line.specs.Crossing.{good_probe};
-ghost use Rattle.cross_kept.specs.Keeping.{AxisStill, first, second, along_of, Serves, Paired, remains, Leaves, CanPair, Numbers, Followable, Follows, Over, Crossed, NothingKept, Counted};
+ghost use Rattle.cross_kept.specs.Keeping.{starts_at, first, second, along_of, Numbers, Serves, Paired, remains, Leaves, CanPair, Keeps, Follows, Over, Crossed};
 
-use cross_axis::Along;
-use cross_cuts::Row;
-use cross_hits::Alone;
+use cross_axis::{Along, Ranks, TOGETHER};
+use cross_columns::{Columns, PART};
+use cross_hits::{Alone, BLOCK, MASKS};
 use cross_shapes::Probe;
 
-// What is kept: the numbers of two axes; which one stands alone, by where its part starts; how many shapes there are; of which sixteens two
-// axes leave something over, and of which of their shapes, by bits; and whether anything is kept yet.
+// One of the three axes.
+#[derive(Clone, Copy, Drop)]
+pub enum Axis {
+    X,
+    Y,
+    Z,
+}
+
+impl Axis {
+    // Where its part starts.
+    fn start(self) -> usize
+        ensures { result ≡ starts_at self }
+    {
+        match self {
+            Axis::X => 0,
+            Axis::Y => PART,
+            Axis::Z => 2 * PART,
+        }
+    }
+
+    // The two others.
+    fn first(self) -> Axis
+        ensures { result ≡ first self }
+    {
+        match self {
+            Axis::X => Axis::Y,
+            Axis::Y => Axis::X,
+            Axis::Z => Axis::X,
+        }
+    }
+
+    fn second(self) -> Axis
+        ensures { result ≡ second self }
+    {
+        match self {
+            Axis::X => Axis::Z,
+            Axis::Y => Axis::Z,
+            Axis::Z => Axis::Y,
+        }
+    }
+
+    // A line's numbers on it.
+    fn along(self, probe: Probe) -> Along
+        ensures { result ≡ along_of probe self }
+    {
+        match self {
+            Axis::X => Along {
+                origin: probe.ox,
+                component: probe.dx,
+            },
+            Axis::Y => Along {
+                origin: probe.oy,
+                component: probe.dy,
+            },
+            Axis::Z => Along {
+                origin: probe.oz,
+                component: probe.dz,
+            },
+        }
+    }
+}
+
+// What is kept of two axes that are together: their numbers; which one stands alone; how many shapes there are; of which sixteens the two
+// leave something over, and of which of their shapes, by bits.
 #[derive(Clone, Copy, Drop)]
 pub struct Kept {
     pub one: Along,
     pub other: Along,
-    pub alone: usize,
+    pub alone: Axis,
     pub shapes: usize,
     pub left: u64,
-    pub masks: [u32; 16],
-    pub paired: bool,
-}
-
-// Before the first line.
-pub fn nothing_kept(shapes: usize) -> Kept
-    ensures { NothingKept shapes result }
-{
-    let none = Along {
-        origin: 0.0,
-        component: 0.0,
-    };
-    Kept {
-        one: none,
-        other: none,
-        alone: 0,
-        shapes,
-        left: 0,
-        masks: [0u32; 16],
-        paired: false,
-    }
-}
-
-fn first_of(alone: usize) -> usize
-    ensures { result ≡ first alone }
-{
-    if alone == 0 {
-        return 256;
-    }
-    0
-}
-
-fn second_of(alone: usize) -> usize
-    ensures { result ≡ second alone }
-{
-    if alone == 512 {
-        return 256;
-    }
-    512
-}
-
-// A line's numbers on the axis that starts there.
-fn along_of(probe: Probe, start: usize) -> Along
-    ensures { result ≡ along_of probe start }
-{
-    if start == 0 {
-        return Along {
-            origin: probe.ox,
-            component: probe.dx,
-        };
-    }
-    if start == 256 {
-        return Along {
-            origin: probe.oy,
-            component: probe.dy,
-        };
-    }
-    Along {
-        origin: probe.oz,
-        component: probe.dz,
-    }
+    pub masks: [u32; MASKS],
 }
 
 // Whether the two axes that are kept are those of this line too.
-pub fn serves(probe: Probe, kept: Kept) -> bool
+fn serves(probe: Probe, kept: Kept) -> bool
     requires { (good_probe probe ≡ true) × Numbers kept }
     ensures { Serves probe kept result }
 {
-    let one = cross_axis::same(kept.one, along_of(probe, first_of(kept.alone)));
-    let other = cross_axis::same(kept.other, along_of(probe, second_of(kept.alone)));
-    kept.paired & (one & other)
+    let one = cross_axis::same(kept.one, kept.alone.first().along(probe));
+    let other = cross_axis::same(kept.other, kept.alone.second().along(probe));
+    one & other
 }
 
-fn moves(probe: Probe, next: Probe, start: usize) -> bool {
-    let here = along_of(probe, start);
-    let there = along_of(next, start);
+fn moves(probe: Probe, next: Probe, axis: Axis) -> bool {
+    let here = axis.along(probe);
+    let there = axis.along(next);
     (here.origin != there.origin) | (here.component != there.component)
 }
 
 // The axis that is to stand alone: one that is another at the next line, so that the two others may serve it.
-fn choose(before: usize, probe: Probe, next: Probe) -> usize
-    ensures { AxisStill before result }
-{
-    if moves(probe, next, before) {
-        return before;
-    }
-    if moves(probe, next, 512) {
-        return 512;
-    }
-    if moves(probe, next, 256) {
-        return 256;
-    }
-    if moves(probe, next, 0) {
-        return 0;
+fn choose(before: Axis, probe: Probe, next: Probe) -> Axis {
+    for axis in [before, Axis::Z, Axis::Y, Axis::X] {
+        if moves(probe, next, axis) {
+            return axis;
+        }
     }
     before
 }
 
 // Puts two axes together.
-fn pair(
-    one: usize,
-    other: usize,
-    shapes: usize,
-    lessers: &mut [u32; 1024],
-    greaters: &mut [u32; 1024],
-)
-    requires one_bound { (one ≤ 512) × (other ≤ 512) × (shapes ≤ 256) }
-    requires lessers_len { (length lessers.old ≡ 1024) × (length greaters.old ≡ 1024) }
-    ensures { Paired one other shapes lessers.old greaters.old lessers.new greaters.new }
+fn pair(one: usize, other: usize, shapes: usize, ranks: &mut Ranks)
+    requires { (one ≤ 512) × (other ≤ 512) × (shapes ≤ 256) }
+    ensures { Paired one other shapes ranks.old.lessers ranks.old.greaters ranks.new.lessers ranks.new.greaters }
 {
-    let mut i = 0;
-    while i < shapes {
+    for i in 0..shapes {
         let a = one + i;
         let b = other + i;
-        let together = 768 + i;
-        lessers[together] = cross_shapes::most(lessers[a], lessers[b]);
-        greaters[together] = cross_shapes::least(greaters[a], greaters[b]);
-        i += 1;
+        let together = TOGETHER + i;
+        ranks.lessers[together] = ranks.lessers[a].max(ranks.lessers[b]);
+        ranks.greaters[together] = ranks.greaters[a].min(ranks.greaters[b]);
     }
 }
 
-fn remains(i: usize, halves: &[u32; 256], lessers: &[u32; 1024], greaters: &[u32; 1024]) -> bool
-    requires { (i < 256) × (length halves.now ≡ 256) × (length lessers.now ≡ 1024) × (length greaters.now ≡ 1024) }
-    ensures { result ≡ remains halves.now lessers.now greaters.now i }
+// Whether two axes leave shape i over.
+fn remains(i: usize, columns: &Columns, ranks: &Ranks) -> bool
+    requires { i < 256 }
+    ensures { result ≡ remains columns.now.halves ranks.now.lessers ranks.now.greaters i }
 {
-    let together = 768 + i;
-    (halves[i] != 0) | (lessers[together] < greaters[together])
+    let together = TOGETHER + i;
+    (columns.halves[i] != 0) | (ranks.lessers[together] < ranks.greaters[together])
 }
 
-// Which of sixteen shapes two axes leave over.
-fn remaining(
-    start: usize,
-    halves: &[u32; 256],
-    lessers: &[u32; 1024],
-    greaters: &[u32; 1024],
-) -> u32
-    requires { (start + 16 ≤ 256) × (length halves.now ≡ 256) × (length lessers.now ≡ 1024) × (length greaters.now ≡ 1024) }
-    ensures { Picked (λ c. remains halves.now lessers.now greaters.now (start + c)) 16 result }
-{
-    let mut bits = 0u32;
-    let mut j = 0usize;
-    while j < 16 {
-        let over = remains(start + j, halves, lessers, greaters);
-        bits = word_bits::with_bit(bits, j, over);
-        j += 1;
-    }
-    bits
-}
-
-// And of all the shapes; of which sixteens there are any.
-fn leave(
-    shapes: usize,
-    halves: &[u32; 256],
-    lessers: &[u32; 1024],
-    greaters: &[u32; 1024],
-    masks: &mut [u32; 16],
-) -> u64
-    requires { (shapes ≤ 256) × (length halves.now ≡ 256) × (length lessers.now ≡ 1024) × (length greaters.now ≡ 1024) × (length masks.old ≡ 16) }
-    ensures { Leaves halves.now lessers.now greaters.now masks.new result shapes }
+// Which of the shapes two axes leave over; of which sixteens there are any.
+fn leave(shapes: usize, columns: &Columns, ranks: &Ranks, masks: &mut [u32; MASKS]) -> u64
+    requires { shapes ≤ 256 }
+    ensures { Leaves columns.now.halves ranks.now.lessers ranks.now.greaters masks.new result shapes }
 {
     let mut left = 0u32;
-    let mut b = 0usize;
-    while 16 * b < shapes {
-        let over = remaining(16 * b, halves, lessers, greaters);
+    for b in 0..shapes.div_ceil(BLOCK) {
+        let start = BLOCK * b;
+        let over = cross_hits::picked(|c| remains(start + c, columns, ranks));
         masks[b] = over;
         left = word_bits::with_bit(left, b, over != 0);
-        b += 1;
     }
-    basics::long_word(left)
+    u64::from(left)
 }
 
 // The two axes beside the one that stands alone, filled and put together.
-fn pair_axes(
-    probe: Probe,
-    alone: usize,
-    shapes: usize,
-    halves: &[u32; 256],
-    lows: &[f64; 768],
-    highs: &[f64; 768],
-    lessers: &mut [u32; 1024],
-    greaters: &mut [u32; 1024],
-) -> Kept
-    requires { CanPair probe alone shapes halves.now lows.now highs.now lessers.old greaters.old }
-    ensures { Follows probe shapes halves.now lows.now highs.now lessers.new greaters.new result }
+fn pair_axes(probe: Probe, alone: Axis, shapes: usize, columns: &Columns, ranks: &mut Ranks) -> Kept
+    requires { CanPair probe shapes columns.now.halves columns.now.lows columns.now.highs ranks.old.lessers ranks.old.greaters }
+    ensures { Follows probe shapes columns.now.halves columns.now.lows columns.now.highs ranks.new.lessers ranks.new.greaters result }
 {
-    let one = first_of(alone);
-    let other = second_of(alone);
-    let on_one = along_of(probe, one);
-    let on_other = along_of(probe, other);
-    cross_axis::fill(one, shapes, on_one, lows, highs, lessers, greaters);
-    cross_axis::fill(other, shapes, on_other, lows, highs, lessers, greaters);
-    pair(one, other, shapes, lessers, greaters);
-    let mut masks = [0u32; 16];
-    let left = leave(shapes, halves, lessers, greaters, &mut masks);
+    let first = alone.first();
+    let second = alone.second();
+    let one = first.start();
+    let other = second.start();
+    let on_one = first.along(probe);
+    let on_other = second.along(probe);
+    cross_axis::fill(one, shapes, on_one, columns, ranks);
+    cross_axis::fill(other, shapes, on_other, columns, ranks);
+    pair(one, other, shapes, ranks);
+    let mut masks = [0u32; MASKS];
+    let left = leave(shapes, columns, ranks, &mut masks);
     Kept {
         one: on_one,
         other: on_other,
@@ -222,74 +172,70 @@ fn pair_axes(
         shapes,
         left,
         masks,
-        paired: true,
     }
 }
 
-// Two axes of line k, which those that are kept do not serve.
-pub fn take_up(
+// Two axes of line k anew.
+fn take_up(
     probe: Probe,
     lines: &[f64],
     k: usize,
-    kept: Kept,
-    halves: &[u32; 256],
-    lows: &[f64; 768],
-    highs: &[f64; 768],
-    lessers: &mut [u32; 1024],
-    greaters: &mut [u32; 1024],
+    before: Axis,
+    shapes: usize,
+    columns: &Columns,
+    ranks: &mut Ranks,
 ) -> Kept
     requires k_bound { k < 4294967296 }
-    requires followable { Followable probe kept halves.now lows.now highs.now lessers.old greaters.old }
-    ensures { Follows probe kept.shapes halves.now lows.now highs.now lessers.new greaters.new result }
+    requires can { CanPair probe shapes columns.now.halves columns.now.lows columns.now.highs ranks.old.lessers ranks.old.greaters }
+    ensures { Follows probe shapes columns.now.halves columns.now.lows columns.now.highs ranks.new.lessers ranks.new.greaters result }
 {
     let next = cross_drawn::probe_at(lines, k + 1);
-    let alone = choose(kept.alone, probe, next);
-    pair_axes(
-        probe,
-        alone,
-        kept.shapes,
-        halves,
-        lows,
-        highs,
-        lessers,
-        greaters,
-    )
+    pair_axes(probe, choose(before, probe, next), shapes, columns, ranks)
 }
 
-// How many crossings there are in a row that is not at fault.
-fn counted(row: Row) -> usize
-    ensures { Counted row result }
+// Two axes of line k: those that are kept, where they serve it.
+pub fn keep(
+    probe: Probe,
+    lines: &[f64],
+    k: usize,
+    kept: Option<Kept>,
+    shapes: usize,
+    columns: &Columns,
+    ranks: &mut Ranks,
+) -> Kept
+    requires k_bound { k < 4294967296 }
+    requires can { CanPair probe shapes columns.now.halves columns.now.lows columns.now.highs ranks.old.lessers ranks.old.greaters }
+    requires keeps { Keeps shapes columns.now.halves columns.now.lows columns.now.highs ranks.old.lessers ranks.old.greaters kept }
+    ensures { Follows probe shapes columns.now.halves columns.now.lows columns.now.highs ranks.new.lessers ranks.new.greaters result }
 {
-    match row {
-        Row::Fault(_) => 0,
-        Row::Count(m) => m,
+    match kept {
+        None => take_up(probe, lines, k, Axis::X, shapes, columns, ranks),
+        Some(kept) => {
+            if serves(probe, kept) {
+                return kept;
+            }
+            take_up(probe, lines, k, kept.alone, shapes, columns, ranks)
+        }
     }
 }
 
 // What a line has of its shapes, over its axes.
 pub fn over_axes(
     probe: Probe,
-    kept: Kept,
-    halves: &[u32; 256],
-    lows: &[f64; 768],
-    highs: &[f64; 768],
-    lessers: &mut [u32; 1024],
-    greaters: &mut [u32; 1024],
+    kept: &Kept,
+    columns: &Columns,
+    ranks: &mut Ranks,
     bytes: &mut [u8],
     keys: &mut [u64],
 ) -> usize
-    requires { Over probe kept halves.now lows.now highs.now lessers.old greaters.old bytes.old keys.old }
-    ensures { Crossed probe kept halves.now lows.now highs.now lessers.new greaters.new bytes.new keys.new result }
+    requires { Over probe kept.now columns.now.halves columns.now.lows columns.now.highs ranks.old.lessers ranks.old.greaters bytes.old keys.old }
+    ensures { Crossed probe kept.now columns.now.halves columns.now.lows columns.now.highs ranks.new.lessers ranks.new.greaters bytes.new keys.new result }
 {
     let alone = Alone {
-        start: kept.alone,
-        along: along_of(probe, kept.alone),
+        start: kept.alone.start(),
+        along: kept.alone.along(probe),
         shapes: kept.shapes,
         left: kept.left,
     };
-    let masks = kept.masks;
-    let row = cross_hits::gather(
-        probe, alone, &masks, halves, lows, highs, lessers, greaters, bytes, keys,
-    );
-    counted(row)
+    cross_hits::gather(probe, alone, &kept.masks, columns, ranks, bytes, keys).unwrap_or(0)
 }

@@ -1,34 +1,30 @@
 -- The shapes that are lent, one by one, and the tests on the probe line.
 use mathlib.Core.Path.{◌≡◌, refl, sym, ap, ◌∙◌}
-use Prim.Native.Nat.{ℕ, zero, suc, ◌+◌, ◌*◌, ◌<◌, ◌≤◌}
+use Prim.Native.Nat.{ℕ, zero, suc, ◌+◌, ◌*◌, ◌<◌}
 use native.Mathlib.Omega.{arith}
-use mathlib.Core.Bool.{Bool, true, false, not}
 use mathlib.Core.List.{List, [], ◌∷◌, map}
 use borrow.Author.Tests.{ne_eqb}
-use lib.ListN.{length, drop, get_or, length-map, get_or-eq_default}
+use lib.ListN.{length, drop, get_or, length-map}
 use lib.Seq.{drop-drop, get_or-drop}
-use lib.Ieee.{Float, nan, binary64, div, of_bits}
+use lib.Ieee.{Float, nan, binary64, of_bits}
 use Rattle.cross_cuts.specs.Cuts.{fault}
 use Rattle.cross_answer.specs.Giving.{InRange}
-use Rattle.cross_shapes.specs.Shapes.{finite, is_zero, shape_cut}
+use Rattle.cross_shapes.specs.Shapes.{shape_cut}
 use Rattle.cross_shapes.specs.declared.Probe.{Probe}
 use Rattle.cross_shapes.specs.declared.Shape.{Shape}
 use Rattle.cross_shapes.specs.declared.Shape.TheVariants.{HalfSpace, Block}
 use Rattle.cross_shapes.proofs.RangeLaws.{shape_in_range}
 use Rattle.cross_line.specs.Lent.{shape_from, shapes_of}
-use Rattle.cross_line.specs.Crossing.{all_three, good_probe, shape_cuts}
+use Rattle.cross_line.specs.Crossing.{shape_cuts}
 
--- ---- a number that the list lacks
-nan_is : div binary64 (of_bits binary64 0) (of_bits binary64 0) ≡ nan
-unfolding of_bits div
+-- ---- a number, or a NaN where the list lacks it
+pub nan_is : of_bits binary64 9221120237041090560 ≡ nan
+unfolding of_bits
 nan_is = refl
-
-pub number_past : (l : List Float) (k : ℕ) → length l ≤ k → div binary64 (of_bits binary64 0) (of_bits binary64 0) ≡ get_or l k nan
-number_past l k h = nan_is ∙ sym (get_or-eq_default l nan h)
 
 -- ---- one shape
 pub block : (numbers : List Float) (n : ℕ) (a b c d e f : Float) → a ≡ get_or numbers n nan → b ≡ get_or numbers (n + 1) nan → c ≡ get_or numbers (n + 2) nan → d ≡ get_or numbers (n + 3) nan → e ≡ get_or numbers (n + 4) nan → f ≡ get_or numbers (n + 5) nan
-    → Block a b c d e f ≡ shape_from 255 (drop n numbers)
+    → Block (record { lx = a; ly = b; lz = c; hx = d; hy = e; hz = f }) ≡ shape_from 255 (drop n numbers)
 block numbers n a b c d e f ea eb ec ed ee ef =
     let zero-on : n + 0 ≡ n = omega arith in
     sym (rw (get_or-drop n numbers 0 nan, zero-on, get_or-drop n numbers 1 nan, get_or-drop n numbers 2 nan, get_or-drop n numbers 3 nan, get_or-drop n numbers 4 nan, get_or-drop n numbers 5 nan, ← ea, ← eb, ← ec, ← ed, ← ee, ← ef))
@@ -66,27 +62,3 @@ cuts_in_range probe kinds numbers = by (shapes_of kinds numbers)
     by : (shapes : List Shape) → InRange (map (λ shape. shape_cut probe shape) shapes)
     by [] = tt
     by (s ∷ shapes) = (shape_in_range probe s, by shapes)
-
--- ---- the probe line
-module _ (f : Float → Bool) (a b c : Float) (x : Bool) (e : x ≡ f a) where
-  pub Three-first : x ≡ false → false ≡ all_three f a b c
-  Three-first h = sym (rw (sym e ∙ h))
-
-  pub Three-second : (y : Bool) → y ≡ f b → x ≡ true → y ≡ false → false ≡ all_three f a b c
-  Three-second y g h k = sym (rw (sym e ∙ h, sym g ∙ k))
-
-  pub Three-last : (y z : Bool) → y ≡ f b → z ≡ f c → x ≡ true → y ≡ true → z ≡ all_three f a b c
-  Three-last y z g m h k = m ∙ sym (rw (sym e ∙ h, sym g ∙ k))
-
-module _ (probe : Probe) (x : Bool) (e : x ≡ all_three finite probe.ox probe.oy probe.oz) where
-  pub probe_first : x ≡ false → false ≡ good_probe probe
-  unfolding good_probe
-  probe_first h = sym (rw (sym e ∙ h))
-
-  pub probe_second : (y : Bool) → y ≡ all_three finite probe.dx probe.dy probe.dz → x ≡ true → y ≡ false → false ≡ good_probe probe
-  unfolding good_probe
-  probe_second y g h k = sym (rw (sym e ∙ h, sym g ∙ k))
-
-  pub probe_last : (y z : Bool) → y ≡ all_three finite probe.dx probe.dy probe.dz → z ≡ all_three is_zero probe.dx probe.dy probe.dz → x ≡ true → y ≡ true → not z ≡ good_probe probe
-  unfolding good_probe
-  probe_last y z g m h k = sym (rw (sym e ∙ h, sym g ∙ k, ← m))

@@ -10,7 +10,14 @@ use Rattle.cross_shapes.specs.declared.Shape.TheVariants.{HalfSpace, Block}
 abbrev pub shape_from : ℕ → List Float → Shape
 shape_from kind numbers =
     cond (eqb kind 255)
-    (Block (get_or numbers 0 nan) (get_or numbers 1 nan) (get_or numbers 2 nan) (get_or numbers 3 nan) (get_or numbers 4 nan) (get_or numbers 5 nan))
+    (Block (record {
+      lx = get_or numbers 0 nan;
+      ly = get_or numbers 1 nan;
+      lz = get_or numbers 2 nan;
+      hx = get_or numbers 3 nan;
+      hy = get_or numbers 4 nan;
+      hz = get_or numbers 5 nan;
+    }))
     (HalfSpace kind (get_or numbers 0 nan))
 
 unfoldable pub shapes_of : List ℕ → List Float → List Shape

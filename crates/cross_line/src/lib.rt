@@ -1,240 +1,191 @@
 // One line's crossings, from the drawing's own numbers or of balls. The two jobs ask nothing of their caller.
 #![tactic(auto)]
 
-ghost use Rattle.std.specs.Prelude.{◌≡◌, ◌*◌, ◌<◌, ◌≤◌, length, drop, get_or};
+ghost use Rattle.std.specs.Prelude.{◌≡◌, ◌*◌, ◌<◌, ◌≤◌, ℕ, List, length, drop, get_or, IfOk};
 ghost use Rattle.std.specs.Float.{nan};
-ghost use Rattle.cross_cuts.specs.Cuts.{fault, answered};
-ghost use Rattle.cross_cuts.specs.Keys.{cut_of};
+ghost use Rattle.outcome.specs.Refusing.{number_of};
+ghost use Rattle.cross_cuts.specs.Cuts.{Cut, fault, answered};
+ghost use Rattle.cross_cuts.specs.Keys.{cut_of, Held};
 ghost use Rattle.cross_answer.specs.Answer.{made_lists, Crossed};
-ghost use Rattle.cross_shapes.specs.Shapes.{finite, is_zero};
+ghost use Rattle.cross_answer.specs.Giving.{InRange};
 ghost use Rattle.cross_line.specs.Lent.{shape_from};
 ghost use Rattle.cross_balls.specs.Balls.{crossing_balls};
-ghost use Rattle.cross_line.specs.Crossing.{all_three, good_probe, crossing_shapes};
-ghost use Rattle.cross_line.specs.Making.{cuts_of, number_of, Gatherable, Gathers};
+ghost use Rattle.cross_line.specs.Crossing.{good_probe, shape_cuts, crossing_shapes};
+ghost use Rattle.cross_line.specs.Making.{Meets, Gatherable, Gathers};
 
-use cross_answer::CrossAnswer;
-use cross_cuts::{Added, Met, Row};
-use cross_shapes::{Probe, Shape};
+use cross_answer::Counts;
+use cross_cuts::{Met, SHAPES};
+use cross_shapes::{Block, Probe, Shape, is_finite, is_zero};
+use outcome::{Fault, Reason, need};
 
-// Whose crossings are made: a drawing's shapes on a probe line, or balls beside a line.
+// The place of a fault of the line itself.
+pub const LINE: usize = 65535;
+
+// A drawing's shapes as they are lent: a byte a shape, and six numbers a shape.
 #[derive(Clone, Copy, Drop)]
-pub enum Maker {
-    Drawn(Probe),
-    Balls,
+pub struct Drawing<'a> {
+    pub kinds: &'a [u8],
+    pub numbers: &'a [f64],
 }
 
+#[tactic(auto, using(crate::proofs::LentLaws::nan_is))]
 pub fn number_at(numbers: &[f64], k: usize) -> f64
     ensures { result ≡ get_or numbers.now k nan }
 {
-    if k < numbers.len() {
-        return numbers[k];
-    }
-    0.0 / 0.0
+    numbers.get(k).copied().unwrap_or(f64::NAN)
 }
 
-// The box whose numbers begin at n. Where all six are there the list's length is looked at once.
+// The box whose numbers begin at n.
+// Kept: by index, since where all six are there the list's length is looked at once.
 fn block_at(numbers: &[f64], n: usize) -> Shape
     requires { n ≤ 1530 }
     ensures { result ≡ shape_from 255 (drop n numbers.now) }
 {
     if n + 6 <= numbers.len() {
-        let a = numbers[n];
-        let b = numbers[n + 1];
-        let c = numbers[n + 2];
-        let d = numbers[n + 3];
-        let e = numbers[n + 4];
-        let f = numbers[n + 5];
-        return Shape::Block(a, b, c, d, e, f);
+        return Shape::Block(Block {
+            lx: numbers[n],
+            ly: numbers[n + 1],
+            lz: numbers[n + 2],
+            hx: numbers[n + 3],
+            hy: numbers[n + 4],
+            hz: numbers[n + 5],
+        });
     }
-    let a = number_at(numbers, n);
-    let b = number_at(numbers, n + 1);
-    let c = number_at(numbers, n + 2);
-    let d = number_at(numbers, n + 3);
-    let e = number_at(numbers, n + 4);
-    let f = number_at(numbers, n + 5);
-    Shape::Block(a, b, c, d, e, f)
+    Shape::Block(Block {
+        lx: number_at(numbers, n),
+        ly: number_at(numbers, n + 1),
+        lz: number_at(numbers, n + 2),
+        hx: number_at(numbers, n + 3),
+        hy: number_at(numbers, n + 4),
+        hz: number_at(numbers, n + 5),
+    })
 }
 
-pub fn shape_at(kinds: &[u8], numbers: &[f64], i: usize) -> Shape
-    requires { (i < length kinds.now) × (i < 256) }
-    ensures { result ≡ shape_from (get_or kinds.now i 0) (drop (6 * i) numbers.now) }
+pub fn shape_at(drawing: Drawing<'_>, i: usize) -> Shape
+    requires { (i < length drawing.kinds.now) × (i < 256) }
+    ensures { result ≡ shape_from (get_or drawing.entry.kinds.now i 0) (drop (6 * i) drawing.entry.numbers.now) }
 {
-    let kind = kinds[i];
+    let kind = drawing.kinds[i];
     let n = 6 * i;
     if kind == 255 {
-        return block_at(numbers, n);
+        return block_at(drawing.numbers, n);
     }
-    let face = number_at(numbers, n);
-    Shape::HalfSpace(kind, face)
+    Shape::HalfSpace(kind, number_at(drawing.numbers, n))
 }
 
-fn three_finite(a: f64, b: f64, c: f64) -> bool
-    ensures { result ≡ all_three finite a b c }
-{
-    if cross_shapes::is_finite(a) {
-        if cross_shapes::is_finite(b) {
-            return cross_shapes::is_finite(c);
-        }
-    }
-    false
-}
-
-fn three_zero(a: f64, b: f64, c: f64) -> bool
-    ensures { result ≡ all_three is_zero a b c }
-{
-    if cross_shapes::is_zero(a) {
-        if cross_shapes::is_zero(b) {
-            return cross_shapes::is_zero(c);
-        }
-    }
-    false
-}
-
+#[tactic(auto, unfolding(crate::specs::Crossing::good_probe))]
 pub fn good_probe(probe: Probe) -> bool
     ensures { result ≡ good_probe probe }
 {
-    if three_finite(probe.ox, probe.oy, probe.oz) {
-        if three_finite(probe.dx, probe.dy, probe.dz) {
-            return !three_zero(probe.dx, probe.dy, probe.dz);
-        }
-    }
-    false
+    (is_finite(probe.ox) && is_finite(probe.oy) && is_finite(probe.oz))
+        && (is_finite(probe.dx) && is_finite(probe.dy) && is_finite(probe.dz))
+        && !(is_zero(probe.dx) && is_zero(probe.dy) && is_zero(probe.dz))
 }
 
-// What the line meets of shape or ball i.
-fn meet_at(maker: Maker, kinds: &[u8], numbers: &[f64], balls: &[i32], i: usize) -> Met
-    requires { (i < length (cuts_of maker kinds.now numbers.now balls.now)) × (i < 256) }
-    ensures { cut_of result ≡ get_or (cuts_of maker kinds.now numbers.now balls.now) i fault }
+// What the line meets of shape i: none where the shape is at fault.
+pub fn meet_at(probe: Probe, drawing: Drawing<'_>, i: usize) -> Option<Met>
+    requires { (i < length drawing.kinds.now) × (i < 256) }
+    ensures { cut_of result ≡ get_or (shape_cuts probe drawing.entry.kinds.now drawing.entry.numbers.now) i fault }
 {
-    match maker {
-        Maker::Drawn(probe) => {
-            let shape = shape_at(kinds, numbers, i);
-            cross_shapes::meet_shape(probe, shape)
-        }
-        Maker::Balls => cross_balls::meet_at(balls, i),
-    }
+    cross_shapes::meet_shape(probe, shape_at(drawing, i))
 }
 
-// All n shapes or balls of one line, in turn.
-pub fn gather(
-    maker: Maker,
-    kinds: &[u8],
-    numbers: &[f64],
-    balls: &[i32],
+// All n shapes or balls of one line, in turn, by what it meets of each: how many crossings there are, or the first at fault.
+pub fn gather<F: Fn(usize) -> Option<Met>>(
+    meet: F,
     n: usize,
     bytes: &mut [u8],
     keys: &mut [u64],
-) -> Row
-    requires { Gatherable (cuts_of maker kinds.now numbers.now balls.now) n bytes.old keys.old }
-    ensures { Gathers (length bytes.old) (number_of maker) (cuts_of maker kinds.now numbers.now balls.now) bytes.new keys.new result }
+) -> Result<usize, usize>
+    requires callable { (i : ℕ) → i < n → F.pre meet i }
+    requires gatherable { Gatherable n bytes.old keys.old }
+    ensures held { IfOk result (λ m. Held (length bytes.new) bytes.new keys.new n m) }
+    ensures gathers { Gathers (F.post meet) (length bytes.old) n bytes.new keys.new result }
 {
-    let mut i = 0usize;
-    let mut m = 0usize;
-    while i < n {
-        let met = meet_at(maker, kinds, numbers, balls, i);
-        match cross_cuts::add(met, i, m, bytes, keys) {
-            Added::Fault => return Row::Fault(i),
-            Added::Count(k) => {
-                m = k;
-                i += 1;
-            }
-        }
+    let mut m = 0;
+    for i in 0..n {
+        let Some(met) = meet(i) else {
+            return Err(i);
+        };
+        m = cross_cuts::add(met, i, m, bytes, keys);
     }
-    Row::Count(m)
-}
-
-fn number_of(maker: Maker) -> u8
-    ensures { result ≡ number_of maker }
-{
-    match maker {
-        Maker::Drawn(_) => 16,
-        Maker::Balls => 18,
-    }
+    Ok(m)
 }
 
 // The answer by way of these bytes and keys.
-fn answer_in(
-    maker: Maker,
-    kinds: &[u8],
-    numbers: &[f64],
-    balls: &[i32],
+fn answer_in<F: Fn(usize) -> Option<Met>>(
+    meet: F,
     n: usize,
+    reason: Reason,
     bytes: &mut [u8],
     keys: &mut [u64],
     starts: &mut [u8],
     positions: &mut [i32],
     shapes: &mut [u16],
-) -> CrossAnswer
-    requires { Gatherable (cuts_of maker kinds.now numbers.now balls.now) n bytes.old keys.old }
-    ensures { Crossed (answered (number_of maker) (cuts_of maker kinds.now numbers.now balls.now) (length starts.old) (length positions.old) (length shapes.old))
+) -> Result<Counts, Fault>
+    requires callable { (i : ℕ) → i < n → F.pre meet i }
+    requires gatherable { Gatherable n bytes.old keys.old }
+    ensures { (cuts : List Cut) → n ≡ length cuts → Meets (F.post meet) cuts → InRange cuts
+        → Crossed (answered (number_of reason) cuts (length starts.old) (length positions.old) (length shapes.old))
         (made_lists starts.old positions.old shapes.old) result (made_lists starts.new positions.new shapes.new) }
 {
-    match gather(maker, kinds, numbers, balls, n, bytes, keys) {
-        Row::Fault(i) => {
-            let number = number_of(maker);
-            CrossAnswer::Refused { number, place: i }
-        }
-        Row::Count(m) => cross_answer::give(n, m, bytes, keys, starts, positions, shapes),
+    match gather(meet, n, bytes, keys) {
+        Ok(m) => cross_answer::give(n, m, bytes, keys, starts, positions, shapes),
+        Err(i) => Err(reason.at(i)),
     }
 }
 
 // The answer of both makers. Where there are few, shorter arrays are quicker to make.
-fn answer(
-    maker: Maker,
-    kinds: &[u8],
-    numbers: &[f64],
-    balls: &[i32],
+fn answer<F: Fn(usize) -> Option<Met>>(
+    meet: F,
     n: usize,
+    reason: Reason,
     starts: &mut [u8],
     positions: &mut [i32],
     shapes: &mut [u16],
-) -> CrossAnswer
-    requires { (n ≡ length (cuts_of maker kinds.now numbers.now balls.now)) × (n ≤ 256) }
-    ensures { Crossed (answered (number_of maker) (cuts_of maker kinds.now numbers.now balls.now) (length starts.old) (length positions.old) (length shapes.old))
+) -> Result<Counts, Fault>
+    requires callable { (i : ℕ) → i < n → F.pre meet i }
+    requires few { n ≤ 256 }
+    ensures { (cuts : List Cut) → n ≡ length cuts → Meets (F.post meet) cuts → InRange cuts
+        → Crossed (answered (number_of reason) cuts (length starts.old) (length positions.old) (length shapes.old))
         (made_lists starts.old positions.old shapes.old) result (made_lists starts.new positions.new shapes.new) }
 {
     if n <= 64 {
         let mut bytes = [0u8; 64];
         let mut keys = [0u64; 128];
         return answer_in(
-            maker, kinds, numbers, balls, n, &mut bytes, &mut keys, starts, positions, shapes,
+            meet, n, reason, &mut bytes, &mut keys, starts, positions, shapes,
         );
     }
-    let mut bytes = [0u8; 256];
-    let mut keys = [0u64; 512];
+    let mut bytes = [0u8; SHAPES];
+    let mut keys = [0u64; 2 * SHAPES];
     answer_in(
-        maker, kinds, numbers, balls, n, &mut bytes, &mut keys, starts, positions, shapes,
+        meet, n, reason, &mut bytes, &mut keys, starts, positions, shapes,
     )
 }
 
 // Crosses the shapes that are lent with one line.
 pub fn cross(
     probe: Probe,
-    kinds: &[u8],
-    numbers: &[f64],
+    drawing: Drawing<'_>,
     starts: &mut [u8],
     positions: &mut [i32],
     shapes: &mut [u16],
-) -> CrossAnswer
-    ensures { Crossed (crossing_shapes probe kinds.now numbers.now (length starts.old) (length positions.old) (length shapes.old))
+) -> Result<Counts, Fault>
+    ensures { Crossed (crossing_shapes probe drawing.entry.kinds.now drawing.entry.numbers.now (length starts.old) (length positions.old) (length shapes.old))
         (made_lists starts.old positions.old shapes.old) result (made_lists starts.new positions.new shapes.new) }
 {
-    let n = kinds.len();
-    if 256 < n {
-        return CrossAnswer::Refused {
-            number: 16,
-            place: 256,
-        };
-    }
-    if good_probe(probe) {
-        let none = [0i32; 0];
-        let maker = Maker::Drawn(probe);
-        return answer(maker, kinds, numbers, &none, n, starts, positions, shapes);
-    }
-    CrossAnswer::Refused {
-        number: 16,
-        place: 65535,
-    }
+    let n = drawing.kinds.len();
+    need(n <= SHAPES, Reason::ShapeWrong, SHAPES)?;
+    need(good_probe(probe), Reason::ShapeWrong, LINE)?;
+    answer(
+        |i| meet_at(probe, drawing, i),
+        n,
+        Reason::ShapeWrong,
+        starts,
+        positions,
+        shapes,
+    )
 }
 
 // Crosses the balls that are lent with one line, which is parallel to an axis.
@@ -243,26 +194,16 @@ pub fn cross_balls(
     starts: &mut [u8],
     positions: &mut [i32],
     shapes: &mut [u16],
-) -> CrossAnswer
+) -> Result<Counts, Fault>
     ensures { Crossed (crossing_balls balls.now (length starts.old) (length positions.old) (length shapes.old))
         (made_lists starts.old positions.old shapes.old) result (made_lists starts.new positions.new shapes.new) }
 {
-    let long = balls.len();
-    if 1024 < long {
-        return CrossAnswer::Refused {
-            number: 18,
-            place: 256,
-        };
-    }
-    let n = (long + 3) / 4;
-    let kinds = [0u8; 0];
-    let numbers = [0.0f64; 0];
+    let n = balls.len().div_ceil(4);
+    need(n <= SHAPES, Reason::BallWrong, SHAPES)?;
     answer(
-        Maker::Balls,
-        &kinds,
-        &numbers,
-        balls,
+        |i| cross_balls::meet_at(balls, i),
         n,
+        Reason::BallWrong,
         starts,
         positions,
         shapes,

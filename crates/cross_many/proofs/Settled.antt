@@ -2,7 +2,7 @@
 -- writes nothing; a refusal has number 16, 14 or 9.
 use Prim.Native.Nat.{ℕ, suc, ◌+◌, ◌<◌, ◌≤◌}
 use native.Mathlib.Omega.{arith}
-use mathlib.Core.Path.{◌≡◌, refl}
+use mathlib.Core.Path.{◌≡◌, refl, sym, ap, ◌∙◌}
 use mathlib.Core.Bool.{Bool, true, false}
 use mathlib.Core.List.{List, [], ◌∷◌}
 use mathlib.Core.Logic.{◌⊎◌, inl, inr}
@@ -12,10 +12,14 @@ use lib.ListN.{length}
 use lib.Ieee.{Float}
 use Rattle.outcome.specs.Outcome.{Outcome, given, refused, unfit, need}
 use Rattle.outcome.specs.Numbered.{Numbered}
-use Rattle.outcome.specs.Settled.{Unique, Refusal, Refuses}
+use Rattle.outcome.specs.Settled.{Unique, Refusal, Refuses, Said}
 use Rattle.outcome.proofs.NumberedLaws.{given-numbered, refused-numbered}
 use Rattle.outcome.proofs.Refusals.{Asks, asks-need, asks_then, asks-room}
-use Rattle.outcome.proofs.Settling.{known_by, Settled, settled}
+use Rattle.outcome.proofs.Settling.{Settled, settled}
+use Rattle.outcome.proofs.Judging.{judged_same}
+use Rattle.outcome.specs.Refusing.{number_of}
+use Rattle.outcome.specs.declared.Fault.{Fault}
+use Rattle.std.proofs.Common.{Result, Ok, Err}
 use Rattle.lines.specs.Lines.{LineLists}
 use Rattle.cross_cuts.specs.Cuts.{Cut, sound, faultless}
 use Rattle.cross_shapes.specs.declared.Probe.{Probe}
@@ -25,21 +29,22 @@ use Rattle.cross_drawn.specs.Drawn.{Drawn, drawn_lists, drawn}
 use Rattle.cross_drawn.specs.Judging.{lines_judged}
 use Rattle.cross_drawn.specs.Lent.{probes_of}
 use Rattle.cross_drawn.specs.Refusing.{OfLines, gives, refuses, part_of, of_line, of_none, outcome_of, ◌>>◌}
-use Rattle.cross_many.specs.Answer.{ManyCounts, many_counts, many_counts_of, many_of, CrossedMany}
+use Rattle.cross_many.specs.Answer.{many_counts_of, many_of, CrossedMany}
+use Rattle.cross_many.specs.declared.Counts.{Counts}
+use Rattle.cross_many.specs.declared.LineFault.{LineFault}
 use Rattle.cross_many.specs.Crossing.{crossing_probes, crossing_many}
-use Rattle.cross_many.specs.declared.ManyAnswer.{ManyAnswer}
-use Rattle.cross_many.specs.declared.ManyAnswer.TheVariants as answer
 
-many_of-same : (r q : ManyAnswer) → many_of r ≡ many_of q → r ≡ q
-many_of-same = known_by many_of back same
-  where
-    back : OfLines ManyCounts → ManyAnswer
-    back (gives (many_counts lines crossings)) = answer.Crossed lines crossings
-    back (refuses number place line) = answer.Refused number place line
-
-    same : (r : ManyAnswer) → back (many_of r) ≡ r
-    same (answer.Crossed lines crossings) = refl
-    same (answer.Refused number place line) = refl
+many_of-same : (r q : Result Counts LineFault) → many_of r ≡ many_of q → r ≡ q
+many_of-same (Ok a) (Ok b) e = let s : a ≡ b = cc in ap (λ x. Ok x) s
+many_of-same (Ok a) (Err f) e = absurd (let z : ◌≡◌ {A = ℕ} 0 1 = cc in omega arith)
+many_of-same (Err f) (Ok b) e = absurd (let z : ◌≡◌ {A = ℕ} 0 1 = cc in omega arith)
+many_of-same (Err f) (Err g) e =
+    let n : number_of f.fault.reason ≡ number_of g.fault.reason = cc in
+    let p : f.fault.place ≡ g.fault.place = cc in
+    let l : f.line ≡ g.line = cc in
+    let s : ◌≡◌ {A = Result Counts Fault} (Err f.fault) (Err g.fault) = judged_same (Err f.fault) (Err g.fault) (λ i. refused (n i) (p i)) in
+    let x : f.fault ≡ g.fault = cc in
+    λ i. Err (record { fault = x i; line = l i })
 
 part-refuses : (line : ℕ) (o : OfLines Drawn) (number place : ℕ) → refuses number place line ≡ part_of many_counts_of o → o ≡ refuses number place line
 part-refuses line (gives d) number place e = let z : ◌≡◌ {A = ℕ} 0 1 = cc in absurd (omega arith)
@@ -49,20 +54,25 @@ part-refuses line (refuses k p l) number place e =
     let c : l ≡ line = cc in
     rw (a, b, c)
 
-many_settled : (line : ℕ) → Settled CrossedMany (λ number place. refuses number place line) (λ number place. answer.Refused number place line)
+many_settled : (line : ℕ) → Settled (Said many_of CrossedMany) (λ number place. refuses number place line) (λ number place. refuses number place line)
 many_settled line =
-    settled many_of (part_of many_counts_of) many_of-same (λ o lent r after a. a.answer)
-    (λ o lent r after a i. record { rows = a.lists.rows_list i; lines = a.lists.lines_list i; positions = a.lists.positions_list i; shapes = a.lists.shapes_list i })
+    settled (λ (v : OfLines Counts). v) (part_of many_counts_of) (λ r q e. e) (λ o lent v after s. sym s.1.0 ∙ s.1.1.answer)
+    (λ o lent v after s i. record { rows = s.1.1.lists.rows_list i; lines = s.1.1.lists.lines_list i; positions = s.1.1.lists.positions_list i; shapes = s.1.1.lists.shapes_list i })
     (λ k p. refl) (part-refuses line) (λ k p lent. refl)
 
 pub many_unique : Unique CrossedMany
-many_unique = (many_settled 0).unique
+many_unique o lent r q after other a b =
+    let l = a.lists in
+    let m = b.lists in (
+      many_of-same r q (a.answer ∙ sym b.answer),
+      λ i. record { rows = (l.rows_list ∙ sym m.rows_list) i; lines = (l.lines_list ∙ sym m.lines_list) i; positions = (l.positions_list ∙ sym m.positions_list) i; shapes = (l.shapes_list ∙ sym m.shapes_list) i },
+    )
 
--- on the line with this number
-pub many_refusal : (line : ℕ) → Refusal CrossedMany (λ number place. refuses number place line) (λ number place. answer.Refused number place line)
+-- what an answer says is a refusal, on the line with this number, only where the outcome is
+pub many_refusal : (line : ℕ) → Refusal (Said many_of CrossedMany) (λ number place. refuses number place line) (λ number place. refuses number place line)
 many_refusal line = (many_settled line).refusal
 
-pub many_refuses : (line : ℕ) → Refuses CrossedMany (λ number place. refuses number place line) (λ number place. answer.Refused number place line)
+pub many_refuses : (line : ℕ) → Refuses (Said many_of CrossedMany) (λ number place. refuses number place line) (λ number place. refuses number place line)
 many_refuses line = (many_settled line).refuses
 
 -- ---- which refusals there are

@@ -1,204 +1,141 @@
 // Many lines' crossings with one drawing. The job asks nothing of its caller.
 #![tactic(auto)]
 
-ghost use Rattle.std.specs.Prelude.{◌≡◌, ◌/◌, ◌≤◌, min, length};
+ghost use Rattle.std.specs.Prelude.{◌≡◌, ◌/◌, ◌≤◌, length};
 ghost use Rattle.lines.specs.Lines.{line_lists};
 ghost use Rattle.cross_drawn.specs.Asking.{line_judged};
 ghost use Rattle.cross_drawn.specs.Judging.{lines_judged};
 ghost use Rattle.cross_drawn.specs.Lent.{probes_of};
-ghost use Rattle.cross_drawn.specs.Refusing.{gives, refuses, of_line};
+ghost use Rattle.cross_drawn.specs.Refusing.{gives, of_line};
 ghost use Rattle.cross_drawn.specs.Drawn.{drawn};
 ghost use Rattle.cross_judge.specs.Covering.{Covers};
 ghost use Rattle.cross_many.specs.Crossing.{crossing_many};
-ghost use Rattle.cross_many.specs.Answer.{many_of, CrossedMany};
-ghost use Rattle.cross_many.specs.Passing.{judged_of, Wanted};
+ghost use Rattle.cross_many.specs.Answer.{on_line, many_of, CrossedMany};
+ghost use Rattle.cross_many.specs.Passing.{Wanted};
 
-use cross_cuts::Row;
+use cross_cuts::SHAPES;
 use cross_judge::Reach;
+use cross_line::Drawing;
 use cross_shapes::Probe;
+use outcome::{Fault, Reason, need};
 
-// What the job answers: how many lines there are, and how many crossings.
-#[derive(Drop)]
-pub enum ManyAnswer {
-    Crossed {
-        lines: usize,
-        crossings: usize,
-    },
-    Refused {
-        number: u8,
-        place: usize,
-        line: usize,
-    },
+// At most so many lines may be numbered.
+const LINES: usize = 1 << 32;
+
+// What the job gives: how many lines there are, and how many crossings.
+#[derive(Clone, Copy, Debug, PartialEq, Eq)]
+pub struct Counts {
+    pub lines: usize,
+    pub crossings: usize,
 }
 
-// Lines judged: the first at fault, or none is.
-#[derive(Drop)]
-enum Judged {
-    Wrong { place: usize, line: usize },
-    Right,
+// What is wrong, and the number of its line: 0 where it is of no line.
+#[derive(Clone, Copy, Debug, PartialEq, Eq)]
+pub struct LineFault {
+    pub fault: Fault,
+    pub line: usize,
+}
+
+impl From<Fault> for LineFault {
+    ghost from_gives = { λ f r. r ≡ on_line 0 f };
+
+    fn from(fault: Fault) -> LineFault {
+        LineFault { fault, line: 0 }
+    }
 }
 
 // Line k by the way of one line, which names the shape at fault.
-fn judge_alone(k: usize, probe: Probe, kinds: &[u8], numbers: &[f64]) -> Judged
-    requires { length kinds.now ≤ 256 }
-    ensures { judged_of result ≡ of_line k (line_judged kinds.now numbers.now probe) }
+fn judge_alone(k: usize, probe: Probe, drawing: Drawing<'_>) -> Result<(), LineFault>
+    requires { length drawing.kinds.now ≤ 256 }
+    ensures { many_of result ≡ of_line k (line_judged drawing.entry.kinds.now drawing.entry.numbers.now probe) }
 {
-    let mut bytes = [0u8; 256];
-    let mut keys = [0u64; 512];
-    match cross_drawn::one_line(probe, kinds, numbers, &mut bytes, &mut keys) {
-        Row::Fault(place) => {
-            return Judged::Wrong {
-                place: place,
-                line: k,
-            };
-        }
-        Row::Count(_) => return Judged::Right,
+    let mut bytes = [0u8; SHAPES];
+    let mut keys = [0u64; 2 * SHAPES];
+    match cross_drawn::one_line(probe, drawing, &mut bytes, &mut keys) {
+        Err(place) => Err(LineFault {
+            fault: Reason::ShapeWrong.at(place),
+            line: k,
+        }),
+        Ok(_) => Ok(()),
     }
 }
 
 // Line k by how far the drawing reaches, and where that does not decide by the way of one line.
-fn judge_line(k: usize, probe: Probe, reach: Reach, kinds: &[u8], numbers: &[f64]) -> Judged
-    requires { (length kinds.now ≤ 256) × Covers kinds.now numbers.now (length kinds.now) reach }
-    ensures { judged_of result ≡ of_line k (line_judged kinds.now numbers.now probe) }
+fn judge_line(k: usize, probe: Probe, reach: Reach, drawing: Drawing<'_>) -> Result<(), LineFault>
+    requires { (length drawing.kinds.now ≤ 256) × Covers drawing.kinds.now drawing.numbers.now (length drawing.kinds.now) reach }
+    ensures { many_of result ≡ of_line k (line_judged drawing.entry.kinds.now drawing.entry.numbers.now probe) }
 {
     if cross_judge::judge(probe, reach) {
-        return Judged::Right;
+        return Ok(());
     }
-    judge_alone(k, probe, kinds, numbers)
+    judge_alone(k, probe, drawing)
 }
 
-fn judge_lines(kinds: &[u8], numbers: &[f64], lines: &[f64], count: usize) -> Judged
-    requires { (length kinds.now ≤ 256) × (count ≡ length (probes_of lines.now)) × (count ≤ 4294967296) }
-    ensures { judged_of result ≡ lines_judged 0 kinds.now numbers.now (probes_of lines.now) }
+fn judge_lines(drawing: Drawing<'_>, lines: &[f64], count: usize) -> Result<(), LineFault>
+    requires { (length drawing.kinds.now ≤ 256) × (count ≡ length (probes_of lines.now)) × (count ≤ 4294967296) }
+    ensures { many_of result ≡ lines_judged 0 drawing.entry.kinds.now drawing.entry.numbers.now (probes_of lines.now) }
 {
-    let reach = cross_judge::reach_of(kinds, numbers);
-    let mut k = 0usize;
-    while k < count {
-        let probe = cross_drawn::probe_at(lines, k);
-        match judge_line(k, probe, reach, kinds, numbers) {
-            Judged::Wrong { place, line } => {
-                return Judged::Wrong {
-                    place: place,
-                    line: line,
-                };
-            }
-            Judged::Right => {
-                k += 1;
-            }
-        }
+    let reach = cross_judge::reach_of(drawing);
+    for k in 0..count {
+        judge_line(k, cross_drawn::probe_at(lines, k), reach, drawing)?;
     }
-    Judged::Right
-}
-
-fn refused(number: u8, place: usize, line: usize) -> ManyAnswer
-    ensures { many_of result ≡ refuses number place line }
-{
-    ManyAnswer::Refused {
-        number: number,
-        place: place,
-        line: line,
-    }
-}
-
-fn least(a: usize, b: usize, c: usize) -> usize
-    ensures { result ≡ min a (min b c) }
-{
-    if b < c {
-        if a < b {
-            return a;
-        }
-        return b;
-    }
-    if a < c {
-        return a;
-    }
-    c
+    Ok(())
 }
 
 // How many entries the lists of crossings have to have: none is asked for where there is room for two crossings a shape and line, else the
 // crossings are counted.
-fn wanted(kinds: &[u8], numbers: &[f64], lines: &[f64], count: usize, room: usize) -> usize
-    requires kinds_len_bound { (length kinds.now ≤ 256) × (count ≡ length (probes_of lines.now)) × (count ≤ 4294967296) }
-    requires lines_value { lines_judged 0 kinds.now numbers.now (probes_of lines.now) ≡ gives tt }
-    ensures { Wanted (drawn kinds.now numbers.now (probes_of lines.now)) room result }
+fn wanted(drawing: Drawing<'_>, lines: &[f64], count: usize, room: usize) -> usize
+    requires kinds_len_bound { (length drawing.kinds.now ≤ 256) × (count ≡ length (probes_of lines.now)) × (count ≤ 4294967296) }
+    requires lines_value { lines_judged 0 drawing.kinds.now drawing.numbers.now (probes_of lines.now) ≡ gives tt }
+    ensures { Wanted (drawn drawing.entry.kinds.now drawing.entry.numbers.now (probes_of lines.now)) room result }
 {
-    if kinds.len() * count <= room / 2 {
+    if drawing.kinds.len() * count <= room / 2 {
         return 0;
     }
-    cross_pass::count_lines(kinds, numbers, lines, count)
+    cross_pass::count_lines(drawing, lines, count)
 }
 
 // Gives all lines, none of which is at fault, where there is room in each list: 9 for rows, line numbers, positions, shapes in turn.
 fn give_lines(
-    kinds: &[u8],
-    numbers: &[f64],
+    drawing: Drawing<'_>,
     lines: &[f64],
     count: usize,
     rows: &mut [u8],
     line_numbers: &mut [u32],
     positions: &mut [i32],
     shapes: &mut [u16],
-) -> ManyAnswer
-    requires kinds_len_bound { (length kinds.now ≤ 256) × (count ≡ length (probes_of lines.now)) × (count ≤ 4294967296) }
-    requires lines_value { lines_judged 0 kinds.now numbers.now (probes_of lines.now) ≡ gives tt }
-    ensures { CrossedMany (crossing_many kinds.now numbers.now lines.now (line_lists rows.old line_numbers.old positions.old shapes.old))
+) -> Result<Counts, LineFault>
+    requires kinds_len_bound { (length drawing.kinds.now ≤ 256) × (count ≡ length (probes_of lines.now)) × (count ≤ 4294967296) }
+    requires lines_value { lines_judged 0 drawing.kinds.now drawing.numbers.now (probes_of lines.now) ≡ gives tt }
+    ensures { CrossedMany (crossing_many drawing.entry.kinds.now drawing.entry.numbers.now lines.now (line_lists rows.old line_numbers.old positions.old shapes.old))
         (line_lists rows.old line_numbers.old positions.old shapes.old) result (line_lists rows.new line_numbers.new positions.new shapes.new) }
 {
-    let all = kinds.len() * count;
-    if rows.len() < all {
-        return refused(9, all, 0);
-    }
-    let room = least(line_numbers.len(), positions.len(), shapes.len());
-    let needed = wanted(kinds, numbers, lines, count, room);
-    if room < needed {
-        return refused(9, needed, 0);
-    }
-    let crossings = cross_pass::write_lines(
-        kinds,
-        numbers,
-        lines,
-        rows,
-        line_numbers,
-        positions,
-        shapes,
-    );
-    ManyAnswer::Crossed {
+    outcome::room(drawing.kinds.len() * count, rows.len())?;
+    let room = line_numbers.len().min(positions.len()).min(shapes.len());
+    outcome::room(wanted(drawing, lines, count, room), room)?;
+    let crossings = cross_pass::write_lines(drawing, lines, rows, line_numbers, positions, shapes);
+    Ok(Counts {
         lines: count,
-        crossings: crossings,
-    }
+        crossings,
+    })
 }
 
 // Crosses the shapes that are lent with many lines.
+#[tactic(auto, unfolding(crate::specs::Crossing::crossing_probes))]
 pub fn cross(
-    kinds: &[u8],
-    numbers: &[f64],
+    drawing: Drawing<'_>,
     lines: &[f64],
     rows: &mut [u8],
     line_numbers: &mut [u32],
     positions: &mut [i32],
     shapes: &mut [u16],
-) -> ManyAnswer
-    ensures { CrossedMany (crossing_many kinds.now numbers.now lines.now (line_lists rows.old line_numbers.old positions.old shapes.old))
+) -> Result<Counts, LineFault>
+    ensures { CrossedMany (crossing_many drawing.entry.kinds.now drawing.entry.numbers.now lines.now (line_lists rows.old line_numbers.old positions.old shapes.old))
         (line_lists rows.old line_numbers.old positions.old shapes.old) result (line_lists rows.new line_numbers.new positions.new shapes.new) }
 {
-    if 256 < kinds.len() {
-        return refused(16, 256, 0);
-    }
+    need(drawing.kinds.len() <= SHAPES, Reason::ShapeWrong, SHAPES)?;
     let count = cross_drawn::line_count(lines);
-    if 4294967296 < count {
-        return refused(14, 0, 0);
-    }
-    match judge_lines(kinds, numbers, lines, count) {
-        Judged::Wrong { place, line } => return refused(16, place, line),
-        Judged::Right => return give_lines(
-            kinds,
-            numbers,
-            lines,
-            count,
-            rows,
-            line_numbers,
-            positions,
-            shapes,
-        ),
-    }
+    need(count <= LINES, Reason::RowsWrong, 0)?;
+    judge_lines(drawing, lines, count)?;
+    give_lines(drawing, lines, count, rows, line_numbers, positions, shapes)
 }

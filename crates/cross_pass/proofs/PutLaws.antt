@@ -26,35 +26,7 @@ use Rattle.cross_drawn.specs.Refusing.{gives}
 use Rattle.cross_drawn.proofs.DrawnLaws.{positions_many, shapes_many, rows_more, lines_more, positions_more, shapes_more, rows-part, lines-part, rows-count}
 use Rattle.cross_drawn.proofs.LineLaws.{sound-held, sound-count, drawn-next, map-append}
 use Rattle.cross_pass.specs.Passing.{RoomFor, Fits, filled_from, LinePut, Holding, AllWritten}
-use Rattle.cross_pass.proofs.CountLaws.{Counting, counting_starts, more_lines, sound-here, counting_fits, counting_on, counting_ends}
-
--- ---- a line's number beside each of its crossings
-pub record Numbering (line m : ℕ) (old new : List ℕ) (i : ℕ) : Type 0 where
-  pub so_far : new ≡ filled (replicate i line) old
-  pub within : i ≤ m
-  pub room : m ≤ length old
-  pub sized : length new ≡ length old
-
-pub numbering_starts : (line m : ℕ) (old : List ℕ) → m ≤ length old → Numbering line m old old 0
-numbering_starts line m old h = record { so_far = refl; within = omega arith; room = h; sized = refl }
-
-pub numbering_on : (line m : ℕ) (old new : List ℕ) (i : ℕ) → Numbering line m old new i → i < m → Numbering line m old (set new i line) (i + 1)
-numbering_on line m old new i at h = record {
-  so_far = more;
-  within = omega arith;
-  room = at.room;
-  sized = ap length more ∙ length-filled (replicate (i + 1) line) old (rw length-replicate (omega (arith, at.room)));
-}
-  where
-    more : set new i line ≡ filled (replicate (i + 1) line) old
-    more =
-        ap (λ l. set l i line) at.so_far ∙ filled_more (replicate i line) old line i (length-replicate i line) (omega (arith, at.room))
-        ∙ ap (λ l. filled l old) (replicate-append-replicate i 1 line)
-
-pub numbering_ends : (line m : ℕ) (old new : List ℕ) (i : ℕ) → Numbering line m old new i → m ≤ i → new ≡ filled (replicate m line) old
-numbering_ends line m old new i at h =
-    let e : i ≡ m = omega (arith, at.within) in
-    at.so_far ∙ ap (λ j. filled (replicate j line) old) e
+use Rattle.cross_pass.proofs.CountLaws.{Counting, more_lines, counting_on, counting_ends}
 
 -- ---- one line
 same_numbers : {A : Type 0} (v : ℕ) (xs : List A) → replicate (length xs) v ≡ map (λ x. v) xs
@@ -75,22 +47,27 @@ module _ {A : Type 0} where
   pub part_room : (l : List A) (a m : ℕ) → a + m ≤ length l → m ≤ length (take (length l - a) (drop a l))
   part_room l a m h = rw (rest_of l a, length-drop a l) (omega arith)
 
-pub line_put : (k at n m : ℕ) (bytes keys : List ℕ) (R N : List ℕ) (P : List ℤ) (S yR yN : List ℕ) (yP : List ℤ) (yS : List ℕ)
+-- the line's number beside each of its crossings
+pub numbered : (k at m : ℕ) (N y : List ℕ) → at + m ≤ length N → y ≡ replicate (length (take (at + m - at) (drop at N))) k → take at N ++ (y ++ drop (at + m - at) (drop at N)) ≡ filled_from at (replicate m k) N
+numbered k at m N y h e =
+    let d : at + m - at ≡ m = omega arith in
+    let t : length (take (at + m - at) (drop at N)) ≡ m = rw d (length-take-le m (drop at N) (rw length-drop (omega arith))) in
+    rw (e, t, length-replicate m k, d)
+
+pub line_put : (k at n m : ℕ) (bytes keys : List ℕ) (R N : List ℕ) (P : List ℤ) (S yR N' : List ℕ) (yP : List ℤ) (yS : List ℕ)
     → Written n m bytes keys (made_lists (take (length R - n * k) (drop (n * k) R)) (take (length P - at) (drop at P)) (take (length S - at) (drop at S))) (made_lists yR yP yS)
-    → yN ≡ filled (replicate m k) (take (length N - at) (drop at N))
+    → N' ≡ filled_from at (replicate m k) N
     → (probe : Probe) (kinds : List ℕ) (numbers : List Float) → Sound kinds numbers probe bytes keys m → n ≡ length kinds
     → LinePut (shape_cuts probe kinds numbers) k at (n * k) (line_lists R N P S)
-    (line_lists (take (n * k) R ++ (yR ++ drop (length R - n * k) (drop (n * k) R))) (take at N ++ (yN ++ drop (length N - at) (drop at N))) (take at P ++ (yP ++ drop (length P - at) (drop at P)))
+    (line_lists (take (n * k) R ++ (yR ++ drop (length R - n * k) (drop (n * k) R))) N' (take at P ++ (yP ++ drop (length P - at) (drop at P)))
     (take at S ++ (yS ++ drop (length S - at) (drop at S))))
-line_put k at n m bytes keys R N P S yR yN yP yS w numbered probe kinds numbers sound same =
+line_put k at n m bytes keys R N P S yR N' yP yS w put probe kinds numbers sound same =
     let in-range = cuts_in_range probe kinds numbers in
     let lent = made_lists (take (length R - n * k) (drop (n * k) R)) (take (length P - at) (drop at P)) (take (length S - at) (drop at S)) in
     let whole : Complete 256 16 (shape_cuts probe kinds numbers) bytes keys n m = rw same sound.gathered in
     record {
       rows = filled-part (start_row (shape_cuts probe kinds numbers)) R yR (n * k) (starts-written whole in-range lent (made_lists yR yP yS) w);
-      numbers =
-          filled-part (map (λ c. k) (line_crossings (shape_cuts probe kinds numbers))) N yN at
-          (numbered ∙ ap (λ l. filled l (take (length N - at) (drop at N))) (ap (λ j. replicate j k) (sym (sound-count kinds numbers probe bytes keys m sound)) ∙ same_numbers k (line_crossings (shape_cuts probe kinds numbers))));
+      numbers = put ∙ ap (λ l. filled_from at l N) (ap (λ j. replicate j k) (sym (sound-count kinds numbers probe bytes keys m sound)) ∙ same_numbers k (line_crossings (shape_cuts probe kinds numbers)));
       positions = filled-part (map position_of (line_crossings (shape_cuts probe kinds numbers))) P yP at (positions_written whole in-range lent (made_lists yR yP yS) w);
       shapes = filled-part (map shape_of (line_crossings (shape_cuts probe kinds numbers))) S yS at (shapes_written whole in-range lent (made_lists yR yP yS) w);
     }
@@ -104,9 +81,8 @@ module _ {A : Type 0} where
       rw (front, back) (ap (λ l. xs ++ (ys ++ l)) (drop-drop (length ys) (length xs) old) ∙ sym (append_assoc xs ys (drop (length xs + length ys) old)) ∙ ap (λ j. (xs ++ ys) ++ drop j old) (sym (length-append xs ys)))
 
 -- ---- all lines
-pub record Writing (kinds : List ℕ) (numbers lines : List Float) (count : ℕ) (lent new : LineLists) (bytes keys : List ℕ) (k at : ℕ) : Type 0 where
-  pub counting : Counting kinds numbers lines count bytes keys k at
-  pub few_shapes : length kinds ≤ 256
+pub record Writing (kinds : List ℕ) (numbers lines : List Float) (count : ℕ) (lent new : LineLists) (k at : ℕ) : Type 0 where
+  pub counting : Counting kinds numbers lines count k at
   pub fits : Fits (drawn kinds numbers (probes_of lines)) lent
   pub holding : Holding (drawn kinds numbers (take k (probes_of lines))) lent new
   pub rows_long : length new.rows ≡ length lent.rows
@@ -114,13 +90,11 @@ pub record Writing (kinds : List ℕ) (numbers lines : List Float) (count : ℕ)
   pub positions_long : length new.positions ≡ length lent.positions
   pub shapes_long : length new.shapes ≡ length lent.shapes
 
-pub writing_starts : (kinds : List ℕ) (numbers lines : List Float) (count : ℕ) (R N : List ℕ) (P : List ℤ) (S bytes keys : List ℕ) → count ≡ length (probes_of lines) → count ≤ 4294967296 → length kinds ≤ 256
-    → lines_judged 0 kinds numbers (probes_of lines) ≡ gives tt → Fits (drawn kinds numbers (probes_of lines)) (line_lists R N P S) → length bytes ≡ 256 → length keys ≡ 512
-    → Writing kinds numbers lines count (line_lists R N P S) (line_lists R N P S) bytes keys 0 0
+pub writing_starts : {kinds : List ℕ} {numbers lines : List Float} {count : ℕ} {lent : LineLists} → Counting kinds numbers lines count 0 0 → Fits (drawn kinds numbers (probes_of lines)) lent
+    → Writing kinds numbers lines count lent lent 0 0
 unfolding rows_of lines_from positions_in shapes_in
-writing_starts kinds numbers lines count R N P S bytes keys all few shapes_few judged fits b s = record {
-  counting = counting_starts kinds numbers lines count bytes keys all few judged b s;
-  few_shapes = shapes_few;
+writing_starts counting fits = record {
+  counting = counting;
   fits = fits;
   holding = record { rows = refl; numbers = refl; positions = refl; shapes = refl };
   rows_long = refl;
@@ -129,124 +103,116 @@ writing_starts kinds numbers lines count R N P S bytes keys all few shapes_few j
   shapes_long = refl;
 }
 
-module _ (kinds : List ℕ) (numbers lines : List Float) (count : ℕ) (R₀ N₀ : List ℕ) (P₀ : List ℤ) (S₀ R N : List ℕ) (P : List ℤ) (S bytes₀ keys₀ : List ℕ) (k at : ℕ)
-    (writing : Writing kinds numbers lines count (line_lists R₀ N₀ P₀ S₀) (line_lists R N P S) bytes₀ keys₀ k at) where
-  module _ (more : k < count) (probe : Probe) (read : probe ≡ probe_from (drop (6 * k) lines)) where
-    module _ (bytes keys : List ℕ) (m : ℕ) (gathered : Complete 256 16 (shape_cuts probe kinds numbers) bytes keys (length kinds) m) where
-      before_here : k < length (probes_of lines)
-      before_here = more_lines kinds numbers lines count bytes₀ keys₀ k at writing.counting more probe read
+module _ {kinds : List ℕ} {numbers lines : List Float} {count : ℕ} {lent new : LineLists} {k at : ℕ} (writing : Writing kinds numbers lines count lent new k at) where
+  module _ (more : k < count) {bytes keys : List ℕ} {m : ℕ} (sound : Sound kinds numbers (probe_from (drop (6 * k) lines)) bytes keys m) where
+    abbrev probe : Probe
+    probe = probe_from (drop (6 * k) lines)
 
-      sound : Sound kinds numbers probe bytes keys m
-      sound = sound-here kinds numbers lines count bytes₀ keys₀ k at writing.counting more probe read bytes keys m gathered
+    before_here : k < length (probes_of lines)
+    before_here = more_lines writing.counting more
 
-      abbrev before : Drawn
-      before = drawn kinds numbers (take k (probes_of lines))
+    abbrev before : Drawn
+    before = drawn kinds numbers (take k (probes_of lines))
 
-      abbrev here : List Cut
-      here = shape_cuts probe kinds numbers
+    abbrev here : List Cut
+    here = shape_cuts probe kinds numbers
 
-      taken : length (take k (probes_of lines)) ≡ k
-      taken = length-take-le k (probes_of lines) (omega (arith, before_here))
+    taken : length (take k (probes_of lines)) ≡ k
+    taken = length-take-le k (probes_of lines) (omega (arith, before_here))
 
-      length_before : length before ≡ k
-      length_before = length-map (take k (probes_of lines)) (λ p. shape_cuts p kinds numbers) ∙ taken
+    length_before : length before ≡ k
+    length_before = length-map (take k (probes_of lines)) (λ p. shape_cuts p kinds numbers) ∙ taken
 
-      rows_before : length (rows_of before) ≡ length kinds * k
-      rows_before = rows-count kinds numbers (take k (probes_of lines)) ∙ ap (λ j. length kinds * j) taken
+    rows_before : length (rows_of before) ≡ length kinds * k
+    rows_before = rows-count kinds numbers (take k (probes_of lines)) ∙ ap (λ j. length kinds * j) taken
 
-      numbers-before : length (lines_from 0 before) ≡ at
-      numbers-before = sym writing.counting.counted
+    numbers-before : length (lines_from 0 before) ≡ at
+    numbers-before = sym writing.counting.counted
 
-      positions_before : length (positions_in before) ≡ at
-      positions_before = positions_many 0 before ∙ numbers-before
+    positions_before : length (positions_in before) ≡ at
+    positions_before = positions_many 0 before ∙ numbers-before
 
-      shapes_before : length (shapes_in before) ≡ at
-      shapes_before = shapes_many 0 before ∙ numbers-before
+    shapes_before : length (shapes_in before) ≡ at
+    shapes_before = shapes_many 0 before ∙ numbers-before
 
-      -- the whole begins with these lines
-      whole : drawn kinds numbers (probes_of lines) ≡ (before ++ (here ∷ [])) ++ drawn kinds numbers (drop (k + 1) (probes_of lines))
-      whole =
-          ap (drawn kinds numbers) (sym (take-append-drop (k + 1) (probes_of lines)))
-          ∙ map-append (λ p. shape_cuts p kinds numbers) (take (k + 1) (probes_of lines)) (drop (k + 1) (probes_of lines))
-          ∙ ap (λ l. l ++ drawn kinds numbers (drop (k + 1) (probes_of lines))) (drawn-next kinds numbers lines k probe read before_here)
+    -- the whole begins with these lines
+    whole : drawn kinds numbers (probes_of lines) ≡ (before ++ (here ∷ [])) ++ drawn kinds numbers (drop (k + 1) (probes_of lines))
+    whole =
+        ap (drawn kinds numbers) (sym (take-append-drop (k + 1) (probes_of lines)))
+        ∙ map-append (λ p. shape_cuts p kinds numbers) (take (k + 1) (probes_of lines)) (drop (k + 1) (probes_of lines))
+        ∙ ap (λ l. l ++ drawn kinds numbers (drop (k + 1) (probes_of lines))) (drawn-next kinds numbers lines k probe refl before_here)
 
-      row_long : length (start_row here) ≡ length kinds
-      row_long = length-map here start_of ∙ length-cuts probe kinds numbers
+    row_long : length (start_row here) ≡ length kinds
+    row_long = length-map here start_of ∙ length-cuts probe kinds numbers
 
-      rows-room : length kinds * k + length kinds ≤ length R₀
-      rows-room =
-          omega (
-            arith,
-            writing.fits.rows,
-            ap (λ l. length (rows_of l)) whole,
-            rows-part (before ++ (here ∷ [])) (drawn kinds numbers (drop (k + 1) (probes_of lines))),
-            ap length (rows_more before here),
-            length-append (rows_of before) (start_row here),
-            rows_before,
-            row_long,
-          )
+    rows-room : length kinds * k + length kinds ≤ length lent.rows
+    rows-room =
+        omega (
+          arith,
+          writing.fits.rows,
+          ap (λ l. length (rows_of l)) whole,
+          rows-part (before ++ (here ∷ [])) (drawn kinds numbers (drop (k + 1) (probes_of lines))),
+          ap length (rows_more before here),
+          length-append (rows_of before) (start_row here),
+          rows_before,
+          row_long,
+        )
 
-      crossings-room : at + m ≤ length (lines_from 0 (drawn kinds numbers (probes_of lines)))
-      crossings-room =
-          omega (
-            arith,
-            ap (λ l. length (lines_from 0 l)) whole,
-            lines-part (before ++ (here ∷ [])) (drawn kinds numbers (drop (k + 1) (probes_of lines))),
-            ap length (lines_more before here),
-            length-append (lines_from 0 before) (map (λ (c : LineCrossing). length before) (line_crossings here)),
-            length-map (line_crossings here) (λ (c : LineCrossing). length before),
-            numbers-before,
-            sound-count kinds numbers probe bytes keys m sound,
-          )
+    crossings-room : at + m ≤ length (lines_from 0 (drawn kinds numbers (probes_of lines)))
+    crossings-room =
+        omega (
+          arith,
+          ap (λ l. length (lines_from 0 l)) whole,
+          lines-part (before ++ (here ∷ [])) (drawn kinds numbers (drop (k + 1) (probes_of lines))),
+          ap length (lines_more before here),
+          length-append (lines_from 0 before) (map (λ (c : LineCrossing). length before) (line_crossings here)),
+          length-map (line_crossings here) (λ (c : LineCrossing). length before),
+          numbers-before,
+          sound-count kinds numbers probe bytes keys m sound,
+        )
 
-      pub line-held : Held 256 bytes keys (length kinds) m
-      line-held = sound-held kinds numbers probe bytes keys m sound
+    pub line-held : Held 256 bytes keys (length kinds) m
+    line-held = sound-held kinds numbers probe bytes keys m sound
 
-      pub line-room : RoomFor k at (length kinds) m (line_lists R N P S)
-      line-room = record {
-        few = omega (arith, writing.counting.few);
-        rows = omega (arith, rows-room, writing.rows_long);
-        numbers = omega (arith, crossings-room, writing.fits.numbers, writing.numbers_long);
-        positions = omega (arith, crossings-room, writing.fits.positions, writing.positions_long);
-        shapes = omega (arith, crossings-room, writing.fits.shapes, writing.shapes_long);
-      }
+    pub line-room : RoomFor k at (length kinds) m new
+    line-room = record {
+      few = omega (arith, writing.counting.few);
+      rows = omega (arith, rows-room, writing.rows_long);
+      numbers = omega (arith, crossings-room, writing.fits.numbers, writing.numbers_long);
+      positions = omega (arith, crossings-room, writing.fits.positions, writing.positions_long);
+      shapes = omega (arith, crossings-room, writing.fits.shapes, writing.shapes_long);
+    }
 
-      pub writing_fits : at + m < 18446744073709551616
-      writing_fits = counting_fits kinds numbers lines count bytes₀ keys₀ k at writing.counting more probe read bytes keys m gathered
+    pub writing_on : {last : LineLists} → LinePut here k at (length kinds * k) new last
+        → length last.rows ≡ length new.rows → length last.lines ≡ length new.lines → length last.positions ≡ length new.positions → length last.shapes ≡ length new.shapes
+        → Writing kinds numbers lines count lent last (k + 1) (at + m)
+    writing_on put lr ln lp ls =
+        let next = drawn-next kinds numbers lines k probe refl before_here in
+        record {
+          counting = counting_on writing.counting more sound;
+          fits = writing.fits;
+          holding =
+              record {
+                rows = put.rows ∙ filled_on (rows_of before) (start_row here) lent.rows new.rows (length kinds * k) writing.holding.rows rows_before ∙ ap (λ l. filled l lent.rows) (sym (ap rows_of next ∙ rows_more before here));
+                numbers =
+                    put.numbers ∙ ap (λ j. filled_from at (map (λ c. j) (line_crossings here)) new.lines) (sym length_before)
+                    ∙ filled_on (lines_from 0 before) (map (λ c. length before) (line_crossings here)) lent.lines new.lines at writing.holding.numbers numbers-before
+                    ∙ ap (λ l. filled l lent.lines) (sym (ap (lines_from 0) next ∙ lines_more before here));
+                positions =
+                    put.positions ∙ filled_on (positions_in before) (map position_of (line_crossings here)) lent.positions new.positions at writing.holding.positions positions_before
+                    ∙ ap (λ l. filled l lent.positions) (sym (ap positions_in next ∙ positions_more before here));
+                shapes =
+                    put.shapes ∙ filled_on (shapes_in before) (map shape_of (line_crossings here)) lent.shapes new.shapes at writing.holding.shapes shapes_before
+                    ∙ ap (λ l. filled l lent.shapes) (sym (ap shapes_in next ∙ shapes_more before here));
+              };
+          rows_long = lr ∙ writing.rows_long;
+          numbers_long = ln ∙ writing.numbers_long;
+          positions_long = lp ∙ writing.positions_long;
+          shapes_long = ls ∙ writing.shapes_long;
+        }
 
-      pub writing_on : (R' N' : List ℕ) (P' : List ℤ) (S' keys' : List ℕ)
-          → ((p : Probe) (ks : List ℕ) (ns : List Float) → Sound ks ns p bytes keys m → length kinds ≡ length ks → LinePut (shape_cuts p ks ns) k at (length kinds * k) (line_lists R N P S) (line_lists R' N' P' S'))
-          → length keys' ≡ 512 → length R' ≡ length R → length N' ≡ length N → length P' ≡ length P → length S' ≡ length S
-          → Writing kinds numbers lines count (line_lists R₀ N₀ P₀ S₀) (line_lists R' N' P' S') bytes keys' (k + 1) (at + m)
-      writing_on R' N' P' S' keys' puts s lr ln lp ls =
-          let put = puts probe kinds numbers sound refl in
-          let next = drawn-next kinds numbers lines k probe read before_here in
-          record {
-            counting = counting_on kinds numbers lines count bytes₀ keys₀ k at writing.counting more probe read bytes keys m gathered keys' s;
-            few_shapes = writing.few_shapes;
-            fits = writing.fits;
-            holding =
-                record {
-                  rows = put.rows ∙ filled_on (rows_of before) (start_row here) R₀ R (length kinds * k) writing.holding.rows rows_before ∙ ap (λ l. filled l R₀) (sym (ap rows_of next ∙ rows_more before here));
-                  numbers =
-                      put.numbers ∙ ap (λ j. filled_from at (map (λ c. j) (line_crossings here)) N) (sym length_before)
-                      ∙ filled_on (lines_from 0 before) (map (λ c. length before) (line_crossings here)) N₀ N at writing.holding.numbers numbers-before
-                      ∙ ap (λ l. filled l N₀) (sym (ap (lines_from 0) next ∙ lines_more before here));
-                  positions =
-                      put.positions ∙ filled_on (positions_in before) (map position_of (line_crossings here)) P₀ P at writing.holding.positions positions_before
-                      ∙ ap (λ l. filled l P₀) (sym (ap positions_in next ∙ positions_more before here));
-                  shapes =
-                      put.shapes ∙ filled_on (shapes_in before) (map shape_of (line_crossings here)) S₀ S at writing.holding.shapes shapes_before
-                      ∙ ap (λ l. filled l S₀) (sym (ap shapes_in next ∙ shapes_more before here));
-                };
-            rows_long = lr ∙ writing.rows_long;
-            numbers_long = ln ∙ writing.numbers_long;
-            positions_long = lp ∙ writing.positions_long;
-            shapes_long = ls ∙ writing.shapes_long;
-          }
-
-  pub writing_ends : count ≤ k → AllWritten (drawn kinds numbers (probes_of lines)) (line_lists R₀ N₀ P₀ S₀) at (line_lists R N P S)
+  pub writing_ends : count ≤ k → AllWritten (drawn kinds numbers (probes_of lines)) lent at new
   writing_ends h = record {
-    counted = counting_ends kinds numbers lines count bytes₀ keys₀ k at writing.counting h;
+    counted = counting_ends writing.counting h;
     holding = rw (take_all k (probes_of lines) (omega (arith, writing.counting.all))) at writing.holding;
   }

@@ -1,9 +1,24 @@
--- How the lines are written one after another into the lists that are lent.
-use Rattle.std.specs.Prelude.{ℕ, ◌+◌, ◌*◌, ◌<◌, ◌≤◌, ◌≡◌, List, ◌++◌, map, length, take, drop}
+-- How the lines are gone through, and written one after another into the lists that are lent.
+use Rattle.std.specs.Prelude.{ℕ, ◌+◌, ◌*◌, ◌<◌, ◌≤◌, ◌≡◌, List, ◌++◌, map, length, take, drop, Float}
 use Rattle.outcome.specs.Lent.{filled}
 use Rattle.lines.specs.Lines.{LineLists}
 use Rattle.cross_cuts.specs.Cuts.{Cut, start_row, line_crossings, position_of, shape_of}
+use Rattle.cross_columns.specs.Columns.{Columns}
+use Rattle.cross_hits.specs.Hits.{Clear}
+use Rattle.cross_kept.specs.Keeping.{Keeps}
 use Rattle.cross_drawn.specs.Drawn.{Drawn, rows_of, lines_from, positions_in, shapes_in}
+use Rattle.cross_pass.specs.declared.Pass.{Pass}
+
+-- The drawing stands in columns, what is kept of the lines before it is right, and no byte of a box is set.
+pub record Passing (kinds : List ℕ) (numbers : List Float) (pass : Pass) : Type 0 where
+  pub few : length kinds ≤ 256
+  pub columns : Columns kinds numbers (length kinds) pass.columns.lows pass.columns.highs pass.columns.halves
+  pub keeps : Keeps (length kinds) pass.columns.halves pass.columns.lows pass.columns.highs pass.ranks.lessers pass.ranks.greaters pass.kept
+  pub clear : Clear pass.columns.halves pass.bytes 0 (length kinds)
+  pub lessers_sized : length pass.ranks.lessers ≡ 1024
+  pub greaters_sized : length pass.ranks.greaters ≡ 1024
+  pub bytes_sized : length pass.bytes ≡ 256
+  pub keys_sized : length pass.keys ≡ 512
 
 -- There is room for line k, a row of n and m crossings, where k rows and so many crossings are before it.
 pub record RoomFor (k before n m : ℕ) (lent : LineLists) : Type 0 where

@@ -1,25 +1,24 @@
 -- The nearest whole number from the bits of a float.
 use mathlib.Core.Path.{◌≡◌, refl, sym, ap, ◌∙◌, subst}
 use Prim.Native.Nat.{ℕ, zero, suc, ◌+◌, ◌-◌, ◌*◌, ◌/◌, ◌%◌, ◌^◌, ◌≤◌, ◌<◌, compare, Ordering, zero-le}
-use native.Mathlib.Nat.{le_trans, le_antisymm, le_of_eq, le_of_lt, mul_assoc, mul-le-mul_right, mul-one, one-mul, div-le_self, mod-le}
+use native.Mathlib.Nat.{le_trans, le_antisymm, le_of_eq, le_of_lt, mul_assoc, mul-le-mul_right, mul-one}
 use native.Mathlib.Omega.{arith}
 use mathlib.Core.Bool.{Bool, true, false, not, cond}
 use mathlib.Core.Option.{Option, none, some}
 use lib.Dec.{T, is_le, compare_is_eq, leb, ltb, eqb, leb→le, nleb→lt, eqb→eq, eqb_refl, lit<, lit≤}
 use lib.IntN.{ℤ, pos, negsuc}
-use lib.Pow.{pow-add, pow_pos, pow_mono, shl_lt, shl_exact}
+use lib.Pow.{pow-add, pow_pos, pow_mono, shl_lt}
 use lib.Arith.{lt_of_le-ne}
-use lib.Ieee.{Float, nan, inf, fin, binary64, up, down, odd, nearest as tied, of_fields, of_bits, to_bits, fits, ne, is_nan, of_int}
-use lib.Ieee.Compare.{differs_from_itself}
+use lib.Ieee.{Float, nan, inf, fin, binary64, up, down, odd, of_fields, of_bits, to_bits, fits, is_nan, of_int}
 use lib.Ieee.Nearest.{closest, closest_mono, closest_same}
 use lib.Ieee.Bits.{of_bits-to_bits}
 use lib.Ieee.Exact.{HasValue, odd_sign}
 use borrow.Author.Tests.{lt-ltb, le-ltb, lt-leb, le-leb, eqb-true, ltb-true, ltb-false}
+use Rattle.std.proofs.Common.{Some, None}
 use Rattle.cross_ranks.specs.Ranks.{unrank}
 use Rattle.cross_positions.specs.Positions.{thousand, signed, nearest_whole, in_range}
 use Rattle.cross_positions.specs.Found.{found_of}
 use Rattle.cross_positions.specs.Fields.{size_of}
-use Rattle.cross_positions.specs.declared.Found.TheVariants.{At, Nowhere}
 
 -- a whole number, or a float's nearest, that may be given
 abbrev within : ℤ → Option ℤ
@@ -27,9 +26,6 @@ within z = in_range (some z)
 
 abbrev whole : Float → Option ℤ
 whole x = in_range (nearest_whole x)
-
-pub at-distance : {p : Option ℤ} {x y : Float} → p ≡ whole x → x ≡ y → p ≡ whole y
-at-distance e d = e ∙ ap whole d
 
 -- ---- what `compare` says
 abbrev pub Cmp : Ordering → ℕ → ℕ → Type 0
@@ -45,70 +41,15 @@ cmp a b = go (compare a b) (leb→le a b) (nleb→lt a b) (eqb→eq a b) (λ (e 
     go Ordering.eq h k e n = e tt
     go Ordering.gt h k e n = k tt
 
-nearest_down : (n a b : ℕ) → a < b → tied n (compare a b) ≡ n
-nearest_down n a b h = go (compare a b) (cmp a b)
-  where
-    go : (o : Ordering) → Cmp o a b → tied n o ≡ n
-    go Ordering.lt c = refl
-    go Ordering.eq c = absurd (omega arith)
-    go Ordering.gt c = absurd (omega arith)
-
-nearest_up : (n a b : ℕ) → b < a → tied n (compare a b) ≡ n + 1
-nearest_up n a b h = go (compare a b) (cmp a b)
-  where
-    go : (o : Ordering) → Cmp o a b → tied n o ≡ n + 1
-    go Ordering.lt c = absurd (omega arith)
-    go Ordering.eq c = absurd (omega arith)
-    go Ordering.gt c = omega arith
-
-nearest_tie : (n a b : ℕ) → a ≤ b → b ≤ a → tied n (compare a b) ≡ n + n % 2
-nearest_tie n a b h k = go (compare a b) (cmp a b)
-  where
-    go : (o : Ordering) → Cmp o a b → tied n o ≡ n + n % 2
-    go Ordering.lt c = absurd (omega arith)
-    go Ordering.eq c = refl
-    go Ordering.gt c = absurd (omega arith)
-
--- a NaN differs from itself, and nothing else does
-pub no_nan : (x : Float) → ne x x ≡ false → T (not (is_nan x))
-unfolding ne is_nan
-no_nan nan e = absurd (subst T e tt)
-no_nan (inf s) e = tt
-no_nan (fin s m f) e = tt
-
-pub nan_bad : (x : Float) → ne x x ≡ true → found_of Nowhere ≡ in_range (nearest_whole x)
-unfolding nearest_whole
-nan_bad x e = sym (ap (λ (y : Float). whole y) (differs_from_itself x (subst T (sym e) tt)))
-
--- `1 << d` at 64 bits
-pub one_shl : (d : ℕ) → d < 54 → (1 * 2 ^ d) % 2 ^ 64 ≡ 2 ^ d
-one_shl d h = shl_exact {a = 1} 1 d 64 (lit< tt) (omega arith) ∙ one-mul (2 ^ d)
+pub nan_bad : (x : Float) (b : Bool) → b ≡ is_nan x → b ≡ true → found_of None ≡ in_range (nearest_whole x)
+unfolding nearest_whole is_nan
+nan_bad nan b e f = refl
+nan_bad (inf s) b e f = absurd (subst T (sym f ∙ e) tt)
+nan_bad (fin s m k) b e f = absurd (subst T (sym f ∙ e) tt)
 
 pub thousand_is : of_bits binary64 4652007308841189376 ≡ thousand
 unfolding of_bits of_int
 thousand_is = refl
-
--- the exits of `halved`, with u for 2 ^ d
-module _ (q d u : ℕ) (e : u ≡ 2 ^ d) where
-  pub down_exit : q % u * 2 < u → q / u ≡ closest q (2 ^ d)
-  down_exit h = sym (ap (λ (v : ℕ). closest q v) (sym e) ∙ nearest_down (q / u) (q % u * 2) u h)
-
-  pub up_exit : u < q % u * 2 → q / u + 1 ≡ closest q (2 ^ d)
-  up_exit h = sym (ap (λ (v : ℕ). closest q v) (sym e) ∙ nearest_up (q / u) (q % u * 2) u h)
-
-  pub tie_exit : u ≤ q % u * 2 → q % u * 2 ≤ u → q / u + q / u % 2 ≡ closest q (2 ^ d)
-  tie_exit h k = sym (ap (λ (v : ℕ). closest q v) (sym e) ∙ nearest_tie (q / u) (q % u * 2) u k h)
-
--- what it works out on the way stays in 64 bits
-module _ {q : ℕ} (u : ℕ) (h : q < 2 ^ 53) where
-  pub twice-fits : q % u * 2 < 18446744073709551616
-  twice-fits = omega (arith, mod-le q u)
-
-  pub up_fits : q / u + 1 < 18446744073709551616
-  up_fits = omega (arith, div-le_self q u)
-
-  pub tie_fits : q / u + q / u % 2 < 18446744073709551616
-  tie_fits = omega (arith, div-le_self q u)
 
 -- ---- of a float with a value
 whole_of_value : (x : Float) (s : Bool) (a c : ℕ) → 0 < c → HasValue x s a c → whole x ≡ within (signed s (closest a c))
@@ -150,20 +91,17 @@ middle q k d e =
     (mul_assoc q (2 ^ k) (2 ^ d) ∙ ap (λ (n : ℕ). q * n) (sym (pow-add 2 k d) ∙ ap (λ (n : ℕ). 2 ^ n) e))
 
 -- the three cases of `size_of`
-pub size_small : (x t : ℕ) → x < 1022 → size_of x t ≡ 0
+size_small : (x t : ℕ) → x < 1022 → size_of x t ≡ 0
 unfolding size_of
 size_small x t h = rw (lt-ltb x 1022 h)
 
-pub size_large : (x t : ℕ) → 1053 < x → size_of x t ≡ 2147483648
+size_large : (x t : ℕ) → 1053 < x → size_of x t ≡ 2147483648
 unfolding size_of
 size_large x t h = rw (le-ltb x 1022 (omega arith), lt-ltb 1053 x h)
 
 size_middle : (x t : ℕ) → 1022 ≤ x → x ≤ 1053 → size_of x t ≡ closest (4503599627370496 + t) (2 ^ (1075 - x))
 unfolding size_of
 size_middle x t h k = rw (le-ltb x 1022 h, le-ltb 1053 x k)
-
-pub middle_exit : (x t : ℕ) {v : ℕ} → 1022 ≤ x → x ≤ 1053 → v ≡ closest (4503599627370496 + t) (2 ^ (1075 - x)) → v ≡ size_of x t
-middle_exit x t h k e = e ∙ sym (size_middle x t h k)
 
 -- a value of digits q at the field's weight k is seen as `size_of` has it
 seen : (s : Bool) (k t : ℕ) → t < 2 ^ 52 → within (signed s (closest ((4503599627370496 + t) * 2 ^ k) (2 ^ 1074))) ≡ within (signed s (size_of (suc k) t))
@@ -221,24 +159,24 @@ module _ (x : Float) (h : fits binary64 x ≡ true) (n : ℕ) (e : n ≡ size_bi
   as_seen : (s : Bool) → leb 9223372036854775808 (to_bits binary64 x) ≡ s → within (signed s n) ≡ whole x
   as_seen s f = sym (bits-whole x (subst T (sym h) tt) ∙ ap (λ (t : Bool). within (signed t (size_bits (to_bits binary64 x)))) f ∙ ap (λ (m : ℕ). within (signed s m)) (sym e))
 
-  pub plus_bad : to_bits binary64 x < 9223372036854775808 → 2147483646 < n → found_of Nowhere ≡ in_range (nearest_whole x)
+  pub plus_bad : to_bits binary64 x < 9223372036854775808 → 2147483646 < n → found_of None ≡ in_range (nearest_whole x)
   plus_bad u k =
       let w : within (pos n) ≡ none = rw (lt-leb n 2147483646 k) in
       sym w ∙ as_seen false (lt-leb _ _ u)
 
-  pub plus-at : to_bits binary64 x < 9223372036854775808 → n ≤ 2147483646 → found_of (At (2147483648 + n)) ≡ in_range (nearest_whole x)
+  pub plus-at : to_bits binary64 x < 9223372036854775808 → n ≤ 2147483646 → found_of (Some (2147483648 + n)) ≡ in_range (nearest_whole x)
   plus-at u k =
       let m : unrank (2147483648 + n) ≡ pos n = rw (le-ltb (2147483648 + n) 2147483648 (omega arith)) (let d : 2147483648 + n - 2147483648 ≡ n = omega arith in ap pos d) in
       let w : within (pos n) ≡ some (pos n) = rw (le-leb n 2147483646 k) in
       ap some m ∙ sym w ∙ as_seen false (lt-leb _ _ u)
 
-  pub minus_bad : 9223372036854775808 ≤ to_bits binary64 x → 2147483647 < n → found_of Nowhere ≡ in_range (nearest_whole x)
+  pub minus_bad : 9223372036854775808 ≤ to_bits binary64 x → 2147483648 ≤ n → found_of None ≡ in_range (nearest_whole x)
   minus_bad u k = sym (too_big true n k) ∙ as_seen true (le-leb _ _ u)
 
-  pub minus_at : 9223372036854775808 ≤ to_bits binary64 x → n ≤ 2147483647 → found_of (At (2147483648 - n)) ≡ in_range (nearest_whole x)
+  pub minus_at : 9223372036854775808 ≤ to_bits binary64 x → n < 2147483648 → found_of (Some (2147483648 - n)) ≡ in_range (nearest_whole x)
   minus_at u k = minus n k ∙ as_seen true (le-leb _ _ u)
     where
-      minus : (n : ℕ) → n ≤ 2147483647 → found_of (At (2147483648 - n)) ≡ within (signed true n)
+      minus : (n : ℕ) → n < 2147483648 → found_of (Some (2147483648 - n)) ≡ within (signed true n)
       minus zero k = refl
       minus (suc n) k =
           let d : 2147483648 - suc (2147483648 - suc n) ≡ n = omega arith in

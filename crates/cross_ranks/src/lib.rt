@@ -4,16 +4,18 @@
 ghost use Rattle.std.specs.Prelude.{◌≡◌};
 ghost use Rattle.cross_ranks.specs.Ranks.{unrank};
 
+const MIDDLE: i64 = 1 << 31;
+
 // 2147483648 more than z.
 pub fn rank_of(z: i32) -> u32
     ensures { unrank result ≡ z }
 {
-    (z as i64 + 2147483648) as u32
+    (i64::from(z) + MIDDLE) as u32
 }
 
 // 2147483648 less than m.
 pub fn position_of(m: u32) -> i32
     ensures { result ≡ unrank m }
 {
-    (m as i64 - 2147483648) as i32
+    (i64::from(m) - MIDDLE) as i32
 }

@@ -243,21 +243,13 @@ all_reached (fin t n d) (fin u k b) c f g fc zc p q (inf s) fx r = absurd (true�
 all_reached (fin t n d) (fin u k b) c f g fc zc p q (fin s m e) fx r = reach_fin t n d u k b s m e c fc zc r p q
 
 -- ---- the exits
-pub two-sides : (x : Float) (w v : Bool) → w ≡ given x → v ≡ given (neg x) → (w && v) ≡ (given x && given (neg x))
-two-sides x w v e f = ap (λ b. b && v) e ∙ ap (λ b. given x && b) f
 
-pub sides-given : (reach origin c less more : Float) (w x : Bool) → finite reach ≡ true → finite origin ≡ true → finite c ≡ true → is_zero c ≡ false → less ≡ distance reach origin c → more ≡ distance reach (neg origin) c
+pub sides_given : (reach origin c less more : Float) (w x : Bool) → finite reach ≡ true → finite origin ≡ true → finite c ≡ true → is_zero c ≡ false → less ≡ distance reach origin c → more ≡ distance reach (neg origin) c
     → w ≡ (given less && given (neg less)) → x ≡ (given more && given (neg more)) → (w && x) ≡ true → AllGiven reach origin c
-sides-given reach origin c less more w x fr fo fc zc is-less is-more ew ex h =
+sides_given reach origin c less more w x fr fo fc zc is-less is-more ew ex h =
     let a = (and-eq-true_iff w x).0 h in
     record { each = λ z. all_reached reach origin c fr fo fc zc (ap Sides (sym is-less) ∙ sym ew ∙ a.0) (ap Sides (sym is-more) ∙ sym ex ∙ a.1) }
-
-pub no_positions : (reach origin component : Float) (w : Bool) → w ≡ is_zero component → w ≡ true → AllGiven reach origin component
-no_positions reach origin component w e h = record { each = λ z. absurd (true≢false (sym (sym e ∙ h) ∙ z)) }
 
 -- what a test says that answered so
 pub told : (answer test way : Bool) → answer ≡ test → answer ≡ way → test ≡ way
 told answer test way e h = sym e ∙ h
-
-pub never : (reach origin component : Float) → false ≡ true → AllGiven reach origin component
-never reach origin component e = absurd (true≢false (sym e))

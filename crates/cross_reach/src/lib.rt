@@ -9,6 +9,7 @@ ghost use Rattle.cross_quick.specs.Given.{given};
 ghost use Rattle.cross_reach.specs.Reach.{AllGiven, Plain, Wider};
 
 // The reach with a face more.
+#[tactic(auto, using(crate::proofs::WidenLaws::widen_up, crate::proofs::WidenLaws::widen_down, crate::proofs::WidenLaws::widen_not))]
 pub fn widen(reach: f64, face: f64) -> f64
     requires { Plain reach }
     ensures { Wider reach face result }
@@ -30,6 +31,7 @@ fn either_side(x: f64) -> bool
 }
 
 // The origin may lie on either side of zero, and so may the face.
+#[tactic(auto, using(crate::proofs::ReachLaws::sides_given))]
 fn all_given(reach: f64, origin: f64, component: f64) -> bool
     requires reach_value { finite reach ≡ true }
     requires origin_value { finite origin ≡ true }
@@ -48,11 +50,6 @@ pub fn judge_axis(reach: f64, origin: f64, component: f64) -> bool
     requires component_value { finite component ≡ true }
     ensures { result ≡ true → AllGiven reach origin component }
 {
-    if cross_shapes::is_zero(component) {
-        return true;
-    }
-    if cross_shapes::is_finite(reach) {
-        return all_given(reach, origin, component);
-    }
-    false
+    cross_shapes::is_zero(component)
+        || (cross_shapes::is_finite(reach) && all_given(reach, origin, component))
 }

@@ -1,4 +1,3 @@
 pub mod FloatLaws
 pub mod BoxLaws
-pub mod ShapeLaws
 pub mod RangeLaws

@@ -115,4 +115,4 @@ box_allowed probe lx ly lz hx hy hz =
 -- ---- either
 pub shape_in_range : (probe : Probe) (shape : Shape) → Every allowed (positions_of (shape_cut probe shape))
 shape_in_range probe (HalfSpace axis face) = half_allowed probe axis face
-shape_in_range probe (Block lx ly lz hx hy hz) = box_allowed probe lx ly lz hx hy hz
+shape_in_range probe (Block b) = box_allowed probe b.lx b.ly b.lz b.hx b.hy b.hz

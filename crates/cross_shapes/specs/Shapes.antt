@@ -116,4 +116,4 @@ box_cut probe lx ly lz hx hy hz =
 
 abbrev pub shape_cut : Probe → Shape → Cut
 shape_cut probe (HalfSpace axis face) = half_space_cut probe axis face
-shape_cut probe (Block lx ly lz hx hy hz) = box_cut probe lx ly lz hx hy hz
+shape_cut probe (Block b) = box_cut probe b.lx b.ly b.lz b.hx b.hy b.hz

@@ -5,7 +5,7 @@ use native.Mathlib.Omega.{arith}
 use mathlib.Core.Path.{◌≡◌, refl, sym, ap, ◌∙◌, fun_ext}
 use mathlib.Core.List.{List, [], ◌∷◌, ◌++◌, map, append_assoc}
 use lib.ListN.{length, get_or, take, get_or-append}
-use Rattle.outcome.specs.Outcome.{Outcome, given, ◌>>◌}
+use Rattle.outcome.specs.Outcome.{Outcome, given}
 use Rattle.outcome.specs.Lent.{filled}
 use Rattle.outcome.proofs.Questions.{given-same, part-given}
 use Rattle.formula.specs.Formula.{Formula, inside}
@@ -29,8 +29,7 @@ use Rattle.job_run.specs.Running.{answers_of, running}
 use Rattle.job_classify.specs.Classifying.{classifying}
 use Rattle.job_run.specs.Ran.{Ran}
 use Rattle.job_classify.specs.Classified.{Classified}
-use Rattle.job_run.specs.declared.RunAnswer.TheVariants as run
-use Rattle.job_classify.specs.declared.ClassifyAnswer.TheVariants as classify
+use Rattle.std.specs.Prelude.{Ok}
 use Rattle.job_run.proofs.Settled.{ran_accepted}
 use Rattle.job_classify.proofs.ClassifyLaws.{classifying-accepted}
 
@@ -45,7 +44,7 @@ roots-at f done (t ∷ ts) (suc i) h =
 
 -- The sheets s, accepted as x, and the toggles ts; the lists after the call.
 module _ (s : Sheets) (x : Sheet) (is : accepted s ≡ given x) (ts rs cs ls : List ℕ) (nodes : ℕ) (rs' cs' ls' : List ℕ)
-    (ran : Ran (running s ts (length rs) (length cs) (length ls)) rs cs ls (run.Ran nodes) rs' cs' ls') where
+    (ran : Ran (running s ts (length rs) (length cs) (length ls)) rs cs ls (given nodes) rs' cs' ls') where
   abbrev job : Outcome Answers
   job = running s ts (length rs) (length cs) (length ls)
 
@@ -84,8 +83,8 @@ module _ (s : Sheets) (x : Sheet) (is : accepted s ≡ given x) (ts rs cs ls : L
 
 -- Two toggle lists in which each shape is toggled an odd number of times in both or an even number in both leave the same label at every node.
 pub same_oddness-same-labels : (s : Sheets) (x : Sheet) → accepted s ≡ given x
-    → (ts rs cs ls : List ℕ) (nodes : ℕ) (rs' cs' ls' : List ℕ) → Ran (running s ts (length rs) (length cs) (length ls)) rs cs ls (run.Ran nodes) rs' cs' ls'
-    → (us ps ds ms : List ℕ) (nodes₂ : ℕ) (ps' ds' ms' : List ℕ) → Ran (running s us (length ps) (length ds) (length ms)) ps ds ms (run.Ran nodes₂) ps' ds' ms'
+    → (ts rs cs ls : List ℕ) (nodes : ℕ) (rs' cs' ls' : List ℕ) → Ran (running s ts (length rs) (length cs) (length ls)) rs cs ls (given nodes) rs' cs' ls'
+    → (us ps ds ms : List ℕ) (nodes₂ : ℕ) (ps' ds' ms' : List ℕ) → Ran (running s us (length ps) (length ds) (length ms)) ps ds ms (given nodes₂) ps' ds' ms'
     → ((shape : ℕ) → toggled_by ts shape ≡ toggled_by us shape)
     → (nodes ≡ nodes₂) × ((d : ℕ) → d < nodes → get_or ls' d 0 ≡ get_or ms' d 0)
 same_oddness-same-labels s x is ts rs cs ls nodes rs' cs' ls' a us ps ds ms nodes₂ ps' ds' ms' b same =
@@ -117,7 +116,7 @@ module _ (s : Sheets) (x : Sheet) (is : accepted s ≡ given x) (c : LineLists) 
   walls-only vs right = right-only x.formula rows start (entries c) vs ws right walls-right
 
 -- They are what the five lists hold, entry by entry, and their number is the answer.
-pub walls-listed : (o : Outcome (List Wall)) (lent : AnswerLists) (n : ℕ) (after : AnswerLists) → Classified o lent (classify.Walls n) after
+pub walls-listed : (o : Outcome (List Wall)) (lent : AnswerLists) (n : ℕ) (after : AnswerLists) → Classified o lent (Ok n) after
     → (ws : List Wall) × (o ≡ given ws) × (n ≡ length ws)
     × (after.lines ≡ filled (map (λ (w : Wall). w.line) ws) lent.lines) × (after.starts ≡ filled (map (λ (w : Wall). w.start) ws) lent.starts)
     × (after.ends ≡ filled (map (λ (w : Wall). w.end) ws) lent.ends)

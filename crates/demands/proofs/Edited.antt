@@ -22,7 +22,6 @@ use Rattle.toggles.proofs.Count.{toggle_bound}
 use Rattle.edit_moments.specs.Edits.{Edit, edits_of, edited_by}
 use Rattle.edit_mix.specs.Edits.{roots_after, counts_after, Answers, answers_of}
 use Rattle.edit_run.proofs.RunLaws.{length-roots, length-counts}
-use Rattle.job_run.specs.declared.RunAnswer.TheVariants as run
 use Rattle.job_edit.specs.Editing.{Lists, running_edited}
 use Rattle.job_edit.specs.Edited.{Edited}
 use Rattle.job_edit.proofs.Settled.{edited-accepted}
@@ -51,7 +50,7 @@ counts-at f es done (t ∷ ts) (suc i) h =
 
 -- The sheets s, accepted as x, the toggles, and the edits in three lists; the lists after the call.
 module _ (s : Sheets) (x : Sheet) (is : accepted s ≡ given x) (ts ms ps cs : List ℕ) (lent : Lists) (nodes : ℕ) (after : Lists)
-    (ran : Edited (running_edited s ts ms ps cs lent) lent (run.Ran nodes) after) where
+    (ran : Edited (running_edited s ts ms ps cs lent) lent (given nodes) after) where
   abbrev job : Outcome Answers
   job = running_edited s ts ms ps cs lent
 
@@ -99,8 +98,8 @@ module _ (s : Sheets) (x : Sheet) (is : accepted s ≡ given x) (ts ms ps cs : L
 
 -- Two runs with the same oddness of every shape, whose edits end on the same sheet, leave the same label at every node.
 pub same_end-same-labels : (s s₂ : Sheets) (x x₂ : Sheet) (is : accepted s ≡ given x) (is₂ : accepted s₂ ≡ given x₂)
-    → (ts ms ps cs : List ℕ) (lent : Lists) (nodes : ℕ) (after : Lists) → Edited (running_edited s ts ms ps cs lent) lent (run.Ran nodes) after
-    → (us ns qs ds : List ℕ) (lent₂ : Lists) (nodes₂ : ℕ) (after₂ : Lists) → Edited (running_edited s₂ us ns qs ds lent₂) lent₂ (run.Ran nodes₂) after₂
+    → (ts ms ps cs : List ℕ) (lent : Lists) (nodes : ℕ) (after : Lists) → Edited (running_edited s ts ms ps cs lent) lent (given nodes) after
+    → (us ns qs ds : List ℕ) (lent₂ : Lists) (nodes₂ : ℕ) (after₂ : Lists) → Edited (running_edited s₂ us ns qs ds lent₂) lent₂ (given nodes₂) after₂
     → ((shape : ℕ) → toggled_by ts shape ≡ toggled_by us shape)
     → edited_by (length ts) (edits_of ms ps cs) x.formula ≡ edited_by (length us) (edits_of ns qs ds) x₂.formula
     → (nodes ≡ nodes₂) × ((d : ℕ) → d < nodes → get_or after.labels d 0 ≡ get_or after₂.labels d 0)

@@ -1,86 +1,57 @@
 // The judgement of edits, one by one: the first that does not fit.
 #![tactic(auto)]
 
-ghost use Rattle.std.specs.Prelude.{◌≡◌, take};
+ghost use Rattle.std.specs.Prelude.{◌≡◌, length, eqb, IsOk};
+ghost use Rattle.outcome.specs.Outcome.{need};
+ghost use Rattle.outcome.specs.Refusing.{judged};
 ghost use Rattle.formula.specs.Codes.{is_operation};
 ghost use Rattle.edit_checking.specs.Fits.{operates_at, in_time, fits as fits_in, first_unfit};
-ghost use Rattle.edit_checking.specs.Asked.{Equal, Coded};
+ghost use Rattle.edit_checking.specs.Asked.{Equal};
 
-// A position as an index.
-fn wide(x: u16) -> usize
-    ensures { result ≡ x }
-{
-    x as usize
-}
+use edits::{EditLists, FIRST_OPERATION, LAST_OPERATION};
+use outcome::{Fault, Reason};
 
 // Whether a code is an operation's.
 fn is_operation(c: u16) -> bool
     ensures { result ≡ is_operation c }
 {
-    if c < 65520 {
-        return false;
-    }
-    c <= 65523
+    FIRST_OPERATION <= c && c <= LAST_OPERATION
 }
 
-// Whether an operation stands at position p of the first n codes.
-fn operates(formula: &[u16; 2048], n: usize, p: u16) -> bool
-    requires { Coded formula.now n }
-    ensures { result ≡ operates_at (take n formula.now) p }
+// Whether an operation stands at position p of these codes.
+fn operates(formula: &[u16], p: u16) -> bool
+    ensures { result ≡ operates_at formula.now p }
 {
-    let i = wide(p);
-    if n <= i {
-        return false;
-    }
-    is_operation(formula[i])
+    is_operation(formula.get(usize::from(p)).copied().unwrap_or(0))
 }
 
 // Whether a moment comes in time, where `before` is the one before it.
 fn in_time(most: u64, before: u64, m: u64) -> bool
     ensures { result ≡ in_time most before m }
 {
-    if m < before {
-        return false;
-    }
-    m <= most
+    before <= m && m <= most
 }
 
 // Whether an edit fits.
-fn fits(formula: &[u16; 2048], n: usize, most: u64, before: u64, m: u64, p: u16, c: u16) -> bool
-    requires { Coded formula.now n }
-    ensures { result ≡ fits_in (take n formula.now) most before m p c }
+fn fits(formula: &[u16], most: u64, before: u64, m: u64, p: u16, c: u16) -> bool
+    ensures { result ≡ fits_in formula.now most before m p c }
 {
-    if operates(formula, n, p) {
-        if is_operation(c) {
-            return in_time(most, before, m);
-        }
-        return false;
-    }
-    false
+    operates(formula, p) && is_operation(c) && in_time(most, before, m)
 }
 
-// The index of the first edit that does not fit a formula, whose codes are the first n; the number of edits where there is none.
-pub fn first_unfit(
-    formula: &[u16; 2048],
-    n: usize,
-    most: u64,
-    moments: &[u64],
-    positions: &[u16],
-    codes: &[u16],
-) -> usize
-    requires { Coded formula.now n × Equal moments.now positions.now codes.now }
-    ensures { result ≡ first_unfit (take n formula.now) most 0 moments.now positions.now codes.now }
+// 20 at the first edit that does not fit a formula of these codes.
+pub fn all_fit(formula: &[u16], most: u64, edits: EditLists<'_>) -> Result<(), Fault>
+    requires { Equal edits.moments.now edits.positions.now edits.codes.now }
+    ensures asked { let e = edits.entry in let first = first_unfit formula.now most 0 e.moments.now e.positions.now e.codes.now in
+        judged result ≡ need (eqb first (length e.moments.now)) 20 first }
+    ensures so { let e = edits.entry in IsOk result → first_unfit formula.now most 0 e.moments.now e.positions.now e.codes.now ≡ length e.moments.now }
 {
-    let mut i = 0;
     let mut before: u64 = 0;
-    while i < moments.len() {
-        let m = moments[i];
-        if fits(formula, n, most, before, m, positions[i], codes[i]) {
-            before = m;
-            i += 1;
-        } else {
-            return i;
+    for (i, &m) in edits.moments.iter().enumerate() {
+        if !fits(formula, most, before, m, edits.positions[i], edits.codes[i]) {
+            return Err(Reason::EditWrong.at(i));
         }
+        before = m;
     }
-    i
+    Ok(())
 }

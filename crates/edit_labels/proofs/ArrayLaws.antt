@@ -179,11 +179,8 @@ module _ {rules ks fs ss : List ℕ} {leaves nodes : ℕ} {ps ls : List ℕ} {e 
   node-below : e < nodes
   node-below = omega (arith, h.at.node_is, node-inside h.formula h.position h.at.operation, h.at.holds.nodes_are)
 
-  pub node-room : e < 3072
-  node-room = omega (arith, room, node-below)
-
-  pub count_fits : {r : ℕ} → r ≤ nodes → Fits w32 (r + 1)
-  count_fits few = omega (arith, room)
+  pub node_room : e < 3072
+  node_room = omega (arith, room, node-below)
 
   module _ {o v : ℕ} (new : Rekinded (get_or ks e 0) o v) where
     pub climbs : (w : ℕ) → Climbs rules (set ks e v) fs ss leaves nodes ps (set ls e w) e

@@ -1,10 +1,11 @@
 // One edit on a dwarf tree in arrays: the kind of its node changes, and labels are reworked from that node up.
 #![tactic(auto)]
 
-ghost use Rattle.std.specs.Prelude.{◌<◌};
+ghost use Rattle.std.specs.Prelude.{◌≡◌, ◌<◌};
 ghost use Rattle.edit_labels.specs.Edited.{Rekinded, Editable, EditDone};
 
-use labels::Size;
+use contraction::{NODES, Records};
+use labels::{DwarfTree, LINKS, RULES, Size};
 
 // The kind of the same record over operation o.
 fn rekind(kind: u16, o: u16) -> u16
@@ -23,25 +24,30 @@ fn rekind(kind: u16, o: u16) -> u16
 
 // Operation o put at node e. The number of labels reworked: its own node's, and those above it for as long as labels change.
 pub fn edit(
-    rules: &[u8; 256],
-    kinds: &mut [u16; 3072],
-    firsts: &[u16; 3072],
-    seconds: &[u16; 3072],
+    rules: &[u8; RULES],
+    records: &mut Records,
     size: Size,
-    links: &[u16; 4352],
-    labels: &mut [u8; 3072],
+    links: &[u16; LINKS],
+    labels: &mut [u8; NODES],
     e: usize,
     o: u16,
 ) -> u32
-    requires { Editable rules.now kinds.old firsts.now seconds.now size.leaves size.nodes links.now labels.old e × (o < 4) }
-    ensures { EditDone kinds.old firsts.now seconds.now size.leaves size.nodes links.now labels.old e o kinds.new labels.new result }
+    requires { let r = records.old in Editable rules.now r.kinds r.firsts r.seconds size.leaves size.nodes links.now labels.old e × (o < 4) }
+    ensures kinds_alone { (records.new.firsts ≡ records.old.firsts) × (records.new.seconds ≡ records.old.seconds) }
+    ensures done { let r = records.old in
+        EditDone r.kinds r.firsts r.seconds size.leaves size.nodes links.now labels.old e o records.new.kinds labels.new result }
 {
-    kinds[e] = rekind(kinds[e], o);
-    let v = labels::work(rules, kinds, firsts, seconds, labels, e);
+    records.kinds[e] = rekind(records.kinds[e], o);
+    let v = labels::work(rules, records, labels, e);
     if v == labels[e] {
         return 1;
     }
     labels[e] = v;
-    let more = toggle_passes::walk(rules, kinds, firsts, seconds, size, links, labels, e);
-    more + 1
+    let tree = DwarfTree {
+        rules,
+        records,
+        size,
+        links,
+    };
+    toggle_passes::walk(tree, labels, e) + 1
 }

@@ -5,6 +5,7 @@ use native.Mathlib.Omega.{arith}
 use mathlib.Core.Path.{◌≡◌, refl, sym, ap, ap₂, ◌∙◌}
 use mathlib.Core.Bool.{Bool, true, false}
 use mathlib.Core.List.{List, [], ◌∷◌, ◌++◌}
+use Rattle.std.proofs.Common.{Option, Some, None}
 use lib.Dec.{ltb}
 use borrow.Author.Tests.{ltb-true, ltb-false}
 use lib.ListN.{length, get_or, set, take, drop, drop_of_length-le}
@@ -30,7 +31,6 @@ use Rattle.edit_moments.specs.Edits.{edited_by, edit_counts}
 use Rattle.edit_moments.specs.Listed.{Rises}
 use Rattle.edit_moments.specs.Waiting.{Readable, Due, Later, NextSays, Desk, desk, waiting, At}
 use Rattle.edit_moments.specs.declared.Next.{Next}
-use Rattle.edit_moments.specs.declared.Next.TheVariants as next
 use Rattle.edit_moments.proofs.Lists.{waiting_none, by_later}
 use Rattle.edit_moments.proofs.ActLaws.{can_edit, can_operate, acted_now, readable, all-later}
 use Rattle.edit_mix.specs.Edits.{roots_after, counts_after}
@@ -156,25 +156,25 @@ module _ {rules fs xs : List ℕ} {size : Size} {links places ms ps cs toggles :
   pub act_readable : Readable ms ps cs k
   act_readable = readable (at_of c)
 
-  module _ {r : Next} (says : NextSays ms ps cs places k (j - k) r) where
-    module _ {e o : ℕ} (is : r ≡ next.Edit e o) where
-      due : Due ms ps cs places k (j - k) e o
+  module _ {r : Option Next} (says : NextSays ms ps cs places k (j - k) r) where
+    module _ {w : Next} (is : r ≡ Some w) where
+      due : Due ms ps cs places k (j - k) w.node w.operation
       due = rw is at says
 
-      pub act_edits : Editable rules ks fs xs size.leaves size.nodes links ls e
+      pub act_edits : Editable rules ks fs xs size.leaves size.nodes links ls w.node
       act_edits = can_edit (at_of c) due.here due
 
-      pub act_operates : o < 4
+      pub act_operates : w.operation < 4
       act_operates = can_operate (at_of c) due.here due
 
       pub edit-room : k < length edits
       edit-room = omega (arith, due.here, (at_of c).room)
 
-      pub act_edited : {n m : ℕ} {ks' ls' edits' : List ℕ} → EditDone ks fs xs size.leaves size.nodes links ls e o ks' ls' n → edits' ≡ set edits k n → m ≡ k + 1
-          → Acted (desk rules fs xs size links places ms ps cs) toggles j k m ks ls roots counts edits ks' ls' roots counts edits'
-      act_edited x put on = rw (put, on) (edited-on c due x)
+      pub act_edited : {n : ℕ} {ks' ls' : List ℕ} → EditDone ks fs xs size.leaves size.nodes links ls w.node w.operation ks' ls' n
+          → Acted (desk rules fs xs size links places ms ps cs) toggles j k (k + 1) ks ls roots counts edits ks' ls' roots counts (set edits k n)
+      act_edited x = edited-on c due x
 
-    module _ (is : r ≡ next.Wait) (more : j < length toggles + length ms) where
+    module _ (is : r ≡ None) (more : j < length toggles + length ms) where
       later : Later ms k (j - k)
       later = rw is at says
 
@@ -201,19 +201,9 @@ module _ {rules fs xs : List ℕ} {size : Size} {links places ms ps cs toggles :
       pub count_room : j - k < length counts
       count_room = omega (arith, toggle_there c more later, (room_of c).for_counts)
 
-      pub act_toggled : (ls' : List ℕ) {t : Toggled} {counts' : List ℕ} → ToggleDone ks fs xs size toggles (j - k) ls ls' t → counts' ≡ set counts (j - k) t.count
-          → Acted (desk rules fs xs size links places ms ps cs) toggles j k k ks ls roots counts edits ks ls' (set roots (j - k) t.root) counts' edits
-      act_toggled ls' done put = rw put (toggled_on c more later ls' done)
-
--- ---- one toggle's function
-module _ {rules ks fs xs : List ℕ} {size : Size} {links ls toggles : List ℕ} {i : ℕ} (c : CanToggle rules ks fs xs size links ls toggles i) where
-  pub shape_toggles : {s : ℕ} → s ≡ get_or toggles i 0 → Toggles rules ks fs xs size.leaves size.nodes links ls s
-  shape_toggles e = rw e c.can
-
-  pub toggle-done : {s n x : ℕ} {ls' : List ℕ} → s ≡ get_or toggles i 0 → length ls' ≡ 3072
-      → steps (take size.nodes ls') n ≡ toggle (recs ks fs xs 0 size.nodes) s (take size.nodes ls) → x ≡ last (take size.nodes ls')
-      → ToggleDone ks fs xs size toggles i ls ls' (record { root = x; count = n })
-  toggle-done e long is root = record { long = long; is = is ∙ ap (λ t. toggle (recs ks fs xs 0 size.nodes) t (take size.nodes ls)) e; root_is = root }
+      pub act_toggled : (ls' : List ℕ) {t : Toggled} → ToggleDone ks fs xs size toggles (j - k) ls ls' t
+          → Acted (desk rules fs xs size links places ms ps cs) toggles j k k ks ls roots counts edits ks ls' (set roots (j - k) t.root) (set counts (j - k) t.count) edits
+      act_toggled ls' done = toggled_on c more later ls' done
 
 -- ---- the acts one after the other: what they begin with,
 pub data Begins (d : Desk) (toggles ks ls roots counts edits : List ℕ) : Type 0 where

@@ -1,12 +1,24 @@
 // One act of a run on a dwarf tree in arrays: the edit whose moment has come, or the next toggle.
 #![tactic(auto)]
 
-ghost use Rattle.std.specs.Prelude.{◌≡◌, ◌+◌, ◌<◌, length, set};
+ghost use Rattle.std.specs.Prelude.{◌≡◌, ◌+◌, ◌<◌, length};
 ghost use Rattle.edit_moments.specs.Waiting.{desk};
 ghost use Rattle.edit_mix.specs.Acting.{CanToggle, ToggleDone, CanAct, Acted};
 
-use edit_moments::Next;
-use labels::Size;
+use contraction::{CODES, NODES, Records};
+use edits::EditLists;
+use labels::{DwarfTree, LINKS, RULES, Size};
+
+// What stays as it is while edits and toggles act: all that a tree's passes look up but its records, and the toggles and edits.
+#[derive(Clone, Copy, Drop)]
+pub struct Board<'a> {
+    pub rules: &'a [u8; RULES],
+    pub size: Size,
+    pub links: &'a [u16; LINKS],
+    pub places: &'a [u16; CODES],
+    pub toggles: &'a [u16],
+    pub edits: EditLists<'a>,
+}
 
 // What a toggle gives.
 #[derive(Drop)]
@@ -16,75 +28,59 @@ struct Toggled {
 }
 
 // Toggle i of the list.
-fn toggle_one(
-    rules: &[u8; 256],
-    kinds: &[u16; 3072],
-    firsts: &[u16; 3072],
-    seconds: &[u16; 3072],
-    size: Size,
-    links: &[u16; 4352],
-    labels: &mut [u8; 3072],
-    toggles: &[u16],
-    i: usize,
-) -> Toggled
-    requires { CanToggle rules.now kinds.now firsts.now seconds.now size links.now labels.old toggles.now i }
-    ensures { ToggleDone kinds.now firsts.now seconds.now size toggles.now i labels.old labels.new result }
+fn toggle_one(tree: DwarfTree<'_>, labels: &mut [u8; NODES], toggles: &[u16], i: usize) -> Toggled
+    requires { let r = tree.records.now in CanToggle tree.rules.now r.kinds r.firsts r.seconds tree.size tree.links.now labels.old toggles.now i }
+    ensures { let r = tree.entry.records.now in ToggleDone r.kinds r.firsts r.seconds tree.entry.size toggles.now i labels.old labels.new result }
 {
-    let s = labels::wide(toggles[i]);
-    let count = toggles::toggle(rules, kinds, firsts, seconds, size, links, labels, s);
-    let root = toggle_run::root(labels, size.nodes);
+    let count = toggles::toggle(tree, labels, usize::from(toggles[i]));
+    let root = toggle_run::root(labels, tree.size.nodes);
     Toggled { root, count }
-}
-
-// Count i given: the number of the next.
-fn give(list: &mut [u32], i: usize, count: u32) -> usize
-    requires { i < length list.old }
-    ensures { (list.new ≡ set list.old i count) × (result ≡ i + 1) }
-{
-    list[i] = count;
-    i + 1
 }
 
 // Another act, after j of which k were edits: the number of edits then.
 pub fn act(
-    rules: &[u8; 256],
-    kinds: &mut [u16; 3072],
-    firsts: &[u16; 3072],
-    seconds: &[u16; 3072],
-    size: Size,
-    links: &[u16; 4352],
-    places: &[u16; 2048],
-    labels: &mut [u8; 3072],
-    toggles: &[u16],
-    moments: &[u64],
-    positions: &[u16],
-    codes: &[u16],
+    board: Board<'_>,
+    records: &mut Records,
+    labels: &mut [u8; NODES],
     roots: &mut [u8],
     counts: &mut [u32],
     edit_counts: &mut [u32],
     j: usize,
     k: usize,
 ) -> usize
-    requires can_act { CanAct (desk rules.now firsts.now seconds.now size links.now places.now moments.now positions.now codes.now) toggles.now j k
-        kinds.old labels.old roots.old counts.old edit_counts.old }
-    requires j_in_bounds { j < length toggles.now + length moments.now }
-    ensures { Acted (desk rules.now firsts.now seconds.now size links.now places.now moments.now positions.now codes.now)
-        toggles.now j k result kinds.old labels.old roots.old counts.old edit_counts.old
-        kinds.new labels.new roots.new counts.new edit_counts.new }
+    requires can_act { let e = board.edits in
+        CanAct (desk board.rules.now records.old.firsts records.old.seconds board.size board.links.now board.places.now e.moments.now e.positions.now e.codes.now)
+        board.toggles.now j k records.old.kinds labels.old roots.old counts.old edit_counts.old }
+    requires j_in_bounds { j < length board.toggles.now + length board.edits.moments.now }
+    ensures kinds_alone { (records.new.firsts ≡ records.old.firsts) × (records.new.seconds ≡ records.old.seconds) }
+    ensures acted { let b = board.entry in let e = b.edits in
+        Acted (desk b.rules.now records.old.firsts records.old.seconds b.size b.links.now b.places.now e.moments.now e.positions.now e.codes.now)
+        b.toggles.now j k result records.old.kinds labels.old roots.old counts.old edit_counts.old
+        records.new.kinds labels.new roots.new counts.new edit_counts.new }
 {
     let i = j - k;
-    match edit_moments::next_edit(moments, positions, codes, places, k, i) {
-        Next::Edit { node, operation } => {
-            let count = edit_labels::edit(
-                rules, kinds, firsts, seconds, size, links, labels, node, operation,
+    match edit_moments::next_edit(board.edits, board.places, k, i) {
+        Some(next) => {
+            edit_counts[k] = edit_labels::edit(
+                board.rules,
+                records,
+                board.size,
+                board.links,
+                labels,
+                next.node,
+                next.operation,
             );
-            give(edit_counts, k, count)
+            k + 1
         }
-        Next::Wait => {
-            let t = toggle_one(
-                rules, kinds, firsts, seconds, size, links, labels, toggles, i,
-            );
-            give(counts, i, t.count);
+        None => {
+            let tree = DwarfTree {
+                rules: board.rules,
+                records,
+                size: board.size,
+                links: board.links,
+            };
+            let t = toggle_one(tree, labels, board.toggles, i);
+            counts[i] = t.count;
             roots[i] = t.root;
             k
         }

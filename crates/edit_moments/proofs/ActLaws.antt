@@ -27,34 +27,6 @@ use Rattle.edit_moments.specs.Listed.{Rises}
 use Rattle.edit_moments.specs.Waiting.{Readable, Due, Later, Desk, waiting, Plan, At}
 use Rattle.edit_moments.proofs.Lists.{edit_at, waiting-here, waiting_none, kept-operations, position_small, by_now}
 
--- ---- the function that looks at an edit
-module _ {ms ps cs : List ℕ} {k : ℕ} (r : Readable ms ps cs k) (here : k < length ms) where
-  pub position_there : k < length ps
-  position_there = r.position here
-
-  pub place_inside : {q : ℕ} → q ≡ get_or ps k 0 → q < 2048
-  place_inside is = omega (arith, r.small here)
-
-  pub place_fits : {q : ℕ} → q ≡ get_or ps k 0 → Fits w64 (q * 2)
-  place_fits is = record { fits = omega (arith, r.small here) }
-
-  pub code_there : k < length cs
-  code_there = r.code here
-
-  pub code-high : 65520 ≤ get_or cs k 0
-  code-high = r.low here
-
-module _ (ms ps cs places : List ℕ) {k i : ℕ} where
-  pub due_now : {q e : ℕ} → k < length ms → get_or ms k 0 ≤ i → q ≡ get_or ps k 0 → e ≡ get_or places q 0 → Due ms ps cs places k i e (get_or cs k 0 - 65520)
-  due_now here come at is = record { here = here; come = come; node_is = is ∙ ap (λ n. get_or places n 0) at; operation_is = refl }
-
-module _ (ms : List ℕ) {k i : ℕ} where
-  pub none_there : length ms ≤ k → Later ms k i
-  none_there past = record { so = λ h. absurd (omega arith) }
-
-  pub none_yet : i < get_or ms k 0 → Later ms k i
-  none_yet late = record { so = λ h. late }
-
 -- ---- one edit
 module _ {d : Desk} {p : Plan} {i k : ℕ} {ks ls counts : List ℕ} (a : At d p i k ks ls counts) (here : k < length d.moments) where
   abbrev this : Edit

@@ -1,5 +1,5 @@
 -- What is kept in a run with edits: the arrays hold the tree of the formula as edited so far, and the edits that wait decide what comes.
-use Rattle.std.specs.Prelude.{ℕ, ◌-◌, ◌<◌, ◌≤◌, ◌≡◌, List, length, get_or, take, drop}
+use Rattle.std.specs.Prelude.{ℕ, ◌-◌, ◌<◌, ◌≤◌, ◌≡◌, List, length, get_or, take, drop, Option, Some, None}
 use Rattle.std.proofs.lemmas.List.Edits.{sets}
 use Rattle.formula.specs.Formula.{first_operation, Formula}
 use Rattle.formula.specs.States.{toggled_by}
@@ -10,7 +10,6 @@ use Rattle.labels.specs.Linked.{Rules, Parents}
 use Rattle.labels.specs.declared.Size.{Size}
 use Rattle.edit_places.specs.Places.{Places}
 use Rattle.edit_moments.specs.declared.Next.{Next}
-use Rattle.edit_moments.specs.declared.Next.TheVariants as next
 use Rattle.edit_moments.specs.Edits.{Edit, edits_of, edited_by, edit_counts}
 use Rattle.edit_moments.specs.Listed.{Operations, Rises, Listed}
 
@@ -32,9 +31,9 @@ pub record Due (moments positions codes places : List ℕ) (k i node operation :
 pub record Later (moments : List ℕ) (k i : ℕ) : Type 0 where
   pub so : k < length moments → i < get_or moments k 0
 
-abbrev pub NextSays : List ℕ → List ℕ → List ℕ → List ℕ → ℕ → ℕ → Next → Type 0
-NextSays moments positions codes places k i (next.Edit node operation) = Due moments positions codes places k i node operation
-NextSays moments positions codes places k i next.Wait = Later moments k i
+abbrev pub NextSays : List ℕ → List ℕ → List ℕ → List ℕ → ℕ → ℕ → Option Next → Type 0
+NextSays moments positions codes places k i (Some e) = Due moments positions codes places k i e.node e.operation
+NextSays moments positions codes places k i None = Later moments k i
 
 -- The lists that stay as they are while edits act.
 pub record Desk : Type 0 where

@@ -3,34 +3,28 @@
 
 ghost use Rattle.edit_moments.specs.Waiting.{Readable, NextSays};
 
-// An edit of an operation, or none before the next toggle.
-#[derive(Drop)]
-pub enum Next {
-    Edit { node: usize, operation: u16 },
-    Wait,
+use contraction::CODES;
+use edits::{EditLists, FIRST_OPERATION};
+
+// An edit: its node, and the operation that comes there.
+#[derive(Clone, Copy, Drop)]
+pub struct Next {
+    pub node: usize,
+    pub operation: u16,
 }
 
-// Edit k, if it is there and its moment has come, where i toggles have acted.
-pub fn next_edit(
-    moments: &[u64],
-    positions: &[u16],
-    codes: &[u16],
-    places: &[u16; 2048],
-    k: usize,
-    i: usize,
-) -> Next
-    requires { Readable moments.now positions.now codes.now k }
-    ensures { NextSays moments.now positions.now codes.now places.now k i result }
+// Edit k, if it is there and its moment has come, where i toggles have acted; none before the next toggle.
+pub fn next_edit(edits: EditLists<'_>, places: &[u16; CODES], k: usize, i: usize) -> Option<Next>
+    requires { Readable edits.moments.now edits.positions.now edits.codes.now k }
+    ensures { let e = edits.entry in NextSays e.moments.now e.positions.now e.codes.now places.now k i result }
 {
-    if moments.len() <= k {
-        return Next::Wait;
+    let &moment = edits.moments.get(k)?;
+    if (i as u64) < moment {
+        return None;
     }
-    let m = i as u64;
-    if m < moments[k] {
-        return Next::Wait;
-    }
-    let p = labels::wide(positions[k]);
-    let node = labels::wide(places[p]);
-    let operation = codes[k] - 65520;
-    Next::Edit { node, operation }
+    let node = places[usize::from(edits.positions[k])];
+    Some(Next {
+        node: usize::from(node),
+        operation: edits.codes[k] - FIRST_OPERATION,
+    })
 }

@@ -259,18 +259,18 @@ module _ (ks fs ss : List ℕ) (leaves nodes : ℕ) (f : Formula) (h : Holds ks 
             ∙ sym (node-none f q (ops q ∙ ap count e))
 
 -- what the passes leave, one after the other
-module _ {codes ks fs ss : List ℕ} {n leaves nodes : ℕ} where
-  module _ (b : Buildable codes n ks fs ss leaves nodes) where
+module _ {codes ks fs ss : List ℕ} {leaves nodes : ℕ} where
+  module _ (b : Buildable codes ks fs ss leaves nodes) where
     pub buildable_falls : Falls fs leaves nodes
     buildable_falls = held-falls ks fs ss leaves nodes b.formula b.built.holds
 
     pub buildable_room : nodes ≤ 3072
     buildable_room = buildable_falls.room
 
-    pub scanned_long : {ups known : List ℕ} → ScanDone codes n ups known → length known ≡ 3072
+    pub scanned_long : {ups known : List ℕ} → ScanDone codes ups known → length known ≡ 3072
     scanned_long sc = (sc.so b.formula b.built.holds.named b.built.codes_are).long
 
-  pub places_filled : {ups known xs places : List ℕ} → ScanDone codes n ups known → StandTo ks fs ups known leaves nodes xs → EnteredTo ks xs nodes places
-      → PlacesFilled codes n ks fs ss leaves nodes places
+  pub places_filled : {ups known xs places : List ℕ} → ScanDone codes ups known → StandTo ks fs ups known leaves nodes xs → EnteredTo ks xs nodes places
+      → PlacesFilled codes ks fs ss leaves nodes places
   places_filled {ups} {known} {xs} {places} sc st en =
       record { so = λ f b. right_places ks fs ss leaves nodes f b.holds ups known xs (sc.so f b.holds.named b.codes_are) st places en }

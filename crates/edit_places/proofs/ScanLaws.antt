@@ -5,8 +5,8 @@ use native.Mathlib.Omega.{arith}
 use mathlib.Core.Path.{◌≡◌, refl, sym, ap, ◌∙◌}
 use mathlib.Core.List.{List, [], ◌∷◌, foldl, foldl-append}
 use borrow.Author.Tests.{lt-ltb}
-use lib.ListN.{length, get_or, set, take, replicate, length-set, length-replicate, length-take}
-use lib.Seq.{take-suc, get_or-set_same, get_or-set_other}
+use lib.ListN.{length, get_or, set, take, replicate, length-set, length-replicate}
+use lib.Seq.{take-suc, take_all, get_or-set_same, get_or-set_other}
 use Rattle.formula.specs.Formula.{Op, union, intersection, difference, exclusive, code, Formula, leaf, node, leaves, postfix, Over}
 use Rattle.edits.specs.Edits.{size}
 use Rattle.edits.specs.Spots.{own, Ups, LeafSpots}
@@ -214,44 +214,41 @@ unfolding zeros
 length-zeros = length-replicate {A = ℕ} 3072 0
 
 -- ---- the loop: the first j codes are met
-module _ (codes : List ℕ) (n : ℕ) where
+module _ (codes : List ℕ) where
   pub record Scanning (j next : ℕ) (starts ups spots : List ℕ) : Type 0 where
-    pub room : length codes ≡ 2048
-    pub few : n ≤ 2047
-    pub within : j ≤ n
+    pub few : length codes < 2048
+    pub within : j ≤ length codes
     pub low : next ≤ j
     pub so : view starts ups spots next j ≡ foldl met begin (take j codes)
 
-  pub scanning_start : length codes ≡ 2048 → n ≤ 2047 → Scanning 0 0 (replicate 3072 0) (replicate 3072 0) (replicate 3072 0)
+  pub scanning_start : length codes < 2048 → Scanning 0 0 (replicate 3072 0) (replicate 3072 0) (replicate 3072 0)
   unfolding zeros
-  scanning_start long few = record { room = long; few = few; within = omega arith; low = omega arith; so = refl }
+  scanning_start few = record { few = few; within = omega arith; low = omega arith; so = refl }
 
-module _ {codes : List ℕ} {n j next : ℕ} {starts ups spots : List ℕ} (u : Scanning codes n j next starts ups spots) where
-  pub next-below : j < n → next < 3072
+module _ {codes : List ℕ} {j next : ℕ} {starts ups spots : List ℕ} (u : Scanning codes j next starts ups spots) where
+  pub next-below : j < length codes → next < 3072
   next-below h = omega (arith, u.low, u.few)
 
-  pub scanning_more : {next' i : ℕ} {starts' ups' spots' : List ℕ} → j < n → i ≡ j → view starts' ups' spots' next' (j + 1) ≡ met (view starts ups spots next j) (get_or codes i 0) → next' ≤ next + 1
-      → Scanning codes n (j + 1) next' starts' ups' spots'
-  scanning_more {next'} {i} h at is low =
+  pub scanning_more : {next' : ℕ} {starts' ups' spots' : List ℕ} → j < length codes → view starts' ups' spots' next' (j + 1) ≡ met (view starts ups spots next j) (get_or codes j 0) → next' ≤ next + 1
+      → Scanning codes (j + 1) next' starts' ups' spots'
+  scanning_more {next'} h is low =
       record {
-        room = u.room;
         few = u.few;
         within = omega arith;
         low = omega (arith, u.low);
         so =
-            is ∙ ap (λ k. met (view starts ups spots next j) (get_or codes k 0)) at ∙ ap (λ (s : Scan). met s (get_or codes j 0)) u.so
-            ∙ rw (add-one j, take-suc codes j 0 (omega (arith, u.room, u.few))) (sym (foldl-append met begin (take j codes) (get_or codes j 0 ∷ [])));
+            is ∙ ap (λ (s : Scan). met s (get_or codes j 0)) u.so
+            ∙ rw (add-one j, take-suc codes j 0 h) (sym (foldl-append met begin (take j codes) (get_or codes j 0 ∷ [])));
       }
 
-  pub scanning_end : n ≤ j → ScanDone codes n ups spots
+  pub scanning_end : length codes ≤ j → ScanDone codes ups spots
   scanning_end h = record { so = scanned }
     where
-      scanned : (f : Formula) → Over 256 f → take n codes ≡ postfix f → Scanned f ups spots
+      scanned : (f : Formula) → Over 256 f → codes ≡ postfix f → Scanned f ups spots
       scanned f v e =
-          let end : j ≡ n = omega (arith, u.within) in
-          let few : size f ≤ 2047 = omega (arith, length-postfix f, ap length e, length-take n codes, u.few) in
+          let few : size f ≤ 2047 = omega (arith, length-postfix f, ap length e, u.few) in
           let z = length-zeros in
           let w = ran f begin v (record { starts_room = omega arith; ups_room = omega arith; spots_room = omega (arith, leaves-size f) }) in
-          let last : view starts ups spots next j ≡ foldl met begin (postfix f) = u.so ∙ rw (end, e) in
+          let last : view starts ups spots next j ≡ foldl met begin (postfix f) = u.so ∙ ap (foldl met begin) (take_all j codes h ∙ e) in
           let got : Ran f begin (view starts ups spots next j) = rw last w in
           record { long = got.spots_long ∙ z; over = got.over; at_leaves = got.at_leaves }

@@ -60,8 +60,8 @@ pub record Scanned (f : Formula) (ups spots : List ℕ) : Type 0 where
   pub over : Ups ups 0 f
   pub at_leaves : LeafSpots spots 0 0 f
 
-pub record ScanDone (codes : List ℕ) (n : ℕ) (ups spots : List ℕ) : Type 0 where
-  pub so : (f : Formula) → Over 256 f → take n codes ≡ postfix f → Scanned f ups spots
+pub record ScanDone (codes : List ℕ) (ups spots : List ℕ) : Type 0 where
+  pub so : (f : Formula) → Over 256 f → codes ≡ postfix f → Scanned f ups spots
 
 -- Where a node stands, by its kind and its first.
 abbrev pub spot_of : List ℕ → List ℕ → ℕ → ℕ → ℕ

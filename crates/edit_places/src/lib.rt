@@ -1,68 +1,41 @@
 // The node of each position of a formula: one pass over the codes, one over the records, one that enters the nodes at their positions.
 #![tactic(auto)]
 
-ghost use Rattle.std.specs.Prelude.{◌≡◌, ◌+◌, ◌-◌, ◌<◌, ◌≤◌, length, get_or, set};
+ghost use Rattle.std.specs.Prelude.{◌≡◌, ◌+◌, ◌<◌, ◌≤◌, length, get_or};
 ghost use Rattle.contraction.specs.Entries.{kind_at};
 ghost use Rattle.edits.specs.Spots.{works};
 ghost use Rattle.edit_places.specs.Places.{Buildable, PlacesFilled};
 ghost use Rattle.edit_places.specs.Standing.{met, view, joined_starts, joined_ups, ScanDone, spot_of, Falls, StandTo, entered, EnteredTo};
 
+use contraction::{CODES, NODES, Records};
+use edits::FIRST_OPERATION;
+use labels::{Size, set_entry};
+
 // Entry i, 0 where there is none.
-fn read(list: &[u16; 3072], i: u16) -> u16
+fn read(list: &[u16; NODES], i: u16) -> u16
     ensures { result ≡ get_or list.now i 0 }
 {
-    let s: &[u16] = list;
-    let j = i as usize;
-    if j < s.len() { s[j] } else { 0 }
-}
-
-// Stores v at i, where there is such an entry.
-fn put(list: &mut [u16; 3072], i: u16, v: u16)
-    ensures { list.new ≡ set list.old i v }
-{
-    let j = labels::wide(i);
-    let s: &mut [u16] = list;
-    if j < s.len() {
-        s[j] = v;
-    }
-}
-
-// Enters node v at position i, where there is such a position.
-fn enter(places: &mut [u16; 2048], i: u16, v: u16)
-    ensures { places.new ≡ set places.old i v }
-{
-    let j = labels::wide(i);
-    let s: &mut [u16] = places;
-    if j < s.len() {
-        s[j] = v;
-    }
-}
-
-// One less, and 0 of 0.
-fn less(x: u16) -> u16
-    ensures { result ≡ x - 1 }
-{
-    if x == 0 { 0 } else { x - 1 }
+    list.get(usize::from(i)).copied().unwrap_or(0)
 }
 
 // The operation at position j: it is over its two operands.
-fn join_ups(starts: &[u16; 3072], ups: &mut [u16; 3072], j: u16)
+fn join_ups(starts: &[u16; NODES], ups: &mut [u16; NODES], j: u16)
     ensures { ups.new ≡ joined_ups starts.now ups.old j }
 {
-    let right = less(j);
-    let left = less(read(starts, right));
-    put(ups, right, j);
-    put(ups, left, j);
+    let right = j.saturating_sub(1);
+    let left = read(starts, right).saturating_sub(1);
+    set_entry(ups, right, j);
+    set_entry(ups, left, j);
 }
 
 // It begins where its left operand does.
-fn join_starts(starts: &mut [u16; 3072], j: u16)
+fn join_starts(starts: &mut [u16; NODES], j: u16)
     ensures { starts.new ≡ joined_starts starts.old j }
 {
-    let right = less(j);
-    let left = less(read(starts, right));
+    let right = j.saturating_sub(1);
+    let left = read(starts, right).saturating_sub(1);
     let s = read(starts, left);
-    put(starts, j, s);
+    set_entry(starts, j, s);
 }
 
 // One code at position j: the next leaf stands there, or an operation that is over its operands.
@@ -70,18 +43,18 @@ fn meet(
     c: u16,
     j: u16,
     next: u16,
-    starts: &mut [u16; 3072],
-    ups: &mut [u16; 3072],
-    spots: &mut [u16; 3072],
+    starts: &mut [u16; NODES],
+    ups: &mut [u16; NODES],
+    spots: &mut [u16; NODES],
 ) -> u16
-    requires { next < 3072 }
+    requires { next < NODES }
     ensures j_after { view starts.new ups.new spots.new result (j + 1)
         ≡ met (view starts.old ups.old spots.old next j) c }
     ensures upper_bound { result ≤ next + 1 }
 {
-    if c < 65520 {
-        put(starts, j, j);
-        put(spots, next, j);
+    if c < FIRST_OPERATION {
+        set_entry(starts, j, j);
+        set_entry(spots, next, j);
         next + 1
     } else {
         join_ups(starts, ups, j);
@@ -91,20 +64,16 @@ fn meet(
 }
 
 // The codes gone through: which operation is over each operand, and where the leaves stand.
-fn scan(codes: &[u16; 2048], n: u16, ups: &mut [u16; 3072], spots: &mut [u16; 3072])
-    requires { (length codes.now ≡ 2048) × (n ≤ 2047) }
-    ensures { ScanDone codes.now n ups.new spots.new }
+fn scan(codes: &[u16], ups: &mut [u16; NODES], spots: &mut [u16; NODES])
+    requires { length codes.now < CODES }
+    ensures { ScanDone codes.now ups.new spots.new }
 {
-    *ups = [0u16; 3072];
-    *spots = [0u16; 3072];
-    let mut starts = [0u16; 3072];
+    *ups = [0; NODES];
+    *spots = [0; NODES];
+    let mut starts = [0u16; NODES];
     let mut next: u16 = 0;
-    let mut j: u16 = 0;
-    while j < n {
-        let i = labels::wide(j);
-        let c = codes[i];
-        next = meet(c, j, next, &mut starts, ups, spots);
-        j += 1;
+    for (j, &c) in codes.iter().enumerate() {
+        next = meet(c, j as u16, next, &mut starts, ups, spots);
     }
 }
 
@@ -112,15 +81,11 @@ fn scan(codes: &[u16; 2048], n: u16, ups: &mut [u16; 3072], spots: &mut [u16; 30
 fn operates(kind: u16) -> bool
     ensures { result ≡ works (kind_at kind) }
 {
-    match kind {
-        0 => false,
-        1..=12 => true,
-        _ => false,
-    }
+    matches!(kind, 1..=12)
 }
 
 // Where a node stands, by its kind and its first.
-fn spot(kind: u16, first: u16, ups: &[u16; 3072], spots: &[u16; 3072]) -> u16
+fn spot(kind: u16, first: u16, ups: &[u16; NODES], spots: &[u16; NODES]) -> u16
     ensures { result ≡ spot_of ups.now spots.now kind first }
 {
     let x = read(spots, first);
@@ -128,66 +93,44 @@ fn spot(kind: u16, first: u16, ups: &[u16; 3072], spots: &[u16; 3072]) -> u16
 }
 
 // Where each node stands, in rising order after the leaves.
-fn stand(
-    kinds: &[u16; 3072],
-    firsts: &[u16; 3072],
-    leaves: usize,
-    nodes: usize,
-    ups: &[u16; 3072],
-    spots: &mut [u16; 3072],
-)
-    requires { (length spots.old ≡ 3072) × Falls firsts.now leaves nodes }
-    ensures { StandTo kinds.now firsts.now ups.now spots.old leaves nodes spots.new }
+fn stand(records: &Records, size: Size, ups: &[u16; NODES], spots: &mut [u16; NODES])
+    requires { Falls records.now.firsts size.leaves size.nodes }
+    ensures { StandTo records.now.kinds records.now.firsts ups.now spots.old size.leaves size.nodes spots.new }
 {
-    let mut i = leaves;
-    while i < nodes {
-        spots[i] = spot(kinds[i], firsts[i], ups, spots);
-        i += 1;
+    for i in size.leaves..size.nodes {
+        spots[i] = spot(records.kinds[i], records.firsts[i], ups, spots);
     }
 }
 
 // Node i entered at its position, if it is E or R.
-fn enter_one(kind: u16, spot: u16, i: u16, places: &mut [u16; 2048])
+fn enter_one(kind: u16, spot: u16, i: u16, places: &mut [u16; CODES])
     ensures { places.new ≡ entered kind spot i places.old }
 {
     if operates(kind) {
-        enter(places, spot, i);
+        set_entry(places, spot, i);
     }
 }
 
 // Each node entered at its position.
-fn enter_all(kinds: &[u16; 3072], spots: &[u16; 3072], nodes: usize, places: &mut [u16; 2048])
-    requires { nodes ≤ 3072 }
-    ensures { EnteredTo kinds.now spots.now nodes places.new }
+fn enter_all(records: &Records, spots: &[u16; NODES], nodes: usize, places: &mut [u16; CODES])
+    requires { nodes ≤ NODES }
+    ensures { EnteredTo records.now.kinds spots.now nodes places.new }
 {
-    *places = [65535u16; 2048];
-    let mut i = 0;
-    while i < nodes {
-        let v = i as u16;
-        enter_one(kinds[i], spots[i], v, places);
-        i += 1;
+    *places = [65535; CODES];
+    for i in 0..nodes {
+        enter_one(records.kinds[i], spots[i], i as u16, places);
     }
 }
 
 // The node of each position, from the codes and the records of a formula.
-pub fn fill_places(
-    codes: &[u16; 2048],
-    n: usize,
-    kinds: &[u16; 3072],
-    firsts: &[u16; 3072],
-    seconds: &[u16; 3072],
-    leaves: usize,
-    nodes: usize,
-    places: &mut [u16; 2048],
-)
-    requires codes_len { (length codes.now ≡ 2048) × (n ≤ 2047) }
-    requires buildable { Buildable codes.now n kinds.now firsts.now seconds.now leaves nodes }
-    ensures { PlacesFilled codes.now n kinds.now firsts.now seconds.now leaves nodes places.new }
+pub fn fill_places(codes: &[u16], records: &Records, size: Size, places: &mut [u16; CODES])
+    requires codes_len { length codes.now < CODES }
+    requires buildable { let r = records.now in Buildable codes.now r.kinds r.firsts r.seconds size.leaves size.nodes }
+    ensures { let r = records.now in PlacesFilled codes.now r.kinds r.firsts r.seconds size.leaves size.nodes places.new }
 {
-    let mut ups = [0u16; 3072];
-    let mut spots = [0u16; 3072];
-    let few = n as u16;
-    scan(codes, few, &mut ups, &mut spots);
-    stand(kinds, firsts, leaves, nodes, &ups, &mut spots);
-    enter_all(kinds, &spots, nodes, places);
+    let mut ups = [0u16; NODES];
+    let mut spots = [0u16; NODES];
+    scan(codes, &mut ups, &mut spots);
+    stand(records, size, &ups, &mut spots);
+    enter_all(records, &spots, size.nodes, places);
 }

@@ -53,29 +53,26 @@ all-operations f v (m ∷ ms) (p ∷ ps) [] h = tt
 all-operations f v (m ∷ ms) (p ∷ ps) (c ∷ cs) h = (is_operation_lem f v p (h 0 (omega arith)), all-operations f v ms ps cs (λ k l. h (suc k) (omega arith)))
 
 -- ---- the run, step by step
-module _ {formula : List ℕ} {n : ℕ} {ks fs ss : List ℕ} {size : Size} {toggles ms ps cs roots counts list edits : List ℕ} where
-  fits_of : EditRoom formula n ks fs ss size.leaves size.nodes toggles ms ps cs roots counts list edits
-      → EditFits formula n ks fs ss size.leaves size.nodes toggles ms ps cs roots counts list edits
+module _ {formula ks fs ss : List ℕ} {size : Size} {toggles ms ps cs roots counts list edits : List ℕ} where
+  fits_of : EditRoom formula ks fs ss size.leaves size.nodes toggles ms ps cs roots counts list edits
+      → EditFits formula ks fs ss size.leaves size.nodes toggles ms ps cs roots counts list edits
   fits_of (edit-room h) = h
 
-  module _ (given : EditRoom formula n ks fs ss size.leaves size.nodes toggles ms ps cs roots counts list edits) where
-    h : EditFits formula n ks fs ss size.leaves size.nodes toggles ms ps cs roots counts list edits
+  module _ (given : EditRoom formula ks fs ss size.leaves size.nodes toggles ms ps cs roots counts list edits) where
+    h : EditFits formula ks fs ss size.leaves size.nodes toggles ms ps cs roots counts list edits
     h = fits_of given
 
-    pub room-formula : length formula ≡ 2048
-    room-formula = h.formula_long
-
-    pub room_few : n ≤ 2047
+    pub room_few : length formula < 2048
     room_few = h.formula_few
 
-    pub room_built : Buildable formula n ks fs ss size.leaves size.nodes
+    pub room_built : Buildable formula ks fs ss size.leaves size.nodes
     room_built = h.built
 
     pub room_tree : Tree ks fs ss size.leaves size.nodes
     room_tree = record { formula = h.built.formula; holds = h.built.built.holds }
 
-    module _ {places rules ls links : List ℕ} (placed : PlacesFilled formula n ks fs ss size.leaves size.nodes places) (t : Tables rules ks fs ss size.leaves size.nodes ls links) where
-      start : (f : Formula) → Built formula n ks fs ss size.leaves size.nodes f → At (desk rules fs ss size links places ms ps cs) (plan f toggles edits) 0 0 ks ls edits
+    module _ {places rules ls links : List ℕ} (placed : PlacesFilled formula ks fs ss size.leaves size.nodes places) (t : Tables rules ks fs ss size.leaves size.nodes ls links) where
+      start : (f : Formula) → Built formula ks fs ss size.leaves size.nodes f → At (desk rules fs ss size links places ms ps cs) (plan f toggles edits) 0 0 ks ls edits
       start f b =
           record {
             now = f;
@@ -95,60 +92,55 @@ module _ {formula : List ℕ} {n : ℕ} {ks fs ss : List ℕ} {size : Size} {tog
             counted = refl;
           }
 
--- an act is left
-pub act_left : (a b : ℕ) {all j : ℕ} → j < all → all ≡ a + b → j < a + b
-act_left a b more is = omega arith
-
 -- ---- the acts: what they begin with,
-pub data Begun (formula : List ℕ) (n : ℕ) (ks fs ss : List ℕ) (size : Size) (toggles ms ps cs roots counts list edits places rules ls links : List ℕ) : Type 0 where
-  begun : EditRoom formula n ks fs ss size.leaves size.nodes toggles ms ps cs roots counts list edits → PlacesFilled formula n ks fs ss size.leaves size.nodes places
-      → Tables rules ks fs ss size.leaves size.nodes ls links → Begun formula n ks fs ss size toggles ms ps cs roots counts list edits places rules ls links
+pub data Begun (formula ks fs ss : List ℕ) (size : Size) (toggles ms ps cs roots counts list edits places rules ls links : List ℕ) : Type 0 where
+  begun : EditRoom formula ks fs ss size.leaves size.nodes toggles ms ps cs roots counts list edits → PlacesFilled formula ks fs ss size.leaves size.nodes places
+      → Tables rules ks fs ss size.leaves size.nodes ls links → Begun formula ks fs ss size toggles ms ps cs roots counts list edits places rules ls links
 
 -- and of j acts k were edits
-pub record Running (formula : List ℕ) (n : ℕ) (ks₀ fs ss : List ℕ) (size : Size) (toggles ms ps cs roots₀ counts₀ list edits₀ places rules ls₀ links : List ℕ) (all j k : ℕ) (ks ls roots counts edits : List ℕ) : Type 0 where
-  pub from : Begun formula n ks₀ fs ss size toggles ms ps cs roots₀ counts₀ list edits₀ places rules ls₀ links
-  pub all_is : all ≡ length toggles + length ms
+pub record Running (formula ks₀ fs ss : List ℕ) (size : Size) (toggles ms ps cs roots₀ counts₀ list edits₀ places rules ls₀ links : List ℕ) (j k : ℕ) (ks ls roots counts edits : List ℕ) : Type 0 where
+  pub from : Begun formula ks₀ fs ss size toggles ms ps cs roots₀ counts₀ list edits₀ places rules ls₀ links
   pub can : CanAct (desk rules fs ss size links places ms ps cs) toggles j k ks ls roots counts edits
   pub mixing : Mixing (desk rules fs ss size links places ms ps cs) toggles ks₀ ls₀ roots₀ counts₀ edits₀ j k ks ls roots counts edits
 
-module _ {formula : List ℕ} {n : ℕ} {ks₀ fs ss : List ℕ} {size : Size} {toggles ms ps cs roots₀ counts₀ list edits₀ places rules ls₀ links : List ℕ} {all : ℕ} where
-  pub running-start : EditRoom formula n ks₀ fs ss size.leaves size.nodes toggles ms ps cs roots₀ counts₀ list edits₀
-      → PlacesFilled formula n ks₀ fs ss size.leaves size.nodes places → Tables rules ks₀ fs ss size.leaves size.nodes ls₀ links → all ≡ length toggles + length ms
-      → Running formula n ks₀ fs ss size toggles ms ps cs roots₀ counts₀ list edits₀ places rules ls₀ links all 0 0 ks₀ ls₀ roots₀ counts₀ edits₀
-  running-start given placed t is =
+module _ {formula ks₀ fs ss : List ℕ} {size : Size} {toggles ms ps cs roots₀ counts₀ list edits₀ places rules ls₀ links : List ℕ} where
+  pub running-start : EditRoom formula ks₀ fs ss size.leaves size.nodes toggles ms ps cs roots₀ counts₀ list edits₀
+      → PlacesFilled formula ks₀ fs ss size.leaves size.nodes places → Tables rules ks₀ fs ss size.leaves size.nodes ls₀ links
+      → Running formula ks₀ fs ss size toggles ms ps cs roots₀ counts₀ list edits₀ places rules ls₀ links 0 0 ks₀ ls₀ roots₀ counts₀ edits₀
+  running-start given placed t =
       let h = fits_of given in
       let m = mixing_start h.built.formula (start given placed t h.built.formula h.built.built) t.ready.chains h.answers in
-      record { from = begun given placed t; all_is = is; can = mixing_act m; mixing = m }
+      record { from = begun given placed t; can = mixing_act m; mixing = m }
 
-  module _ {j k : ℕ} {ks ls roots counts edits : List ℕ} (g : Running formula n ks₀ fs ss size toggles ms ps cs roots₀ counts₀ list edits₀ places rules ls₀ links all j k ks ls roots counts edits) where
-    pub running-on : {r : ℕ} {ks' ls' roots' counts' edits' : List ℕ} → j < all → length roots' ≡ length roots → length counts' ≡ length counts → length edits' ≡ length edits
+  module _ {j k : ℕ} {ks ls roots counts edits : List ℕ} (g : Running formula ks₀ fs ss size toggles ms ps cs roots₀ counts₀ list edits₀ places rules ls₀ links j k ks ls roots counts edits) where
+    pub running-on : {r : ℕ} {ks' ls' roots' counts' edits' : List ℕ} → j < length toggles + length ms → length roots' ≡ length roots → length counts' ≡ length counts → length edits' ≡ length edits
         → Acted (desk rules fs ss size links places ms ps cs) toggles j k r ks ls roots counts edits ks' ls' roots' counts' edits'
-        → Running formula n ks₀ fs ss size toggles ms ps cs roots₀ counts₀ list edits₀ places rules ls₀ links all (j + 1) r ks' ls' roots' counts' edits'
+        → Running formula ks₀ fs ss size toggles ms ps cs roots₀ counts₀ list edits₀ places rules ls₀ links (j + 1) r ks' ls' roots' counts' edits'
     running-on more a b c done =
-        let m = mixing_on g.mixing (omega (arith, g.all_is)) a b c done in
-        record { from = g.from; all_is = g.all_is; can = mixing_act m; mixing = m }
+        let m = mixing_on g.mixing more a b c done in
+        record { from = g.from; can = mixing_act m; mixing = m }
 
     pub running-room : size.nodes ≤ 3072
     running-room = go g.from
       where
-        go : Begun formula n ks₀ fs ss size toggles ms ps cs roots₀ counts₀ list edits₀ places rules ls₀ links → size.nodes ≤ 3072
+        go : Begun formula ks₀ fs ss size toggles ms ps cs roots₀ counts₀ list edits₀ places rules ls₀ links → size.nodes ≤ 3072
         go (begun given placed t) = t.room
 
     pub running_list : size.nodes ≤ length list
     running_list = go g.from
       where
-        go : Begun formula n ks₀ fs ss size toggles ms ps cs roots₀ counts₀ list edits₀ places rules ls₀ links → size.nodes ≤ length list
+        go : Begun formula ks₀ fs ss size toggles ms ps cs roots₀ counts₀ list edits₀ places rules ls₀ links → size.nodes ≤ length list
         go (begun given placed t) = (fits_of given).for_labels
 
-    pub edited-runs : {list' : List ℕ} → all ≤ j → list' ≡ filled (take size.nodes ls) list
-        → EditedRuns formula n ks₀ fs ss size.leaves size.nodes toggles ms ps cs roots₀ counts₀ list edits₀ roots counts list' edits
+    pub edited-runs : {list' : List ℕ} → length toggles + length ms ≤ j → list' ≡ filled (take size.nodes ls) list
+        → EditedRuns formula ks₀ fs ss size.leaves size.nodes toggles ms ps cs roots₀ counts₀ list edits₀ roots counts list' edits
     edited-runs {list'} end copied = record { so = λ f b. go g.from f b }
       where
-        go : Begun formula n ks₀ fs ss size toggles ms ps cs roots₀ counts₀ list edits₀ places rules ls₀ links → (f : Formula) → Built formula n ks₀ fs ss size.leaves size.nodes f
+        go : Begun formula ks₀ fs ss size toggles ms ps cs roots₀ counts₀ list edits₀ places rules ls₀ links → (f : Formula) → Built formula ks₀ fs ss size.leaves size.nodes f
             → EditedRun (answers_of f toggles (edits_of ms ps cs)) roots₀ counts₀ list edits₀ roots counts list' edits
         go (begun given placed t) f b =
             let h = fits_of given in
-            let w = mixing_end g.mixing (omega (arith, g.all_is)) f (start given placed t f b) in
+            let w = mixing_end g.mixing end f (start given placed t f b) in
             let es = edits_of ms ps cs in
             record {
               roots_are = w.roots_are ∙ sets_filled (roots_after f es [] toggles) roots₀ (omega (arith, h.answers.for_roots, length-roots f es [] toggles));

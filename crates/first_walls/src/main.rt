@@ -3,7 +3,9 @@
 
 ghost use Rattle.std.specs.Prelude.{◌<◌};
 
-use job_classify::ClassifyAnswer;
+use line_lists::Crossings;
+use line_writing::lists::WallLists;
+use outcome::Refusal;
 use std::io;
 
 fn name(rt: &impl Print, sheet: &[u8], shape: u16, end: &[u8]) -> io::Result<()> {
@@ -39,29 +41,24 @@ fn classify(
     ends: &mut [i32; 6],
     start_shapes: &mut [u16; 6],
     end_shapes: &mut [u16; 6],
-) -> usize {
+) -> Result<usize, Refusal> {
     let in_air = [0u8; 6];
     let line = [1u32, 1, 1, 1, 2, 2];
     let position = [0i32, 40000, 60000, 100000, 0, 100000];
     let shape = [0u16, 1, 1, 0, 0, 0];
-    match job_classify::classify(
-        false,
-        b"",
-        sheet,
-        &in_air,
-        &line,
-        &position,
-        &shape,
+    let x = Crossings {
+        line: &line,
+        at: &position,
+        shape: &shape,
+    };
+    let mut walls = WallLists {
         lines,
         starts,
         ends,
         start_shapes,
         end_shapes,
-    ) {
-        ClassifyAnswer::Walls { walls } => walls,
-        ClassifyAnswer::Refused { .. } => 0,
-        ClassifyAnswer::Unfit { .. } => 0,
-    }
+    };
+    job_classify::classify(false, b"", sheet, &in_air, x, &mut walls)
 }
 
 // A write that fails ends the program with its error.
@@ -80,7 +77,8 @@ fn main(rt: HostRuntime) -> io::Result<()> {
         &mut ends,
         &mut start_shapes,
         &mut end_shapes,
-    );
+    )
+    .unwrap_or(0);
     println!(rt; "line,start,end,start_shape,end_shape")?;
     if walls == 3 {
         wall(

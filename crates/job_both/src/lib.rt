@@ -4,36 +4,27 @@
 ghost use Rattle.std.specs.Prelude.{◌≡◌};
 ghost use Rattle.sheet.specs.Sheet.{sheets_of};
 ghost use Rattle.job_both.specs.Shared.{lists, Shared};
-ghost use Rattle.job_both.specs.Refusals.{both_refused, both_unfit};
+ghost use Rattle.job_both.specs.Refusals.{both_refused};
 
-use accepting::Prepared;
-use job_run::{RunAnswer, run_toggles};
+use contraction::{CODES, NODES, Records};
+use job_run::run_toggles;
 use order_mixing::mixes;
+use outcome::{Reason, Refusal};
 
 // What each foundry is answered.
-#[derive(Drop)]
+#[derive(Clone, Copy, Debug, PartialEq, Eq)]
 pub struct BothAnswer {
-    pub first: RunAnswer,
-    pub second: RunAnswer,
+    pub first: Result<usize, Refusal>,
+    pub second: Result<usize, Refusal>,
 }
 
 // A refusal that goes to both.
-fn both_refused(number: u8, place: usize) -> BothAnswer
-    ensures { result ≡ both_refused number place }
+fn both_refused(why: Refusal) -> BothAnswer
+    ensures { result ≡ both_refused why }
 {
     BothAnswer {
-        first: RunAnswer::Refused { number, place },
-        second: RunAnswer::Refused { number, place },
-    }
-}
-
-// And one of the fittings sheet.
-fn both_unfit(number: u8, place: usize) -> BothAnswer
-    ensures { result ≡ both_unfit number place }
-{
-    BothAnswer {
-        first: RunAnswer::Unfit { number, place },
-        second: RunAnswer::Unfit { number, place },
+        first: Err(why),
+        second: Err(why),
     }
 }
 
@@ -56,43 +47,40 @@ pub fn run_both(
         (lists first_roots.old first_counts.old first_labels.old) (lists second_roots.old second_counts.old second_labels.old) result
         (lists first_roots.new first_counts.new first_labels.new) (lists second_roots.new second_counts.new second_labels.new) }
 {
-    let mut codes = [0u16; 2048];
-    let mut k = [0u16; 3072];
-    let mut f = [0u16; 3072];
-    let mut s = [0u16; 3072];
-    match accepting::prepare(fitted, fittings, sheet, &mut codes, &mut k, &mut f, &mut s) {
-        Prepared::Refused { number, place } => both_refused(number, place),
-        Prepared::Unfit { number, place } => both_unfit(number, place),
-        Prepared::Ready { names, built, .. } => {
-            if mixes(order, first.len(), second.len()) {
-                let to_first = run_toggles(
-                    &k,
-                    &f,
-                    &s,
-                    built,
-                    names,
-                    first,
-                    first_roots,
-                    first_counts,
-                    first_labels,
-                );
-                let to_second = run_toggles(
-                    &k,
-                    &f,
-                    &s,
-                    built,
-                    names,
-                    second,
-                    second_roots,
-                    second_counts,
-                    second_labels,
-                );
-                return BothAnswer {
-                    first: to_first,
-                    second: to_second,
-                };
+    let mut codes = [0u16; CODES];
+    let mut records = Records {
+        kinds: [0; NODES],
+        firsts: [0; NODES],
+        seconds: [0; NODES],
+    };
+    match accepting::prepare(fitted, fittings, sheet, &mut codes, &mut records) {
+        Err(why) => both_refused(why),
+        Ok(prepared) => {
+            if !mixes(order, first.len(), second.len()) {
+                return both_refused(Refusal::Refused(Reason::LengthsDiffer.at(0)));
             }
-            both_refused(13, 0)
+            let to_first = run_toggles(
+                &records,
+                prepared.built,
+                prepared.names,
+                first,
+                first_roots,
+                first_counts,
+                first_labels,
+            );
+            let to_second = run_toggles(
+                &records,
+                prepared.built,
+                prepared.names,
+                second,
+                second_roots,
+                second_counts,
+                second_labels,
+            );
+            BothAnswer {
+                first: to_first,
+                second: to_second,
+            }
         }
     }
 }

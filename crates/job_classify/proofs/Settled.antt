@@ -1,48 +1,42 @@
 -- What the promise of classifying settles: two results that meet it are equal; it refuses exactly when the rules say, and then writes nothing.
-use mathlib.Core.Path.{◌≡◌, refl}
+use mathlib.Core.Path.{refl, sym, ◌∙◌}
 use lib.ListN.{length}
 use Rattle.outcome.specs.Outcome.{refused, unfit}
 use Rattle.outcome.specs.Numbered.{Numbered}
-use Rattle.outcome.specs.Settled.{Unique, Refusal, Refuses}
+use Rattle.outcome.specs.Settled.{Unique, Refusal, Refuses, Said}
 use Rattle.outcome.proofs.NumberedLaws.{bind_numbered}
-use Rattle.outcome.proofs.Settling.{known_by, saying, OnSheets, on_sheets}
+use Rattle.outcome.proofs.Settling.{OnSheets, on_sheets}
+use Rattle.outcome.proofs.Judging.{answered_same}
+use Rattle.outcome.specs.Refusing.{answered}
 use Rattle.sheet.specs.Sheet.{Sheets, Sheet}
 use Rattle.accepting.specs.Accepting.{accepted}
 use Rattle.accepting.proofs.Accepted.{accepted-numbered}
 use Rattle.lines.specs.Lines.{LineLists, AnswerLists}
 use Rattle.lines.proofs.Numbered.{classified-numbered}
 use Rattle.job_classify.specs.Classifying.{classifying}
-use Rattle.job_classify.specs.Classified.{classified_of, Classified}
-use Rattle.job_classify.specs.declared.ClassifyAnswer.{ClassifyAnswer}
-use Rattle.job_classify.specs.declared.ClassifyAnswer.TheVariants as answer
+use Rattle.job_classify.specs.Classified.{Classified}
 
-classified_of-same : (r q : ClassifyAnswer) → classified_of r ≡ classified_of q → r ≡ q
-classified_of-same = known_by classified_of (saying answer.Walls answer.Refused answer.Unfit) known
-  where
-    known : (r : ClassifyAnswer) → saying answer.Walls answer.Refused answer.Unfit (classified_of r) ≡ r
-    known (answer.Walls walls) = refl
-    known (answer.Refused number place) = refl
-    known (answer.Unfit number place) = refl
-
-classify_settled : OnSheets Classified answer.Refused answer.Unfit
+-- as a promise on what the answer says
+classify_settled : OnSheets (Said answered Classified) refused unfit
 classify_settled =
-    on_sheets classified_of length classified_of-same (λ k p. (refl, refl)) (λ o lent r after a. a.answer)
-    (λ o lent r after a i. record { lines = a.lists.lines_list i; starts = a.lists.starts_list i; ends = a.lists.ends_list i; start_shapes = a.lists.start_shapes_list i; end_shapes = a.lists.end_shapes_list i }) (λ k p lent. (refl, refl))
+    on_sheets (λ v. v) length (λ r q e. e) (λ k p. (refl, refl)) (λ o lent v after a. sym a.1.0 ∙ a.1.1.answer)
+    (λ o lent v after a i. record { lines = a.1.1.lists.lines_list i; starts = a.1.1.lists.starts_list i; ends = a.1.1.lists.ends_list i; start_shapes = a.1.1.lists.start_shapes_list i; end_shapes = a.1.1.lists.end_shapes_list i })
+    (λ k p lent. (refl, refl))
 
 pub classify_unique : Unique Classified
-classify_unique = classify_settled.own.unique
+classify_unique = λ o lent r q after other a b. (answered_same r q (a.answer ∙ sym b.answer), (classify_settled.own.unique o lent (answered r) (answered q) after other (r, (refl, a)) (q, (refl, b))).1)
 
-pub classify_refusal : Refusal Classified refused answer.Refused
+pub classify_refusal : Refusal (Said answered Classified) refused refused
 classify_refusal = classify_settled.own.refusal
 
-pub classify_refuses : Refuses Classified refused answer.Refused
+pub classify_refuses : Refuses (Said answered Classified) refused refused
 classify_refuses = classify_settled.own.refuses
 
 -- and of the fittings sheet
-pub classify_unfit : Refusal Classified unfit answer.Unfit
+pub classify_unfit : Refusal (Said answered Classified) unfit unfit
 classify_unfit = classify_settled.fittings.refusal
 
-pub classify_unfits : Refuses Classified unfit answer.Unfit
+pub classify_unfits : Refuses (Said answered Classified) unfit unfit
 classify_unfits = classify_settled.fittings.refuses
 
 -- No refusal has number 0.

@@ -4,9 +4,9 @@ use native.Mathlib.Omega.{arith}
 use mathlib.Core.Path.{◌≡◌, refl, sym, ap, ◌∙◌}
 use mathlib.Core.Bool.{Bool, true, false, ◌&&◌}
 use mathlib.Core.List.{List, [], ◌∷◌}
-use lib.Dec.{leb, ltb}
-use borrow.Author.Tests.{eq-eqb, ne_eqb, le-leb, lt-leb, leb-true, ltb-true, ltb-false}
-use lib.ListN.{length, get_or, take, get_or-eq_default}
+use lib.Dec.{eqb, leb, ltb}
+use borrow.Author.Tests.{eq-eqb, eqb-true, le-leb, leb-true, ltb-true, ltb-false}
+use lib.ListN.{length, get_or, take, get_or-eq_default, length-take}
 use Rattle.outcome.specs.Outcome.{Outcome, given, refused, unfit}
 use Rattle.formula.specs.Formula.{first_operation, code, exclusive, Formula, postfix}
 use Rattle.formula.specs.States.{toggled_by}
@@ -19,34 +19,31 @@ use Rattle.labels.proofs.Afresh.{length-labels}
 use Rattle.toggles.specs.Named.{first_wrong}
 use Rattle.toggle_run.proofs.RanLaws.{none-wrong}
 use Rattle.accepting.specs.Accepting.{accepted}
+use Rattle.contraction.specs.declared.Records.{Records}
 use Rattle.accepting.specs.Prepared.{Stands, Says}
 use Rattle.accepting.specs.declared.Prepared.{Prepared}
-use Rattle.accepting.specs.declared.Prepared.TheVariants as prepared
-use Rattle.job_run.specs.declared.RunAnswer.{RunAnswer}
-use Rattle.job_run.specs.declared.RunAnswer.TheVariants as run
+use Rattle.std.specs.Prelude.{Result, Ok, Err}
+use Rattle.outcome.specs.Refusing.{number_of, answered}
+use Rattle.outcome.specs.declared.Fault.{Fault}
+use Rattle.outcome.specs.declared.Refusal.{Refusal}
+use Rattle.outcome.specs.declared.Refusal.TheVariants as refusal
 use Rattle.edits.proofs.Edits.{edited-nodes}
 use Rattle.formula.specs.Codes.{is_operation}
 use Rattle.edit_checking.specs.Fits.{operates_at, in_time, fits, first_unfit}
-use Rattle.edit_checking.specs.Asked.{Coded}
-use Rattle.edit_checking.proofs.FitLaws.{unfit_most}
-use Rattle.edit_places.specs.Places.{Built}
+use Rattle.edit_places.specs.Places.{Built, Buildable}
 use Rattle.edit_moments.specs.Edits.{Edit, edits_of, after, edited_by}
 use Rattle.edit_moments.specs.Listed.{Rises}
 use Rattle.edit_mix.specs.Edits.{Answers, answers_of}
 use Rattle.edit_run.specs.Ran.{EditRoom, edit-room, EditedRuns}
-use Rattle.job_edit.specs.declared.Checked.{Checked}
-use Rattle.job_edit.specs.declared.Checked.TheVariants as checked
 use Rattle.job_edit.specs.Editing.{Lists, lists, lending, editing, running_edited}
 use Rattle.job_edit.specs.Edited.{Edited}
-use Rattle.job_edit.specs.Taken.{Prepares, prepares, Refuses, Passes, Checks, Spacious, Short, roots-short, counts-short, labels-short, edits_short, Roomed, RefusedWith, at_once, for_room, Asks, Taken, Takes, takes, LentOn, JudgedOn}
-use Rattle.job_edit.specs.declared.Room.{Room}
 
-edit-refused : (o : Outcome Answers) (lent : Lists) (number place : ℕ) → o ≡ refused number place → Edited o lent (run.Refused number place) lent
-edit-refused o lent number place is =
+pub edit_refused : (o : Outcome Answers) (lent : Lists) (number place : ℕ) → o ≡ refused number place → Edited o lent (refused number place) lent
+edit_refused o lent number place is =
     record { answer = rw is; lists = record { roots_list = rw is; counts_list = rw is; labels_list = rw is; edit_counts_list = rw is } }
 
-edit-unfit : (o : Outcome Answers) (lent : Lists) (number place : ℕ) → o ≡ unfit number place → Edited o lent (run.Unfit number place) lent
-edit-unfit o lent number place is =
+pub edit_unfit : (o : Outcome Answers) (lent : Lists) (number place : ℕ) → o ≡ unfit number place → Edited o lent (unfit number place) lent
+edit_unfit o lent number place is =
     record { answer = rw is; lists = record { roots_list = rw is; counts_list = rw is; labels_list = rw is; edit_counts_list = rw is } }
 
 -- an edit changes no number of nodes
@@ -57,74 +54,6 @@ by_nodes m (e ∷ es) f = go (leb e.moment m) refl (by_nodes m es (after e f))
     go : (b : Bool) → leb e.moment m ≡ b → length (dwarf (edited_by m es (after e f))) ≡ length (dwarf (after e f)) → length (dwarf (edited_by m (e ∷ es) f)) ≡ length (dwarf f)
     go true q ih = rw (q, edited_by) (ih ∙ edited-nodes f e.position e.operation)
     go false q ih = rw (q, edited_by)
-
--- ---- the answer lists are judged, and the run is given
-taken_of : {formula : List ℕ} {n : ℕ} {ks fs ss : List ℕ} {leaves nodes : ℕ} {toggles ms ps cs : List ℕ} → Takes formula n ks fs ss leaves nodes toggles ms ps cs
-    → Taken formula n ks fs ss leaves nodes toggles ms ps cs
-taken_of (takes t) = t
-
--- how many entries each list has
-abbrev room_of : List ℕ → List ℕ → List ℕ → List ℕ → Room
-room_of roots counts labels edits = record { roots = length roots; counts = length counts; labels = length labels; edits = length edits }
-
--- the first list that is too short is refused
-module _ {formula : List ℕ} {n : ℕ} {ks fs ss : List ℕ} {leaves nodes : ℕ} {toggles ms ps cs : List ℕ} (roots counts labels edits : List ℕ) where
-  short-lent : (number place : ℕ) → Short (length toggles) nodes (length ms) (room_of roots counts labels edits) number place
-      → LentOn formula n ks fs ss leaves nodes toggles ms ps cs (lists roots counts labels edits) (run.Refused number place) (lists roots counts labels edits)
-  unfolding lending
-  short-lent number place (roots-short h) = record { so = λ g b. edit-refused (lending g toggles ms ps cs (lists roots counts labels edits)) _ 9 (length toggles) (rw (lt-leb _ _ h)) }
-  short-lent number place (counts-short for_roots h) = record { so = λ g b. edit-refused (lending g toggles ms ps cs (lists roots counts labels edits)) _ 9 (length toggles) (rw (le-leb _ _ for_roots, lt-leb _ _ h)) }
-  short-lent number place (labels-short for_roots for_counts h) =
-      record { so = λ g b. edit-refused (lending g toggles ms ps cs (lists roots counts labels edits)) _ 9 nodes (rw (← b.holds.nodes_are, le-leb _ _ for_roots, le-leb _ _ for_counts, lt-leb _ _ h)) }
-  short-lent number place (edits_short for_roots for_counts for_labels h) =
-      record {
-        so = λ g b.
-            edit-refused (lending g toggles ms ps cs (lists roots counts labels edits)) _ 9 (length ms)
-            (rw (← b.holds.nodes_are, le-leb _ _ for_roots, le-leb _ _ for_counts, le-leb _ _ for_labels, lt-leb _ _ h));
-      }
-
-  module _ (space : Spacious (length toggles) nodes (length ms) (room_of roots counts labels edits)) where
-    run_room : Takes formula n ks fs ss leaves nodes toggles ms ps cs → EditRoom formula n ks fs ss leaves nodes toggles ms ps cs roots counts labels edits
-    run_room t =
-        let w = taken_of t in
-        edit-room
-        record {
-          formula_long = w.formula_long;
-          formula_few = w.formula_few;
-          built = w.built;
-          listed = w.listed;
-          rises = w.rises;
-          operated = w.operated;
-          answers = record { named = w.named; for_roots = space.for_roots; for_counts = space.for_counts };
-          for_labels = space.for_labels;
-          for_edits = space.for_edits;
-        }
-
-    run_given : {roots' counts' labels' edits' : List ℕ} → EditedRuns formula n ks fs ss leaves nodes toggles ms ps cs roots counts labels edits roots' counts' labels' edits'
-        → LentOn formula n ks fs ss leaves nodes toggles ms ps cs (lists roots counts labels edits) (run.Ran nodes) (lists roots' counts' labels' edits')
-    unfolding lending
-    run_given {roots'} {counts'} {labels'} {edits'} done = record { so = promised }
-      where
-        promised : (g : Formula) → Built formula n ks fs ss leaves nodes g
-            → Edited (lending g toggles ms ps cs (lists roots counts labels edits)) (lists roots counts labels edits) (run.Ran nodes) (lists roots' counts' labels' edits')
-        promised g b =
-            let a = answers_of g toggles (edits_of ms ps cs) in
-            let is : lending g toggles ms ps cs (lists roots counts labels edits) ≡ given a =
-            rw (← b.holds.nodes_are, le-leb _ _ space.for_roots, le-leb _ _ space.for_counts, le-leb _ _ space.for_labels, le-leb _ _ space.for_edits) in
-            let w = done.so g b in
-            let g' = edited_by (length toggles) (edits_of ms ps cs) g in
-            record {
-              answer = rw is (ap given (b.holds.nodes_are ∙ sym (by_nodes (length toggles) (edits_of ms ps cs) g) ∙ sym (length-labels (toggled_by toggles) (dwarf g'))));
-              lists =
-                  record {
-                    roots_list = rw is w.roots_are;
-                    counts_list = rw is w.counts_are;
-                    labels_list = rw is w.labels_are;
-                    edit_counts_list = rw is w.edit_counts_are;
-                  };
-            }
-
--- ---- the edits and the toggles are judged
 
 -- what the judgement tells of each edit
 both_true : (a b : Bool) → (a && b) ≡ true → (a ≡ true) × (b ≡ true)
@@ -174,152 +103,92 @@ all_fit codes most before (m ∷ ms) (p ∷ ps) (c ∷ cs) a b e =
         at f w zero h = (f.node, f.low, f.high, f.in_time)
         at f w (suc k) h = w k (omega arith)
 
-first_wrong_most : (names : ℕ) (ts : List ℕ) → first_wrong names ts ≤ length ts
-first_wrong_most names [] = omega arith
-first_wrong_most names (t ∷ ts) = go (ltb t names) refl (first_wrong_most names ts)
-  where
-    go : (b : Bool) → ltb t names ≡ b → first_wrong names ts ≤ length ts → first_wrong names (t ∷ ts) ≤ length (t ∷ ts)
-    go true e ih = rw (e, first_wrong) (omega arith)
-    go false e ih = rw (e, first_wrong) (omega arith)
+equal_lists : (a b : ℕ) (n : ℕ) → (eqb a n && eqb b n) ≡ true → (a ≡ n) × (b ≡ n)
+equal_lists a b n e = let w = both_true (eqb a n) (eqb b n) e in (eqb-true a n w.0, eqb-true b n w.1)
 
--- exit by exit
-module _ (formula : List ℕ) (n names : ℕ) (toggles ms ps cs : List ℕ) where
-  pub positions_differ : (length ps ≡ length ms → ⊥) → Refuses formula n names toggles ms ps cs 13 0
-  unfolding editing
-  positions_differ d = record { so = λ g e lent. rw (ne_eqb (length ps) (length ms) d) }
-
-  module _ (same : length ps ≡ length ms) where
-    pub codes_differ : (length cs ≡ length ms → ⊥) → Refuses formula n names toggles ms ps cs 13 0
-    unfolding editing
-    codes_differ d = record { so = λ g e lent. rw (eq-eqb (length ps) (length ms) same, ne_eqb (length cs) (length ms) d) }
-
-    module _ (alike : length cs ≡ length ms) (w : ℕ) (first : w ≡ first_wrong names toggles) where
-      pub toggle-wrong : w < length toggles → Refuses formula n names toggles ms ps cs 10 w
-      unfolding editing
-      toggle-wrong h =
-          record {
-            so = λ g e lent.
-                rw (eq-eqb (length ps) (length ms) same, eq-eqb (length cs) (length ms) alike, ne_eqb (first_wrong names toggles) (length toggles) (λ x. omega arith), first);
-          }
-
-      module _ (past : length toggles ≤ w) (u : ℕ) (unfit-is : u ≡ first_unfit (take n formula) (length toggles) 0 ms ps cs) where
-        known : first_wrong names toggles ≡ length toggles
-        known = omega (arith, first_wrong_most names toggles)
-
-        pub edit_unfits : u < length ms → Refuses formula n names toggles ms ps cs 20 u
-        unfolding editing
-        edit_unfits h =
-            record {
-              so = λ g e lent.
-                  let is : u ≡ first_unfit (postfix g) (length toggles) 0 ms ps cs = unfit-is ∙ ap (λ l. first_unfit l (length toggles) 0 ms ps cs) e in
-                  rw (
-                    eq-eqb (length ps) (length ms) same,
-                    eq-eqb (length cs) (length ms) alike,
-                    eq-eqb (first_wrong names toggles) (length toggles) known,
-                    ne_eqb (first_unfit (postfix g) (length toggles) 0 ms ps cs) (length ms) (λ x. omega arith),
-                    is,
-                  );
-            }
-
-        pub all_pass : length ms ≤ u → Passes formula n names toggles ms ps cs
-        all_pass h =
-            record { positions_long = same; codes_long = alike; named = known; fit = omega (arith, unfit-is, unfit_most (take n formula) (length toggles) 0 ms ps cs) }
-
--- ---- and then refused, or the run goes on
-prepared_coded : {formula : List ℕ} {n : ℕ} {ks fs ss : List ℕ} {leaves nodes names : ℕ} → Prepares formula n ks fs ss leaves nodes names → Coded formula n
-prepared_coded (prepares long few names built) = record { long = long; few = few }
-
-pub ask_refused : (formula : List ℕ) (n names nodes : ℕ) (toggles ms ps cs : List ℕ) (room : Room) (r : Checked) → Checks formula n names toggles ms ps cs r → (number place : ℕ) → r ≡ checked.Refused number place
-    → Asks formula n names nodes toggles ms ps cs room (checked.Refused number place)
-ask_refused formula n names nodes toggles ms ps cs room r says number place is = at_once (rw is at says)
-
-pub ask_room : (formula : List ℕ) (n names nodes : ℕ) (toggles ms ps cs : List ℕ) (room : Room) (r : Checked) → Checks formula n names toggles ms ps cs r → r ≡ checked.Taken → (q : Checked) → Roomed (length toggles) nodes (length ms) room q
-    → Asks formula n names nodes toggles ms ps cs room q
-ask_room formula n names nodes toggles ms ps cs room r says is checked.Taken space = (rw is at says, space)
-ask_room formula n names nodes toggles ms ps cs room r says is (checked.Refused number place) short = for_room (rw is at says) short
-
-module _ {formula : List ℕ} {n : ℕ} {ks fs ss : List ℕ} {leaves nodes names : ℕ} {toggles ms ps cs : List ℕ} where
-  passes_take : Passes formula n names toggles ms ps cs → Prepares formula n ks fs ss leaves nodes names → Takes formula n ks fs ss leaves nodes toggles ms ps cs
-  passes_take p (prepares long few small built) =
-      let f = all_fit (take n formula) (length toggles) 0 ms ps cs p.positions_long p.codes_long p.fit in
-      takes
+-- every question is answered yes: the run is asked for what it may be, and given
+module _ (codes ks fs ss : List ℕ) (leaves nodes names : ℕ) (toggles ms ps cs roots counts labels edits : List ℕ)
+    (equal : (eqb (length ps) (length ms) && eqb (length cs) (length ms)) ≡ true) (known : first_wrong names toggles ≡ length toggles)
+    (fit : first_unfit codes (length toggles) 0 ms ps cs ≡ length ms)
+    (for_roots : length toggles ≤ length roots) (for_counts : length toggles ≤ length counts) (for_labels : nodes ≤ length labels) (for_edits : length ms ≤ length edits) where
+  pub run_room : length codes < 2048 → names ≤ 256 → Buildable codes ks fs ss leaves nodes → EditRoom codes ks fs ss leaves nodes toggles ms ps cs roots counts labels edits
+  run_room few small built =
+      let same = equal_lists (length ps) (length cs) (length ms) equal in
+      let f = all_fit codes (length toggles) 0 ms ps cs same.0 same.1 fit in
+      edit-room
       record {
-        formula_long = long;
         formula_few = few;
         built = built;
-        named = λ i.
-            cases (ltb i (length toggles))
-            (λ q. let below = none-wrong names toggles p.named i (ltb-true i (length toggles) q) in omega arith)
-            (λ q. let none : get_or toggles i 0 ≡ 0 = get_or-eq_default toggles 0 (ltb-false i (length toggles) q) in omega arith);
         listed =
             record {
-              positions_long = p.positions_long;
-              codes_long = p.codes_long;
+              positions_long = same.0;
+              codes_long = same.1;
               low = λ k h. (f.each k h).1;
               high = λ k h. omega (arith, (f.each k h).2);
               in_time = λ k h. (f.each k h).3;
             };
         rises = f.rises;
         operated = λ k h. (f.each k h).0;
+        answers =
+            record {
+              named = λ i.
+                  cases (ltb i (length toggles))
+                  (λ q. let below = none-wrong names toggles known i (ltb-true i (length toggles) q) in omega arith)
+                  (λ q. let none : get_or toggles i 0 ≡ 0 = get_or-eq_default toggles 0 (ltb-false i (length toggles) q) in omega arith);
+              for_roots = for_roots;
+              for_counts = for_counts;
+            };
+        for_labels = for_labels;
+        for_edits = for_edits;
       }
 
-  judged : Passes formula n names toggles ms ps cs → {lent after : Lists} {a : RunAnswer} → LentOn formula n ks fs ss leaves nodes toggles ms ps cs lent a after
-      → JudgedOn formula n ks fs ss leaves nodes names toggles ms ps cs lent a after
-  unfolding editing
-  judged p {lent} {after} {a} l =
+  pub run_given : {roots' counts' labels' edits' : List ℕ} → EditedRuns codes ks fs ss leaves nodes toggles ms ps cs roots counts labels edits roots' counts' labels' edits'
+      → (g : Formula) → Built codes ks fs ss leaves nodes g
+      → Edited (editing g names toggles ms ps cs (lists roots counts labels edits)) (lists roots counts labels edits) (given nodes) (lists roots' counts' labels' edits')
+  unfolding editing lending
+  run_given done g b =
+      let a = answers_of g toggles (edits_of ms ps cs) in
+      let fits_formula : first_unfit (postfix g) (length toggles) 0 ms ps cs ≡ length ms = ap (λ q. first_unfit q (length toggles) 0 ms ps cs) (sym b.codes_are) ∙ fit in
+      let is : editing g names toggles ms ps cs (lists roots counts labels edits) ≡ given a =
+      rw (
+        equal,
+        eq-eqb (first_wrong names toggles) (length toggles) known,
+        eq-eqb (first_unfit (postfix g) (length toggles) 0 ms ps cs) (length ms) fits_formula,
+        ← b.holds.nodes_are,
+        le-leb _ _ for_roots,
+        le-leb _ _ for_counts,
+        le-leb _ _ for_labels,
+        le-leb _ _ for_edits,
+      ) in
+      let w = done.so g b in
+      let g' = edited_by (length toggles) (edits_of ms ps cs) g in
       record {
-        so = λ g b.
-            let fit : first_unfit (postfix g) (length toggles) 0 ms ps cs ≡ length ms = ap (λ q. first_unfit q (length toggles) 0 ms ps cs) (sym b.codes_are) ∙ p.fit in
-            let same_outcome : editing g names toggles ms ps cs lent ≡ lending g toggles ms ps cs lent =
-            rw (
-              eq-eqb (length ps) (length ms) p.positions_long,
-              eq-eqb (length cs) (length ms) p.codes_long,
-              eq-eqb (first_wrong names toggles) (length toggles) p.named,
-              eq-eqb (first_unfit (postfix g) (length toggles) 0 ms ps cs) (length ms) fit,
-            ) in
-            rw same_outcome (l.so g b);
+        answer = rw is (ap given (b.holds.nodes_are ∙ sym (by_nodes (length toggles) (edits_of ms ps cs) g) ∙ sym (length-labels (toggled_by toggles) (dwarf g'))));
+        lists =
+            record {
+              roots_list = rw is w.roots_are;
+              counts_list = rw is w.counts_are;
+              labels_list = rw is w.labels_are;
+              edit_counts_list = rw is w.edit_counts_are;
+            };
       }
-
-  module _ (roots counts labels edits : List ℕ) where
-    refused_with : (number place : ℕ) → RefusedWith formula n names nodes toggles ms ps cs (room_of roots counts labels edits) number place → JudgedOn formula n ks fs ss leaves nodes names toggles ms ps cs (lists roots counts labels edits) (run.Refused number place) (lists roots counts labels edits)
-    refused_with number place (at_once x) = record { so = λ g b. edit-refused (editing g names toggles ms ps cs (lists roots counts labels edits)) (lists roots counts labels edits) number place (x.so g b.codes_are (lists roots counts labels edits)) }
-    refused_with number place (for_room p s) = judged p (short-lent roots counts labels edits number place s)
-
-    module _ {r : Checked} (says : Asks formula n names nodes toggles ms ps cs (room_of roots counts labels edits) r) where
-      pub asked-refused : (number place : ℕ) → r ≡ checked.Refused number place → JudgedOn formula n ks fs ss leaves nodes names toggles ms ps cs (lists roots counts labels edits) (run.Refused number place) (lists roots counts labels edits)
-      asked-refused number place is = refused_with number place (rw is at says)
-
-      module _ (is : r ≡ checked.Taken) where
-        pub asked-room : Prepares formula n ks fs ss leaves nodes names → EditRoom formula n ks fs ss leaves nodes toggles ms ps cs roots counts labels edits
-        asked-room prepared =
-            let taken : Passes formula n names toggles ms ps cs × Spacious (length toggles) nodes (length ms) (room_of roots counts labels edits) = rw is at says in
-            run_room roots counts labels edits taken.1 (passes_take taken.0 prepared)
-
-        pub asked_run : {roots' counts' labels' edits' : List ℕ} → EditedRuns formula n ks fs ss leaves nodes toggles ms ps cs roots counts labels edits roots' counts' labels' edits'
-            → JudgedOn formula n ks fs ss leaves nodes names toggles ms ps cs (lists roots counts labels edits) (run.Ran nodes) (lists roots' counts' labels' edits')
-        asked_run done =
-            let taken : Passes formula n names toggles ms ps cs × Spacious (length toggles) nodes (length ms) (room_of roots counts labels edits) = rw is at says in
-            judged taken.0 (run_given roots counts labels edits taken.1 done)
 
 -- ---- a sheet is refused, or its formula stands in the arrays
-module _ (s : Sheets) (codes k f e : List ℕ) (toggles ms ps cs : List ℕ) (lent : Lists) (r : Prepared) (says : Says s codes k f e r) where
-  pub sheet-refused : (number place : ℕ) → r ≡ prepared.Refused number place → Edited (running_edited s toggles ms ps cs lent) lent (run.Refused number place) lent
+module _ (s : Sheets) (codes : List ℕ) (t : Records) (toggles ms ps cs : List ℕ) (lent : Lists) (r : Result Prepared Refusal) (says : Says s codes t r) where
+  pub sheet-refused : (e : Refusal) → r ≡ Err e → Edited (running_edited s toggles ms ps cs lent) lent (answered {A = ℕ} (Err e)) lent
   unfolding running_edited
-  sheet-refused number place is =
-      let a : accepted s ≡ refused number place = rw is at says in
-      edit-refused (running_edited s toggles ms ps cs lent) lent number place (rw a)
+  sheet-refused (refusal.Refused f) is =
+      let a : accepted s ≡ refused (number_of f.reason) f.place = rw is at says in
+      edit_refused (running_edited s toggles ms ps cs lent) lent (number_of f.reason) f.place (rw a)
+  sheet-refused (refusal.Unfit f) is =
+      let a : accepted s ≡ unfit (number_of f.reason) f.place = rw is at says in
+      edit_unfit (running_edited s toggles ms ps cs lent) lent (number_of f.reason) f.place (rw a)
 
-  pub sheet-unfit : (number place : ℕ) → r ≡ prepared.Unfit number place → Edited (running_edited s toggles ms ps cs lent) lent (run.Unfit number place) lent
-  unfolding running_edited
-  sheet-unfit number place is =
-      let a : accepted s ≡ unfit number place = rw is at says in
-      edit-unfit (running_edited s toggles ms ps cs lent) lent number place (rw a)
-
-module _ (s : Sheets) (codes k f e : List ℕ) (r : Prepared) (says : Says s codes k f e r) (names n : ℕ) (b : Figures) (is : r ≡ prepared.Ready names n b) where
-  stands : (x : Sheet) × Stands s x names n b codes k f e
+module _ (s : Sheets) (codes : List ℕ) (t : Records) (r : Result Prepared Refusal) (says : Says s codes t r) (p : Prepared) (is : r ≡ Ok p) where
+  stands : (x : Sheet) × Stands s x p.names p.codes p.built codes t
   stands = rw is at says
 
-  built : Built codes n k f e b.leaves b.nodes stands.0.formula
+  built : Built (take p.codes codes) t.kinds t.firsts t.seconds p.built.leaves p.built.nodes stands.0.formula
   built =
       let st = stands.1 in
       record {
@@ -336,20 +205,22 @@ module _ (s : Sheets) (codes k f e : List ℕ) (r : Prepared) (says : Says s cod
             };
       }
 
-  pub sheet-prepares : length codes ≡ 2048 → Prepares codes n k f e b.leaves b.nodes names
-  sheet-prepares long =
-      let st = stands.1 in
-      prepares long st.coded.few_codes (omega (arith, st.coded.names_are, st.coded.facts.own.good_names.few)) record { formula = stands.0.formula; built = built }
+  pub sheet_few : (length (take p.codes codes) < 2048) × (p.names ≤ 256)
+  sheet_few = let st = stands.1 in (omega (arith, st.coded.few_codes, length-take p.codes codes), omega (arith, st.coded.names_are, st.coded.facts.own.good_names.few))
 
-  pub sheet-coded : length codes ≡ 2048 → Coded codes n
-  sheet-coded long = prepared_coded (sheet-prepares long)
+  pub sheet_buildable : Buildable (take p.codes codes) t.kinds t.firsts t.seconds p.built.leaves p.built.nodes
+  sheet_buildable = record { formula = stands.0.formula; built = built }
 
-  pub sheet-edited : (toggles ms ps cs : List ℕ) {lent after : Lists} {a : RunAnswer} → JudgedOn codes n k f e b.leaves b.nodes names toggles ms ps cs lent a after
+  pub few_in : p.codes ≤ 2047
+  few_in = stands.1.coded.few_codes
+
+  pub sheet-edited : (toggles ms ps cs : List ℕ) {lent after : Lists} {a : Outcome ℕ}
+      → ((g : Formula) → Built (take p.codes codes) t.kinds t.firsts t.seconds p.built.leaves p.built.nodes g → Edited (editing g p.names toggles ms ps cs lent) lent a after)
       → Edited (running_edited s toggles ms ps cs lent) lent a after
   unfolding running_edited
   sheet-edited toggles ms ps cs {lent} {after} {a} j =
       let st = stands.1 in
       let g = stands.0.formula in
-      let same : running_edited s toggles ms ps cs lent ≡ editing g names toggles ms ps cs lent =
+      let same : running_edited s toggles ms ps cs lent ≡ editing g p.names toggles ms ps cs lent =
       rw st.coded.is (ap (λ m. editing g m toggles ms ps cs lent) (sym st.coded.names_are)) in
-      rw same (j.so g built)
+      rw same (j g built)

@@ -20,31 +20,31 @@ use Rattle.toggles.specs.Named.{first_wrong}
 use Rattle.edit_checking.specs.Fits.{first_unfit}
 use Rattle.edit_moments.specs.Edits.{edits_of}
 use Rattle.edit_mix.specs.Edits.{Answers, answers_of}
-use Rattle.job_run.specs.Ran.{ran_of}
-use Rattle.job_run.specs.declared.RunAnswer.TheVariants as answer
-use Rattle.job_run.proofs.Settled.{ran_of-same}
+use Rattle.outcome.specs.Refusing.{answered}
+use Rattle.outcome.proofs.Judging.{answered_same}
 use Rattle.job_edit.specs.Editing.{Lists, lending, editing, running_edited}
 use Rattle.job_edit.specs.Edited.{Edited}
 
-edit-settled : OnSheets Edited answer.Refused answer.Unfit
+edit-settled : OnSheets Edited refused unfit
 edit-settled =
-    on_sheets ran_of (λ v. length v.final) ran_of-same (λ k p. (refl, refl)) (λ o lent r after a. a.answer)
+    on_sheets (λ v. v) (λ v. length v.final) (λ r q e. e) (λ k p. (refl, refl)) (λ o lent r after a. a.answer)
     (λ o lent r after a i. record { roots = a.lists.roots_list i; counts = a.lists.counts_list i; labels = a.lists.labels_list i; edit_counts = a.lists.edit_counts_list i }) (λ k p lent. (refl, refl))
 
-pub edit_unique : Unique Edited
-edit_unique = edit-settled.own.unique
+-- Answers are known by what they say.
+pub edit_unique : Unique (λ o lent r after. Edited o lent (answered {A = ℕ} r) after)
+edit_unique = λ o lent r q after other a b. let u = edit-settled.own.unique o lent (answered {A = ℕ} r) (answered q) after other a b in (answered_same r q u.0, u.1)
 
-pub edit_refusal : Refusal Edited refused answer.Refused
+pub edit_refusal : Refusal Edited refused refused
 edit_refusal = edit-settled.own.refusal
 
-pub edit-refuses : Refuses Edited refused answer.Refused
+pub edit-refuses : Refuses Edited refused refused
 edit-refuses = edit-settled.own.refuses
 
 -- and of the fittings sheet
-pub edit-unfit : Refusal Edited unfit answer.Unfit
+pub edit-unfit : Refusal Edited unfit unfit
 edit-unfit = edit-settled.fittings.refusal
 
-pub edit_unfits : Refuses Edited unfit answer.Unfit
+pub edit_unfits : Refuses Edited unfit unfit
 edit_unfits = edit-settled.fittings.refuses
 
 -- No refusal has number 0.

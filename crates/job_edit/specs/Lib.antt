@@ -1,3 +1,2 @@
 pub mod Editing
 pub mod Edited
-pub mod Taken

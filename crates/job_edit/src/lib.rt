@@ -1,125 +1,67 @@
 // The job of a toggle run with edits: a root and a count for each toggle, the labels after the last, and a count for each edit, given to the caller's lists.
 #![tactic(auto)]
 
+ghost use Rattle.std.specs.Prelude.{◌≡◌, ◌<◌, ◌≤◌, ◌&&◌, length, eqb};
+ghost use Rattle.outcome.specs.Refusing.{answered};
+ghost use Rattle.formula.specs.Formula.{Formula};
 ghost use Rattle.sheet.specs.Sheet.{sheets_of};
-ghost use Rattle.job_edit.specs.Editing.{lists, running_edited};
+ghost use Rattle.edit_places.specs.Places.{Built, Buildable};
+ghost use Rattle.job_edit.specs.Editing.{lists, editing, running_edited};
 ghost use Rattle.job_edit.specs.Edited.{Edited};
-ghost use Rattle.edit_checking.specs.Asked.{Coded};
-ghost use Rattle.job_edit.specs.Taken.{Checks, Roomed, Asks};
 
-use accepting::Prepared;
-use job_run::RunAnswer;
+use contraction::{CODES, NODES, Records};
+use edits::EditLists;
 use labels::Size;
+use outcome::{Reason, Refusal, need, room};
 
-// Toggles and edits that are taken, or the refusal.
-#[derive(Drop)]
-enum Checked {
-    Taken,
-    Refused { number: u8, place: usize },
+fn equally_long(edits: EditLists<'_>) -> bool
+    ensures { let e = edits.entry in let many = length e.moments.now in result ≡ (eqb (length e.positions.now) many && eqb (length e.codes.now) many) }
+{
+    let many = edits.moments.len();
+    edits.positions.len() == many && edits.codes.len() == many
 }
 
-// Whether the edit lists are equally long, each toggle is a shape of the sheet, and each edit fits.
-fn check(
-    formula: &[u16; 2048],
-    n: usize,
+// Runs toggles and edits on the dwarf tree of a formula of these codes, where the edit lists are equally long, each toggle is a shape of the
+// sheet, each edit fits, and there is room in each answer list.
+#[tactic(auto, unfolding(crate::specs::Editing::editing, crate::specs::Editing::lending))]
+fn run_on(
+    formula: &[u16],
+    records: &mut Records,
+    size: Size,
     names: usize,
     toggles: &[u16],
-    moments: &[u64],
-    positions: &[u16],
-    codes: &[u16],
-) -> Checked
-    requires { Coded formula.now n }
-    ensures { Checks formula.now n names toggles.now moments.now positions.now codes.now result }
+    edits: EditLists<'_>,
+    roots: &mut [u8],
+    counts: &mut [u32],
+    labels: &mut [u8],
+    edit_counts: &mut [u32],
+) -> Result<usize, Refusal>
+    requires few { (length formula.now < CODES) × (names ≤ 256) }
+    requires buildable { let r = records.old in Buildable formula.now r.kinds r.firsts r.seconds size.leaves size.nodes }
+    ensures { let r = records.old in let e = edits.entry in let lent = lists roots.old counts.old labels.old edit_counts.old in
+        (g : Formula) → Built formula.now r.kinds r.firsts r.seconds size.leaves size.nodes g
+        → Edited (editing g names toggles.now e.moments.now e.positions.now e.codes.now lent) lent (answered result)
+        (lists roots.new counts.new labels.new edit_counts.new) }
 {
-    if positions.len() != moments.len() {
-        return Checked::Refused {
-            number: 13,
-            place: 0,
-        };
-    }
-    if codes.len() != moments.len() {
-        return Checked::Refused {
-            number: 13,
-            place: 0,
-        };
-    }
-    let wrong = toggle_run::first_wrong(toggles, names);
-    if wrong < toggles.len() {
-        return Checked::Refused {
-            number: 10,
-            place: wrong,
-        };
-    }
-    let most = toggles.len() as u64;
-    let unfit = edit_checking::first_unfit(formula, n, most, moments, positions, codes);
-    if unfit < moments.len() {
-        return Checked::Refused {
-            number: 20,
-            place: unfit,
-        };
-    }
-    Checked::Taken
-}
-
-// How many entries each answer list has.
-#[derive(Drop)]
-struct Room {
-    roots: usize,
-    counts: usize,
-    labels: usize,
-    edits: usize,
-}
-
-// Whether there is room in each list.
-fn ask_room(toggles: usize, nodes: usize, edits: usize, room: Room) -> Checked
-    ensures { Roomed toggles nodes edits room result }
-{
-    if room.roots < toggles {
-        return Checked::Refused {
-            number: 9,
-            place: toggles,
-        };
-    }
-    if room.counts < toggles {
-        return Checked::Refused {
-            number: 9,
-            place: toggles,
-        };
-    }
-    if room.labels < nodes {
-        return Checked::Refused {
-            number: 9,
-            place: nodes,
-        };
-    }
-    if room.edits < edits {
-        return Checked::Refused {
-            number: 9,
-            place: edits,
-        };
-    }
-    Checked::Taken
-}
-
-// Whether toggles and edits are taken on a tree of so many nodes, and then whether there is room for their answers.
-fn ask(
-    formula: &[u16; 2048],
-    n: usize,
-    names: usize,
-    nodes: usize,
-    toggles: &[u16],
-    moments: &[u64],
-    positions: &[u16],
-    codes: &[u16],
-    room: Room,
-) -> Checked
-    requires { Coded formula.now n }
-    ensures { Asks formula.now n names nodes toggles.now moments.now positions.now codes.now room result }
-{
-    match check(formula, n, names, toggles, moments, positions, codes) {
-        Checked::Refused { number, place } => Checked::Refused { number, place },
-        Checked::Taken => ask_room(toggles.len(), nodes, moments.len(), room),
-    }
+    need(equally_long(edits), Reason::LengthsDiffer, 0)?;
+    toggle_run::all_named(toggles, names)?;
+    edit_checking::all_fit(formula, toggles.len() as u64, edits)?;
+    room(toggles.len(), roots.len())?;
+    room(toggles.len(), counts.len())?;
+    room(size.nodes, labels.len())?;
+    room(edits.moments.len(), edit_counts.len())?;
+    edit_run::run_edited(
+        formula,
+        records,
+        size,
+        toggles,
+        edits,
+        roots,
+        counts,
+        labels,
+        edit_counts,
+    );
+    Ok(size.nodes)
 }
 
 // Runs toggles and edits on a sheet's tree, with every shape outside at first.
@@ -128,73 +70,37 @@ pub fn run_edited(
     fittings: &[u8],
     sheet: &[u8],
     toggles: &[u16],
-    moments: &[u64],
-    positions: &[u16],
-    codes: &[u16],
+    edits: EditLists<'_>,
     roots: &mut [u8],
     counts: &mut [u32],
     labels: &mut [u8],
     edit_counts: &mut [u32],
-) -> RunAnswer
-    ensures { Edited (running_edited (sheets_of fitted fittings.now sheet.now) toggles.now moments.now positions.now codes.now
-        (lists roots.old counts.old labels.old edit_counts.old))
-        (lists roots.old counts.old labels.old edit_counts.old) result
+) -> Result<usize, Refusal>
+    ensures { let e = edits.entry in let lent = lists roots.old counts.old labels.old edit_counts.old in
+        Edited (running_edited (sheets_of fitted fittings.now sheet.now) toggles.now e.moments.now e.positions.now e.codes.now lent) lent (answered result)
         (lists roots.new counts.new labels.new edit_counts.new) }
 {
-    let mut formula = [0u16; 2048];
-    let mut k = [0u16; 3072];
-    let mut f = [0u16; 3072];
-    let mut s = [0u16; 3072];
-    let room = Room {
-        roots: roots.len(),
-        counts: counts.len(),
-        labels: labels.len(),
-        edits: edit_counts.len(),
+    let mut formula = [0u16; CODES];
+    let mut records = Records {
+        kinds: [0; NODES],
+        firsts: [0; NODES],
+        seconds: [0; NODES],
     };
-    match accepting::prepare(
-        fitted,
-        fittings,
-        sheet,
-        &mut formula,
-        &mut k,
-        &mut f,
-        &mut s,
-    ) {
-        Prepared::Refused { number, place } => RunAnswer::Refused { number, place },
-        Prepared::Unfit { number, place } => RunAnswer::Unfit { number, place },
-        Prepared::Ready {
-            names,
-            codes: n,
-            built,
-        } => {
-            let size = Size {
-                leaves: built.leaves,
-                nodes: built.nodes,
-            };
-            match ask(
-                &formula, n, names, size.nodes, toggles, moments, positions, codes, room,
-            ) {
-                Checked::Refused { number, place } => RunAnswer::Refused { number, place },
-                Checked::Taken => {
-                    edit_run::run_edited(
-                        &formula,
-                        n,
-                        &mut k,
-                        &f,
-                        &s,
-                        size,
-                        toggles,
-                        moments,
-                        positions,
-                        codes,
-                        roots,
-                        counts,
-                        labels,
-                        edit_counts,
-                    );
-                    RunAnswer::Ran { nodes: size.nodes }
-                }
-            }
-        }
-    }
+    let prepared = accepting::prepare(fitted, fittings, sheet, &mut formula, &mut records)?;
+    let size = Size {
+        leaves: prepared.built.leaves,
+        nodes: prepared.built.nodes,
+    };
+    run_on(
+        &formula[..prepared.codes],
+        &mut records,
+        size,
+        prepared.names,
+        toggles,
+        edits,
+        roots,
+        counts,
+        labels,
+        edit_counts,
+    )
 }

@@ -6,15 +6,16 @@ use mathlib.Core.Path.{◌≡◌, refl, sym, ap, ◌∙◌}
 use mathlib.Core.Bool.{Bool, true, false, cond, ◌||◌}
 use mathlib.Core.List.{List, [], ◌∷◌, ◌++◌}
 use lib.ListN.{length, get_or, take, drop, length-drop}
-use lib.Seq.{take-suc}
+use lib.Seq.{take-suc, take_all}
 use lib.Dec.{eqb}
 use borrow.Author.Tests.{eq-eqb, ne_eqb}
+use Rattle.std.specs.Prelude.{Some, None}
 use Rattle.formula.specs.Formula.{exclusive, code, Formula, leaf, node, postfix, prefix}
 use Rattle.sheet.specs.Sheet.{two_bytes_at, codes_of, codes_in}
 use Rattle.sheet.proofs.Codes.{length-codes_of}
 use Rattle.sheet_codes.proofs.CodeSteps.{codes_more}
 use Rattle.job_move.specs.Moving.{has_exclusive, before_exclusive}
-use Rattle.job_move.specs.Putting.{one_exclusive, many_exclusive, Among}
+use Rattle.job_move.specs.Putting.{one_exclusive, many_exclusive, first_exclusive}
 
 -- ---- it is among codes exactly if not all of them stand before it
 
@@ -22,6 +23,14 @@ none_by : (cs : List ℕ) (b : Bool) → (length cs ≤ before_exclusive cs → 
     → suc (length cs) ≤ elim b [ true ↦ 0 | false ↦ suc (before_exclusive cs) ] → (b || has_exclusive cs) ≡ false
 none_by cs true ih h = absurd (omega (arith, h))
 none_by cs false ih h = ih (omega (arith, h))
+
+pub some_of : (b : Bool) (i k : ℕ) → Some i ≡ cond b (Some k) None → (b ≡ true) × (i ≡ k)
+some_of true i k e = (refl, cc e)
+some_of false i k e = let q : ◌≡◌ {A = ℕ} 0 1 = cc e in absurd (omega (arith, q))
+
+pub none_of : (b : Bool) (k : ℕ) → None ≡ cond b (Some k) None → b ≡ false
+none_of true k e = let q : ◌≡◌ {A = ℕ} 0 1 = cc e in absurd (omega (arith, q))
+none_of false k e = refl
 
 pub has-none : (cs : List ℕ) → length cs ≤ before_exclusive cs → has_exclusive cs ≡ false
 unfolding has_exclusive before_exclusive
@@ -101,14 +110,8 @@ unfolding many_exclusive before_exclusive
 before-none [] e = refl
 before-none (c ∷ cs) e = before_by cs (eqb c (code exclusive)) (before-none cs) e
 
-pub none_among : (codes : List ℕ) (n many : ℕ) → Among codes n many → many ≡ 0 → has_exclusive (take n codes) ≡ false
-none_among codes n many a e = has-none (take n codes) (omega (arith, before-none (take n codes) (sym a.are ∙ e)))
-
-pub counted_one : (c : ℕ) → c ≡ 0xFFF3 → 1 ≡ one_exclusive c
-counted_one c e = rw (eq-eqb c 0xFFF3 e)
-
-pub counted_other : (c : ℕ) → (c ≡ 0xFFF3 → ⊥) → 0 ≡ one_exclusive c
-counted_other c e = rw (ne_eqb c 0xFFF3 e)
+pub none_among : (cs : List ℕ) → many_exclusive cs ≡ 0 → has_exclusive cs ≡ false
+none_among cs e = has-none cs (omega (arith, before-none cs e))
 
 one_most : (b : Bool) → cond b 1 0 ≤ 1
 one_most true = omega arith
@@ -116,56 +119,72 @@ one_most false = omega arith
 
 -- So many of the first i codes are counted.
 pub record Counted (codes : List ℕ) (i many : ℕ) : Type 0 where
-  pub among : Among codes i many
+  pub are : many ≡ many_exclusive (take i codes)
   pub most : many ≤ i
 
 pub counted_none : (codes : List ℕ) → Counted codes 0 0
 unfolding many_exclusive
-counted_none codes = record { among = record { are = refl }; most = omega arith }
+counted_none codes = record { are = refl; most = omega arith }
 
-module _ (codes : List ℕ) (n i many c one : ℕ) (so : Counted codes i many) (is : c ≡ get_or codes i 0) (e : one ≡ one_exclusive c) (more : i < n) (few : n ≤ 2048) where
-  pub counted_fits : many + one < 2 ^ 16
-  counted_fits = omega (arith, so.most, e, one_most (eqb c (code exclusive)))
+module _ (codes : List ℕ) (i many one : ℕ) (so : Counted codes i many) (e : one ≡ one_exclusive (get_or codes i 0)) (more : i < length codes) where
+  pub counted_fits : length codes ≤ 2048 → many + one < 2 ^ 16
+  counted_fits few = omega (arith, so.most, e, one_most (eqb (get_or codes i 0) (code exclusive)))
 
-  pub counted_more : length codes ≡ 2048 → Counted codes (i + 1) (many + one)
-  counted_more sized =
-      let t : take (i + 1) codes ≡ take i codes ++ (c ∷ []) = ap (λ (k : ℕ). take k codes) (add-one i) ∙ take-suc codes i 0 (omega arith) ∙ ap (λ (x : ℕ). take i codes ++ (x ∷ [])) (sym is) in
+  pub counted_more : Counted codes (i + 1) (many + one)
+  counted_more =
+      let c = get_or codes i 0 in
+      let t : take (i + 1) codes ≡ take i codes ++ (c ∷ []) = ap (λ (k : ℕ). take k codes) (add-one i) ∙ take-suc codes i 0 more in
       record {
-        among = record { are = omega (arith, so.among.are, e, many_append (take i codes) c) ∙ ap many_exclusive (sym t) };
+        are = omega (arith, so.are, e, many_append (take i codes) c) ∙ ap many_exclusive (sym t);
         most = omega (arith, so.most, e, one_most (eqb c (code exclusive)));
       }
 
-pub counted_all : (codes : List ℕ) (n i many : ℕ) → Counted codes i many → i ≤ n → n ≤ i → Among codes n many
-counted_all codes n i many so l h = let e : i ≡ n = omega arith in rw (← e) so.among
+pub counted_all : (codes : List ℕ) (i many : ℕ) → Counted codes i many → length codes ≤ i → many ≡ many_exclusive codes
+counted_all codes i many so h = so.are ∙ ap many_exclusive (take_all i codes h)
 
 -- ---- the first one, among a formula's bytes
 
 -- What is left decides.
 pub record Looked (bytes : List ℕ) (i : ℕ) : Type 0 where
+  pub has : has_exclusive (codes_of bytes) ≡ has_exclusive (codes_of (drop (2 * i) bytes))
   pub whole : before_exclusive (codes_of bytes) ≡ i + before_exclusive (codes_of (drop (2 * i) bytes))
 
 pub looked_none : (bytes : List ℕ) → Looked bytes 0
-looked_none bytes = record { whole = omega arith }
+looked_none bytes = record { has = refl; whole = omega arith }
 
 module _ (bytes : List ℕ) (i : ℕ) (so : Looked bytes i) where
   module _ (c : ℕ) (is : c ≡ two_bytes_at bytes (2 * i)) (more : i < length bytes / 2) where
     one_more : codes_of (drop (2 * i) bytes) ≡ c ∷ codes_of (drop (2 * i + 2) bytes)
     one_more = codes_more bytes (2 * i) (omega arith) ∙ rw (← is)
 
-    pub looked_here : c ≡ 0xFFF3 → i ≡ before_exclusive (codes_of bytes)
-    unfolding before_exclusive
-    looked_here e =
+    pub looked_here : (x : ℕ) → x ≡ 0xFFF3 → c ≡ x → Some i ≡ first_exclusive (codes_of bytes)
+    unfolding has_exclusive before_exclusive
+    looked_here x f d =
+        let e : c ≡ 0xFFF3 = d ∙ f in
+        let has : has_exclusive (codes_of (drop (2 * i) bytes)) ≡ true = ap has_exclusive one_more ∙ rw (eq-eqb c 0xFFF3 e, has_exclusive) in
         let here : before_exclusive (codes_of (drop (2 * i) bytes)) ≡ 0 = ap before_exclusive one_more ∙ rw (eq-eqb c 0xFFF3 e, before_exclusive) in
-        omega (arith, so.whole, here)
+        let at-i : before_exclusive (codes_of bytes) ≡ i = omega (arith, so.whole, here) in
+        rw (so.has ∙ has, at-i) refl
 
-    pub looked_more : (c ≡ 0xFFF3 → ⊥) → Looked bytes (i + 1)
-    unfolding before_exclusive
-    looked_more e =
+    pub looked_more : (x : ℕ) → x ≡ 0xFFF3 → (c ≡ x → ⊥) → Looked bytes (i + 1)
+    unfolding has_exclusive before_exclusive
+    looked_more x f d =
+        let e : c ≡ 0xFFF3 → ⊥ = λ q. d (q ∙ sym f) in
         let next : 2 * (i + 1) ≡ 2 * i + 2 = omega arith in
+        let has : has_exclusive (codes_of (drop (2 * i) bytes)) ≡ has_exclusive (codes_of (drop (2 * i + 2) bytes)) = ap has_exclusive one_more ∙ rw (ne_eqb c 0xFFF3 e, has_exclusive) in
         let here : before_exclusive (codes_of (drop (2 * i) bytes)) ≡ suc (before_exclusive (codes_of (drop (2 * i + 2) bytes))) = ap before_exclusive one_more ∙ rw (ne_eqb c 0xFFF3 e, before_exclusive) in
-        record { whole = rw next (omega (arith, so.whole, here)) }
+        record { has = rw next (so.has ∙ has); whole = rw next (omega (arith, so.whole, here)) }
 
-  pub looked_all : length bytes / 2 ≤ i → i ≡ before_exclusive (codes_of bytes)
+  pub looked_all : length bytes / 2 ≤ i → None ≡ first_exclusive (codes_of bytes)
   looked_all done =
       let rest = drop (2 * i) bytes in
-      omega (arith, so.whole, before_most (codes_of rest), length-codes_of rest, length-drop (2 * i) bytes)
+      let no : has_exclusive (codes_of rest) ≡ false = has-none (codes_of rest) (omega (arith, length-codes_of rest, length-drop (2 * i) bytes)) in
+      rw (so.has ∙ no) refl
+
+-- ---- what its answer says
+
+pub first_none : (cs : List ℕ) → None ≡ first_exclusive cs → has_exclusive cs ≡ false
+first_none cs e = none_of (has_exclusive cs) (before_exclusive cs) e
+
+pub first_some : (cs : List ℕ) (i : ℕ) → Some i ≡ first_exclusive cs → (has_exclusive cs ≡ true) × (i ≡ before_exclusive cs)
+first_some cs i e = some_of (has_exclusive cs) i (before_exclusive cs) e

@@ -30,23 +30,23 @@ put_after front rest bytes first k room =
     ∙ ap (λ (xs : List ℕ). (xs ++ bytes) ++ drop (first + length bytes) (front ++ rest)) (take_at front rest first k)
     ∙ ap (λ (xs : List ℕ). (front ++ bytes) ++ xs) (ap (λ (i : ℕ). drop (i + length bytes) (front ++ rest)) (sym k) ∙ drop-append-add front rest (length bytes))
 
-module _ (s codes : List ℕ) (n : ℕ) (r : Sheet) (h : Held s codes n r) where
-  pub many : length (postfix r.formula) ≡ n
-  many = sym (h.stand.all ∙ length-codes_in (other r.edition) r.formula)
+module _ (s codes : List ℕ) (r : Sheet) (h : Held s codes r) where
+  pub many : length (postfix r.formula) ≡ length codes
+  many = sym (ap length h.are ∙ length-codes_in (other r.edition) r.formula)
 
   formula_long : length (between s r.first r.past) ≡ r.past - r.first
   formula_long = length-take (r.past - r.first) (drop r.first s) ∙ rw (length-drop r.first s, h.own.ends) (omega arith)
 
-  all_codes : r.past - r.first ≡ 2 * n
+  all_codes : r.past - r.first ≡ 2 * length codes
   all_codes =
       let e = codes_long (between s r.first r.past) (rw formula_long h.own.even) in
-      let c : length (codes_of (between s r.first r.past)) ≡ n = ap length h.own.codes_are ∙ length-codes_in r.edition r.formula ∙ many in
+      let c : length (codes_of (between s r.first r.past)) ≡ length codes = ap length h.own.codes_are ∙ length-codes_in r.edition r.formula ∙ many in
       omega (arith, e, c, formula_long)
 
-  pub first_is : length s - 2 * n ≡ r.first
+  pub first_is : length s - 2 * length codes ≡ r.first
   first_is = omega (arith, all_codes, h.own.ends, h.own.some_bytes)
 
-  pub enough : 2 * n ≤ length s
+  pub enough : 2 * length codes ≤ length s
   enough = omega (arith, all_codes, h.own.ends)
 
   eight : 8 ≤ r.first
@@ -61,7 +61,7 @@ module _ (s codes : List ℕ) (n : ℕ) (r : Sheet) (h : Held s codes n r) where
       let begin : length front ≡ r.first = length-take-le r.first s (omega (arith, h.own.ends, h.own.some_bytes)) in
       let heads = set (set front 4 (other r.edition)) (r.first - 3) (formula_tag (other r.edition)) in
       let heads_long : length heads ≡ r.first = length-set (set front 4 (other r.edition)) (r.first - 3) (formula_tag (other r.edition)) ∙ length-set front 4 (other r.edition) ∙ begin in
-      let bytes_long : length bytes ≡ 2 * n = length-code_bytes (codes_in (other r.edition) r.formula) ∙ ap (λ (i : ℕ). 2 * i) (length-codes_in (other r.edition) r.formula ∙ many) in
+      let bytes_long : length bytes ≡ 2 * length codes = length-code_bytes (codes_in (other r.edition) r.formula) ∙ ap (λ (i : ℕ). 2 * i) (length-codes_in (other r.edition) r.formula ∙ many) in
       length-append heads bytes ∙ omega (arith, heads_long, bytes_long, first_is, enough)
 
   -- what is written is the move
@@ -78,7 +78,7 @@ module _ (s codes : List ℕ) (n : ℕ) (r : Sheet) (h : Held s codes n r) where
       let begin : length front ≡ r.first = length-take-le r.first s (omega (arith, h.own.ends, h.own.some_bytes)) in
       let heads = set (set front 4 (3 - r.edition)) (r.first - 3) (5 - r.edition) in
       let heads_long : length heads ≡ r.first = length-set (set front 4 (3 - r.edition)) (r.first - 3) (5 - r.edition) ∙ length-set front 4 (3 - r.edition) ∙ begin in
-      let bytes_long : length bytes ≡ 2 * n = length-code_bytes (codes_in (other r.edition) r.formula) ∙ ap (λ (i : ℕ). 2 * i) (length-codes_in (other r.edition) r.formula ∙ many) in
+      let bytes_long : length bytes ≡ 2 * length codes = length-code_bytes (codes_in (other r.edition) r.formula) ∙ ap (λ (i : ℕ). 2 * i) (length-codes_in (other r.edition) r.formula ∙ many) in
       let rest = drop (length front) old in
       let rest-long : length rest ≡ length old - length front = length-drop (length front) old in
       let fits : length bytes ≤ length rest = omega (arith, bytes_long, rest-long, begin, all_codes, h.own.ends, room) in
@@ -94,43 +94,54 @@ edition_is edition one low high = omega arith
 
 -- ---- give_moved
 
-module _ (s codes : List ℕ) (n : ℕ) (lent : List ℕ) (m : Movable s codes n lent) where
-  held : Held s codes n m.sheet
+module _ (s codes lent : List ℕ) (m : Movable s codes lent) where
+  held : Held s codes m.sheet
   held = m.held
 
-  pub codes-enough : 2 * n ≤ length s
-  codes-enough = enough s codes n m.sheet held
+  pub codes-enough : 2 * length codes ≤ length s
+  codes-enough = enough s codes m.sheet held
 
-  first-within : length s - 2 * n ≤ length s
+  first-within : length s - 2 * length codes ≤ length s
   first-within = omega arith
 
-  first-room : length s - 2 * n ≤ length lent
+  first-room : length s - 2 * length codes ≤ length lent
   first-room = omega (arith, m.room)
 
-  pub tag_there : 3 ≤ length s - 2 * n
-  tag_there = omega (arith, eight s codes n m.sheet held, first_is s codes n m.sheet held)
+  pub tag_there : 3 ≤ length s - 2 * length codes
+  tag_there = omega (arith, eight s codes m.sheet held, first_is s codes m.sheet held)
 
-  module _ (one : List ℕ) (copied : one ≡ filled (take (length s - 2 * n) s) lent) where
+  module _ (copy : List ℕ) (copied : copy ≡ take (length s - 2 * length codes) s) where
+    abbrev one : List ℕ
+    one = copy ++ drop (length s - 2 * length codes) lent
+
+    front_long : length (take (length s - 2 * length codes) s) ≡ length s - 2 * length codes
+    front_long = length-take-le (length s - 2 * length codes) s first-within
+
+    one_is : one ≡ filled (take (length s - 2 * length codes) s) lent
+    one_is =
+        ap (λ (xs : List ℕ). xs ++ drop (length s - 2 * length codes) lent) copied
+        ∙ ap (λ (k : ℕ). take (length s - 2 * length codes) s ++ drop k lent) (sym front_long)
+
     one_long : length one ≡ length lent
     one_long =
-        let f = length-take-le (length s - 2 * n) s first-within in
-        ap length copied ∙ length-append (take (length s - 2 * n) s) (drop (length (take (length s - 2 * n) s)) lent)
-        ∙ rw (length-drop (length (take (length s - 2 * n) s)) lent, f) (omega (arith, first-room))
+        length-append copy (drop (length s - 2 * length codes) lent)
+        ∙ rw (length-drop (length s - 2 * length codes) lent, ap length copied, front_long) (omega (arith, first-room))
 
-    pub tag_room : (x : ℕ) → length s - 2 * n - 3 < length (set one 4 x)
+    pub tag_room : (x : ℕ) → length s - 2 * length codes - 3 < length (set one 4 x)
     tag_room x = omega (arith, length-set one 4 x, one_long, tag_there, first-room)
 
-    pub codes_fit : (x y : ℕ) → length s - 2 * n + 2 * n ≤ length (set (set one 4 x) (length s - 2 * n - 3) y)
-    codes_fit x y = omega (arith, length-set (set one 4 x) (length s - 2 * n - 3) y, length-set one 4 x, one_long, codes-enough, m.room)
+    pub codes_fit : (x y : ℕ) → length s - 2 * length codes + 2 * length codes ≤ length (set (set one 4 x) (length s - 2 * length codes - 3) y)
+    codes_fit x y = omega (arith, length-set (set one 4 x) (length s - 2 * length codes - 3) y, length-set one 4 x, one_long, codes-enough, m.room)
 
-    pub moved_same : (x y : ℕ) (new : List ℕ) → new ≡ sets (set (set one 4 x) (length s - 2 * n - 3) y) (length s - 2 * n) (code_bytes (take n codes)) → length new ≡ length lent
+    pub moved_same : (x y : ℕ) (new : List ℕ) → new ≡ sets (set (set one 4 x) (length s - 2 * length codes - 3) y) (length s - 2 * length codes) (code_bytes (codes)) → length new ≡ length lent
     moved_same x y new put =
-        ap length put ∙ length-sets (set (set one 4 x) (length s - 2 * n - 3) y) (length s - 2 * n) (code_bytes (take n codes)) ∙ length-set (set one 4 x) (length s - 2 * n - 3) y ∙ length-set one 4 x ∙ one_long
+        ap length put ∙ length-sets (set (set one 4 x) (length s - 2 * length codes - 3) y) (length s - 2 * length codes) (code_bytes (codes)) ∙ length-set (set one 4 x) (length s - 2 * length codes - 3) y ∙ length-set one 4 x ∙ one_long
 
-    pub all_moved : (new : List ℕ) → new ≡ sets (set (set one 4 (3 - get_or s 4 0)) (length s - 2 * n - 3) (5 - get_or s 4 0)) (length s - 2 * n) (code_bytes (take n codes)) → MovedTo s codes n lent new
+    pub all_moved : (new : List ℕ) → new ≡ sets (set (set one 4 (3 - get_or s 4 0)) (length s - 2 * length codes - 3) (5 - get_or s 4 0)) (length s - 2 * length codes) (code_bytes (codes)) → MovedTo s codes lent new
     all_moved new put =
         record {
           are = λ r h.
-              let laid : take n codes ≡ codes_in (other (get_or s 4 0)) r.formula = h.stand.are ∙ ap (λ (e : ℕ). codes_in (other e) r.formula) (sym h.own.said) in
-              written s codes n r h (length s - 2 * n) (get_or s 4 0) lent one new (first_is s codes n r h) h.own.said m.room copied (rw laid at put);
+              let laid : codes ≡ codes_in (other (get_or s 4 0)) r.formula = h.are ∙ ap (λ (e : ℕ). codes_in (other e) r.formula) (sym h.own.said) in
+              written s codes r h (length s - 2 * length codes) (get_or s 4 0) lent one new (first_is s codes r h) h.own.said m.room one_is
+              (put ∙ ap (λ (cs : List ℕ). sets (set (set one 4 (3 - get_or s 4 0)) (length s - 2 * length codes - 3) (5 - get_or s 4 0)) (length s - 2 * length codes) (code_bytes cs)) laid);
         }

@@ -1,12 +1,12 @@
 -- What the functions of the move promise each other.
-use Rattle.std.specs.Prelude.{ℕ, ◌+◌, ◌*◌, ◌≤◌, ◌<◌, ◌≡◌, true, false, cond, List, [], ◌∷◌, length, take, eqb}
+use Rattle.std.specs.Prelude.{ℕ, ◌+◌, ◌*◌, ◌≤◌, ◌≡◌, cond, Option, Some, None, List, [], ◌∷◌, length, eqb}
 use Rattle.outcome.specs.Outcome.{given}
 use Rattle.outcome.specs.Lent.{filled}
 use Rattle.formula.specs.Formula.{exclusive, first_operation, code, Formula, Over}
 use Rattle.sheet.specs.Sheet.{Sheet, codes_of, formula_in, codes_in}
 use Rattle.sheet.specs.Guaranteed.{Own}
 use Rattle.sheet_codes.specs.Codes.{CodesStand}
-use Rattle.job_move.specs.Moving.{other, moved, before_exclusive, codes_of_sheet, out_of_use}
+use Rattle.job_move.specs.Moving.{other, moved, has_exclusive, before_exclusive, codes_of_sheet, out_of_use}
 
 -- The bytes are the formula's codes in the order of edition 1 or 2.
 pub record Gives (edition names : ℕ) (bytes : List ℕ) (f : Formula) : Type 0 where
@@ -26,37 +26,36 @@ pub record OtherCodes (edition names : ℕ) (bytes codes : List ℕ) (n : ℕ) :
 abbrev pub one_exclusive : ℕ → ℕ
 one_exclusive c = cond (eqb c (code exclusive)) 1 0
 
--- So many of the first n codes are 0xFFF3.
+-- How many of them are 0xFFF3.
 unfoldable pub many_exclusive : List ℕ → ℕ
 many_exclusive [] = 0
 many_exclusive (c ∷ cs) = one_exclusive c + many_exclusive cs
 
-pub record Among (codes : List ℕ) (n many : ℕ) : Type 0 where
-  pub are : many ≡ many_exclusive (take n codes)
+-- The index of the first one, if there is one.
+abbrev pub first_exclusive : List ℕ → Option ℕ
+first_exclusive cs = cond (has_exclusive cs) (Some (before_exclusive cs)) None
 
 -- ---- a sheet that is read, given in the other edition
 
--- The sheet is read as r, and the first n codes are those of the other edition.
-pub record Held (s codes : List ℕ) (n : ℕ) (r : Sheet) : Type 0 where
+-- The sheet is read as r, and the codes are those of the other edition.
+pub record Held (s codes : List ℕ) (r : Sheet) : Type 0 where
   pub fittings : List (List ℕ)
   pub own : Own fittings s r
-  pub few : n ≤ 2047
-  pub stand : CodesStand (codes_in (other r.edition) r.formula) codes n
+  pub few : length codes ≤ 2047
+  pub are : codes ≡ codes_in (other r.edition) r.formula
 
-pub record Holding (s codes : List ℕ) (n : ℕ) : Type 0 where
+pub record Holding (s codes : List ℕ) : Type 0 where
   pub sheet : Sheet
-  pub held : Held s codes n sheet
+  pub held : Held s codes sheet
 
--- The offset of the first 0xFFF3 of a sheet of edition 1, or the sheet's length.
-pub record UsedAt (s codes : List ℕ) (n at : ℕ) : Type 0 where
-  pub none : (r : Sheet) → Held s codes n r → length s ≤ at → out_of_use r ≡ false
-  pub some : (r : Sheet) → Held s codes n r → at < length s → out_of_use r ≡ true
-  pub place : (r : Sheet) → Held s codes n r → at < length s → at ≡ r.first + 2 * before_exclusive (codes_of_sheet r)
+-- The offset of the first 0xFFF3 of a sheet of edition 1, if there is one.
+pub record UsedAt (s codes : List ℕ) (at : Option ℕ) : Type 0 where
+  pub is : (r : Sheet) → Held s codes r → at ≡ cond (out_of_use r) (Some (r.first + 2 * before_exclusive (codes_of_sheet r))) None
 
-pub record Movable (s codes : List ℕ) (n : ℕ) (lent : List ℕ) : Type 0 where
+pub record Movable (s codes lent : List ℕ) : Type 0 where
   pub sheet : Sheet
-  pub held : Held s codes n sheet
+  pub held : Held s codes sheet
   pub room : length s ≤ length lent
 
-pub record MovedTo (s codes : List ℕ) (n : ℕ) (old new : List ℕ) : Type 0 where
-  pub are : (r : Sheet) → Held s codes n r → new ≡ filled (moved s r) old
+pub record MovedTo (s codes old new : List ℕ) : Type 0 where
+  pub are : (r : Sheet) → Held s codes r → new ≡ filled (moved s r) old

@@ -18,8 +18,11 @@ use Rattle.sheet.proofs.Names.{GoodNames-none, walk_end_more}
 use Rattle.job_name.specs.Naming.{naming, Stand, stand, field_in, stand_of, placing, bytes_of}
 use Rattle.job_name.specs.Named.{placed_of, bytes_given}
 use Rattle.job_name.specs.Within.{Within, StandsIn, part_of}
-use Rattle.job_name.specs.declared.NameAnswer.{NameAnswer}
-use Rattle.job_name.specs.declared.NameAnswer.TheVariants as answer
+use Rattle.std.specs.Prelude.{Result, Ok, Err}
+use Rattle.outcome.specs.declared.Refusal.{Refusal}
+use Rattle.outcome.specs.declared.Refusal.TheVariants as refusal
+use Rattle.job_name.specs.declared.Place.{Place}
+use Rattle.job_name.specs.declared.Place.TheVariants as place
 use Rattle.job_name.proofs.Walking.{walk_rises}
 use Rattle.job_name.proofs.Bytes.{name_stands}
 use Rattle.job_name.proofs.Placing.{own_end, own-all}
@@ -94,62 +97,53 @@ either_own : (f s : List ℕ) (a e : ℕ) → FittingStand f (stand 2 a e) ⊎ O
 either_own f s a e (inl o) = let h = o.is in let d : ◌≡◌ {A = ℕ} 2 1 = cc h in absurd (omega arith)
 either_own f s a e (inr o) = own-own s a e o
 
-pub stands_in : (b : Bool) (f s : List ℕ) (k : ℕ) (r : NameAnswer) → placed_of r ≡ placing (sheets_of b f s) k → StandsIn f s r
-stands_in true f s k (answer.Fitting a e) h = either_fitting f s a e (pair-given f s k (stand 1 a e) (fitting_names f) refl (sym h))
-stands_in true f s k (answer.Own a e) h = either_own f s a e (pair-given f s k (stand 2 a e) (fitting_names f) refl (sym h))
-stands_in true f s k (answer.Refused n p) h = tt
-stands_in true f s k (answer.Unfit n p) h = tt
-stands_in false f s k (answer.Fitting a e) h = own_fitting f s a e (alone-given s k (stand 1 a e) (sym h))
-stands_in false f s k (answer.Own a e) h = own-own s a e (alone-given s k (stand 2 a e) (sym h))
-stands_in false f s k (answer.Refused n p) h = tt
-stands_in false f s k (answer.Unfit n p) h = tt
+pub stands_in : (b : Bool) (f s : List ℕ) (k : ℕ) (r : Result Place Refusal) → placed_of r ≡ placing (sheets_of b f s) k → StandsIn f s r
+stands_in true f s k (Ok (place.Fitting a e)) h = either_fitting f s a e (pair-given f s k (stand 1 a e) (fitting_names f) refl (sym h))
+stands_in true f s k (Ok (place.Own a e)) h = either_own f s a e (pair-given f s k (stand 2 a e) (fitting_names f) refl (sym h))
+stands_in true f s k (Err e) h = tt
+stands_in false f s k (Ok (place.Fitting a e)) h = own_fitting f s a e (alone-given s k (stand 1 a e) (sym h))
+stands_in false f s k (Ok (place.Own a e)) h = own-own s a e (alone-given s k (stand 2 a e) (sym h))
+stands_in false f s k (Err e) h = tt
 
 -- the bytes of the part are the name's
-part_bytes : (b : Bool) (f s : List ℕ) (r : NameAnswer) → StandsIn f s r → (k : ℕ) → placed_of r ≡ placing (sheets_of b f s) k → part_of f s r ≡ bytes_given (part (bytes_of (sheets_of b f s)) (placed_of r))
-part_bytes true f s (answer.Fitting a e) i k h = refl
-part_bytes true f s (answer.Own a e) i k h = refl
-part_bytes true f s (answer.Refused n p) i k h = refl
-part_bytes true f s (answer.Unfit n p) i k h = refl
-part_bytes false f s (answer.Fitting a e) i k h = let o = alone-given s k (stand 1 a e) (sym h) in let g = o.is in let d : ◌≡◌ {A = ℕ} 1 2 = cc g in absurd (omega arith)
-part_bytes false f s (answer.Own a e) i k h = refl
-part_bytes false f s (answer.Refused n p) i k h = refl
-part_bytes false f s (answer.Unfit n p) i k h = refl
+part_bytes : (b : Bool) (f s : List ℕ) (r : Result Place Refusal) → StandsIn f s r → (k : ℕ) → placed_of r ≡ placing (sheets_of b f s) k → part_of f s r ≡ bytes_given (part (bytes_of (sheets_of b f s)) (placed_of r))
+part_bytes true f s (Ok (place.Fitting a e)) i k h = refl
+part_bytes true f s (Ok (place.Own a e)) i k h = refl
+part_bytes true f s (Err (refusal.Refused n)) i k h = refl
+part_bytes true f s (Err (refusal.Unfit n)) i k h = refl
+part_bytes false f s (Ok (place.Fitting a e)) i k h = let o = alone-given s k (stand 1 a e) (sym h) in let g = o.is in let d : ◌≡◌ {A = ℕ} 1 2 = cc g in absurd (omega arith)
+part_bytes false f s (Ok (place.Own a e)) i k h = refl
+part_bytes false f s (Err (refusal.Refused n)) i k h = refl
+part_bytes false f s (Err (refusal.Unfit n)) i k h = refl
 
-pub name-given : (b : Bool) (f s : List ℕ) (k : ℕ) (r : NameAnswer) → placed_of r ≡ placing (sheets_of b f s) k → (x : List ℕ) → x ≡ part_of f s r → x ≡ bytes_given (naming (sheets_of b f s) k)
+pub name-given : (b : Bool) (f s : List ℕ) (k : ℕ) (r : Result Place Refusal) → placed_of r ≡ placing (sheets_of b f s) k → (x : List ℕ) → x ≡ part_of f s r → x ≡ bytes_given (naming (sheets_of b f s) k)
 name-given b f s k r h x is =
     is ∙ part_bytes b f s r (stands_in b f s k r h) k h ∙ ap (λ (o : Outcome Stand). bytes_given (part (bytes_of (sheets_of b f s)) o)) h
     ∙ ap bytes_given (sym (name_stands (sheets_of b f s) k))
 
 -- ---- the part itself, by the answer
 
-module _ (f s : List ℕ) (r : NameAnswer) (i : StandsIn f s r) (a e : ℕ) where
-  fitting_there : r ≡ answer.Fitting a e → Within f a e
-  fitting_there is = rw is at i
+module _ (f s : List ℕ) (r : Result Place Refusal) (i : StandsIn f s r) (v : Place) (ok : r ≡ Ok v) (a e : ℕ) where
+  fitting_there : v ≡ place.Fitting a e → Within f a e
+  fitting_there is = rw (ok, is) at i
 
-  own_there : r ≡ answer.Own a e → Within s a e
-  own_there is = rw is at i
+  own_there : v ≡ place.Own a e → Within s a e
+  own_there is = rw (ok, is) at i
 
-  pub fitting_ordered : r ≡ answer.Fitting a e → a ≤ e
+  pub fitting_ordered : v ≡ place.Fitting a e → a ≤ e
   fitting_ordered is = (fitting_there is).ordered
 
-  pub fitting_inside : r ≡ answer.Fitting a e → e ≤ length f
+  pub fitting_inside : v ≡ place.Fitting a e → e ≤ length f
   fitting_inside is = (fitting_there is).inside
 
-  pub fitting_part : r ≡ answer.Fitting a e → between f a e ≡ part_of f s r
-  fitting_part is = rw is
+  pub fitting_part : v ≡ place.Fitting a e → between f a e ≡ part_of f s r
+  fitting_part is = rw (ok, is)
 
-  pub own-ordered : r ≡ answer.Own a e → a ≤ e
+  pub own-ordered : v ≡ place.Own a e → a ≤ e
   own-ordered is = (own_there is).ordered
 
-  pub own-inside : r ≡ answer.Own a e → e ≤ length s
+  pub own-inside : v ≡ place.Own a e → e ≤ length s
   own-inside is = (own_there is).inside
 
-  pub own-part : r ≡ answer.Own a e → between s a e ≡ part_of f s r
-  own-part is = rw is
-
-module _ (f s : List ℕ) (r : NameAnswer) (n p : ℕ) where
-  pub no_part : r ≡ answer.Refused n p → [] ≡ part_of f s r
-  no_part is = rw is
-
-  pub no_part-unfit : r ≡ answer.Unfit n p → [] ≡ part_of f s r
-  no_part-unfit is = rw is
+  pub own-part : v ≡ place.Own a e → between s a e ≡ part_of f s r
+  own-part is = rw (ok, is)

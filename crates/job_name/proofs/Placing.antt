@@ -14,10 +14,13 @@ use Rattle.sheet.specs.Walk.{walk_end, walk_names}
 use Rattle.sheet.specs.Guaranteed.{Own, Fitted}
 use Rattle.sheet.proofs.Guaranteed.{own_guaranteed, fitted}
 use Rattle.sheet.proofs.Names.{GoodNames-none, walk_length, walk_on}
-use Rattle.sheet_reading.specs.Reading.{told, answer_of}
-use Rattle.sheet_reading.specs.declared.ReadAnswer.{ReadAnswer}
-use Rattle.sheet_reading.specs.declared.ReadAnswer.TheVariants as read
-use Rattle.sheet_reading.proofs.Settled.{read_refusal, read-unfit}
+use Rattle.std.specs.Prelude.{Err}
+use Rattle.outcome.specs.Refusing.{answered}
+use Rattle.outcome.specs.declared.Refusal.{Refusal}
+use Rattle.outcome.specs.declared.Refusal.TheVariants as refusal
+use Rattle.sheet_reading.specs.Reading.{told}
+use Rattle.sheet_reading.specs.declared.Read.{Read}
+use Rattle.sheet_reading.proofs.Settled.{read_err}
 use Rattle.sheet_reading.proofs.Told.{read_known}
 use Rattle.job_name.specs.Naming.{Stand, fitted_in, stand_of, placing}
 use Rattle.job_name.specs.Within.{Held, placed_in, length_given, fitted_number, fitted_among, Whole, ReadAs}
@@ -40,17 +43,14 @@ pub asked_place : (c : Sheets) (k : ℕ) → placing c k ≡ (reading c >>= λ r
 unfolding placing
 asked_place c k = asked-after (λ m r. need (ltb k (length r.names)) 10 0 >> given (stand_of c m k)) c
 
-module _ (c : Sheets) (k : ℕ) (a : ReadAnswer) (said : answer_of a ≡ told c) where
-  pub sheet-refused : (n p : ℕ) → a ≡ read.Refused n p → refused n p ≡ placing c k
-  sheet-refused n p is = sym (asked_place c k ∙ rw (read_refusal c a said n p is))
+pub sheet-refused : (c : Sheets) (k : ℕ) (e : Refusal) → answered {A = Read} (Err e) ≡ told c → placing c k ≡ answered {A = Stand} (Err e)
+sheet-refused c k (refusal.Refused f) said = asked_place c k ∙ rw (read_err c (refusal.Refused f) said)
+sheet-refused c k (refusal.Unfit f) said = asked_place c k ∙ rw (read_err c (refusal.Unfit f) said)
 
-  pub sheet-unfit : (n p : ℕ) → a ≡ read.Unfit n p → unfit n p ≡ placing c k
-  sheet-unfit n p is = sym (asked_place c k ∙ rw (read-unfit c a said n p is))
-
-  pub sheets_read : (n l first past : ℕ) → a ≡ read.Read n l first past → ReadAs c n
-  sheets_read n l first past is =
-      let g = read_known c a said n l first past is in
-      record { held = g.sheet; read = g.read; names_are = g.names_are }
+pub sheets_read : (c : Sheets) (a : Read) → given a ≡ told c → ReadAs c a.names
+sheets_read c a said =
+    let g = read_known c a said in
+    record { held = g.sheet; read = g.read; names_are = g.names_are }
 
 -- ---- the sheets are read, the customer's alone
 

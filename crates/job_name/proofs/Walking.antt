@@ -64,9 +64,6 @@ module _ (f : List ℕ) (m : ℕ) (s : List ℕ) (n : ℕ) (held : Held f m s n)
   own-next i h l e = omega (arith, walk_rises s 5 (i + 1) n (omega arith), held.inside)
 
 module _ (f : List ℕ) (m : ℕ) (s : List ℕ) (n k : ℕ) where
-  pub past-names : m + n ≤ k → refused 10 0 ≡ placed_in f m s n k
-  past-names h = rw (le-ltb k (m + n) h)
-
   pub fitting_placed : (at e : ℕ) → k < m + n → k < m → at ≡ walk_end f 5 k → e ≡ walk_end f 5 (k + 1) → given (stand 1 (at + 3) e) ≡ placed_in f m s n k
   fitting_placed at e h l p q = rw (lt-ltb k (m + n) h, lt-ltb k m l, p, q, add-one k)
 

@@ -1,11 +1,12 @@
 -- What the functions promise each other: names that are all there, and where one of them stands.
-use Rattle.std.specs.Prelude.{ℕ, ◌+◌, ◌-◌, ◌≤◌, ◌≡◌, cond, List, [], ltb, length}
+use Rattle.std.specs.Prelude.{Result, Ok, Err, ℕ, ◌+◌, ◌-◌, ◌≤◌, ◌≡◌, cond, List, [], ltb, length}
 use Rattle.outcome.specs.Outcome.{Outcome, given, refused, unfit, need, ◌>>◌}
 use Rattle.sheet.specs.Sheet.{Sheets, alone, beside, Sheet, between, fitting_names, reading}
 use Rattle.sheet.specs.Walk.{walk_end}
 use Rattle.job_name.specs.Naming.{Stand, field_in}
-use Rattle.job_name.specs.declared.NameAnswer.{NameAnswer}
-use Rattle.job_name.specs.declared.NameAnswer.TheVariants as answer
+use Rattle.outcome.specs.declared.Refusal.{Refusal}
+use Rattle.job_name.specs.declared.Place.{Place}
+use Rattle.job_name.specs.declared.Place.TheVariants as place
 
 -- The first m names of the fittings sheet f and the first n of s are all there.
 pub record Held (f : List ℕ) (m : ℕ) (s : List ℕ) (n : ℕ) : Type 0 where
@@ -46,14 +47,12 @@ pub record Within (s : List ℕ) (first past : ℕ) : Type 0 where
   pub inside : past ≤ length s
 
 -- Those that an answer stands for, in the fittings sheet f or in s; and what they are.
-abbrev pub StandsIn : List ℕ → List ℕ → NameAnswer → Type 0
-StandsIn f s (answer.Fitting first past) = Within f first past
-StandsIn f s (answer.Own first past) = Within s first past
-StandsIn f s (answer.Refused number place) = Unit {0}
-StandsIn f s (answer.Unfit number place) = Unit {0}
+abbrev pub StandsIn : List ℕ → List ℕ → Result Place Refusal → Type 0
+StandsIn f s (Ok (place.Fitting first past)) = Within f first past
+StandsIn f s (Ok (place.Own first past)) = Within s first past
+StandsIn f s (Err e) = Unit {0}
 
-abbrev pub part_of : List ℕ → List ℕ → NameAnswer → List ℕ
-part_of f s (answer.Fitting first past) = between f first past
-part_of f s (answer.Own first past) = between s first past
-part_of f s (answer.Refused number place) = []
-part_of f s (answer.Unfit number place) = []
+abbrev pub part_of : List ℕ → List ℕ → Result Place Refusal → List ℕ
+part_of f s (Ok (place.Fitting first past)) = between f first past
+part_of f s (Ok (place.Own first past)) = between s first past
+part_of f s (Err e) = []

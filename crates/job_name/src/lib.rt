@@ -5,19 +5,18 @@ ghost use Rattle.std.specs.Prelude.{◌≡◌, ◌+◌, ◌≤◌, length};
 ghost use Rattle.sheet.specs.Sheet.{sheets_of};
 ghost use Rattle.sheet.specs.Walk.{walk_end};
 ghost use Rattle.job_name.specs.Naming.{naming, placing};
-ghost use Rattle.job_name.specs.Named.{placed_of, bytes_given};
+ghost use Rattle.outcome.specs.Outcome.{part};
+ghost use Rattle.outcome.specs.Refusing.{judged};
+ghost use Rattle.job_name.specs.Named.{stood, placed_of, bytes_given};
 ghost use Rattle.job_name.specs.Within.{Held, placed_in, fitted_number, Whole, ReadAs, StandsIn, part_of};
 
-use sheet_reading::ReadAnswer;
+use outcome::{Fault, Reason, Refusal, need};
 
-// Where a shape's name stands: its first offset and the one past its end, in the fittings sheet or in the customer's; or a refusal,
-// `Unfit` of the fittings sheet.
-#[derive(Drop)]
-pub enum NameAnswer {
+// Where a shape's name stands: its first offset and the one past its end, in the fittings sheet or in the customer's.
+#[derive(Clone, Copy, Debug, PartialEq, Eq)]
+pub enum Place {
     Fitting { first: usize, past: usize },
     Own { first: usize, past: usize },
-    Refused { number: u8, place: usize },
-    Unfit { number: u8, place: usize },
 }
 
 // The offset after the first n names of a sheet, which are all there.
@@ -55,37 +54,38 @@ fn among_names(
     sheet: &[u8],
     names: usize,
     shape: usize,
-) -> NameAnswer
+) -> Result<Place, Fault>
     requires { Held fittings.now fitted sheet.now names × (fitted + names ≤ 256) }
-    ensures { placed_of result ≡ placed_in fittings.now fitted sheet.now names shape }
+    ensures { part stood (judged result) ≡ placed_in fittings.now fitted sheet.now names shape }
 {
-    if fitted + names <= shape {
-        return NameAnswer::Refused {
-            number: 10,
-            place: 0,
-        };
-    }
+    need(shape < fitted + names, Reason::NoSuchShape, 0)?;
     if shape < fitted {
         let at = after(fittings, shape);
         let past = after(fittings, shape + 1);
-        return NameAnswer::Fitting {
+        return Ok(Place::Fitting {
             first: at + 3,
             past,
-        };
+        });
     }
     let k = shape - fitted;
     let at = after(sheet, k);
     let past = after(sheet, k + 1);
-    NameAnswer::Own {
+    Ok(Place::Own {
         first: at + 3,
         past,
-    }
+    })
 }
 
 // Where the name of a shape stands in sheets that are read, with so many names together.
-fn in_sheets(fitted: bool, fittings: &[u8], sheet: &[u8], names: usize, shape: usize) -> NameAnswer
+fn in_sheets(
+    fitted: bool,
+    fittings: &[u8],
+    sheet: &[u8],
+    names: usize,
+    shape: usize,
+) -> Result<Place, Fault>
     requires { ReadAs (sheets_of fitted fittings.now sheet.now) names }
-    ensures { placed_of result ≡ placing (sheets_of fitted fittings.now sheet.now) shape }
+    ensures { part stood (judged result) ≡ placing (sheets_of fitted fittings.now sheet.now) shape }
 {
     if fitted {
         let m = count(fittings);
@@ -95,26 +95,27 @@ fn in_sheets(fitted: bool, fittings: &[u8], sheet: &[u8], names: usize, shape: u
 }
 
 // Where the name of a shape stands.
-pub fn place_name(fitted: bool, fittings: &[u8], sheet: &[u8], shape: usize) -> NameAnswer
+pub fn place_name(
+    fitted: bool,
+    fittings: &[u8],
+    sheet: &[u8],
+    shape: usize,
+) -> Result<Place, Refusal>
     ensures { placed_of result ≡ placing (sheets_of fitted fittings.now sheet.now) shape }
 {
-    match sheet_reading::read_sheets(fitted, fittings, sheet) {
-        ReadAnswer::Read { names, .. } => in_sheets(fitted, fittings, sheet, names, shape),
-        ReadAnswer::Refused { number, place } => NameAnswer::Refused { number, place },
-        ReadAnswer::Unfit { number, place } => NameAnswer::Unfit { number, place },
-    }
+    let read = sheet_reading::read_sheets(fitted, fittings, sheet)?;
+    Ok(in_sheets(fitted, fittings, sheet, read.names, shape)?)
 }
 
 // The bytes that an answer stands for; none where it is a refusal.
-fn part_of<'a>(fittings: &'a [u8], sheet: &'a [u8], found: NameAnswer) -> &'a [u8]
+fn part_of<'a>(fittings: &'a [u8], sheet: &'a [u8], found: Result<Place, Refusal>) -> &'a [u8]
     requires { StandsIn fittings.now sheet.now found }
     ensures { result.now ≡ part_of fittings.now sheet.now found }
 {
     match found {
-        NameAnswer::Fitting { first, past } => &fittings[first..past],
-        NameAnswer::Own { first, past } => &sheet[first..past],
-        NameAnswer::Refused { .. } => &sheet[0..0],
-        NameAnswer::Unfit { .. } => &sheet[0..0],
+        Ok(Place::Fitting { first, past }) => &fittings[first..past],
+        Ok(Place::Own { first, past }) => &sheet[first..past],
+        Err(_) => &sheet[0..0],
     }
 }
 

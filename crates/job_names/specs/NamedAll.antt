@@ -1,16 +1,10 @@
 -- The promise of asking for all names: the paper's numbers and values for each case of the answer, and the lent lists after the call.
-use Rattle.std.specs.Prelude.{ℕ, ◌≡◌, List, map, length}
-use Rattle.outcome.specs.Outcome.{Outcome, given, refused, unfit, part}
+use Rattle.std.specs.Prelude.{Result, ℕ, ◌≡◌, List, map, length}
+use Rattle.outcome.specs.Outcome.{Outcome, part}
+use Rattle.outcome.specs.Refusing.{answered}
+use Rattle.outcome.specs.declared.Refusal.{Refusal}
 use Rattle.outcome.specs.Lent.{after_call}
 use Rattle.job_name.specs.Naming.{Stand, stand}
-use Rattle.job_names.specs.declared.NamesAnswer.{NamesAnswer}
-use Rattle.job_names.specs.declared.NamesAnswer.TheVariants as answer
-
--- The number of names.
-abbrev pub count_of : NamesAnswer → Outcome ℕ
-count_of (answer.Names count) = given count
-count_of (answer.Refused number place) = refused number place
-count_of (answer.Unfit number place) = unfit number place
 
 -- Of a name: the sheet that holds it, its first offset and the one past its end.
 abbrev pub sheet_in : Stand → ℕ
@@ -28,7 +22,7 @@ pub record NameLists (o : Outcome (List Stand)) (sheets firsts pasts sheets' fir
   pub firsts_list : firsts' ≡ after_call (part (map first_in) o) firsts
   pub pasts_list : pasts' ≡ after_call (part (map past_in) o) pasts
 
--- And the answer r.
-pub record NamedAll (o : Outcome (List Stand)) (sheets firsts pasts : List ℕ) (r : NamesAnswer) (sheets' firsts' pasts' : List ℕ) : Type 0 where
-  pub answer : count_of r ≡ part length o
+-- And the answer r: the number of names.
+pub record NamedAll (o : Outcome (List Stand)) (sheets firsts pasts : List ℕ) (r : Result ℕ Refusal) (sheets' firsts' pasts' : List ℕ) : Type 0 where
+  pub answer : answered r ≡ part length o
   pub lists : NameLists o sheets firsts pasts sheets' firsts' pasts'

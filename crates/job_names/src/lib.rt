@@ -10,15 +10,7 @@ ghost use Rattle.job_names.specs.Names.{naming_all};
 ghost use Rattle.job_names.specs.NamedAll.{NameLists, NamedAll as Promise};
 ghost use Rattle.job_names.specs.Standing.{fields_in, standing, Room};
 
-use sheet_reading::ReadAnswer;
-
-// What asking for all names answers; `Unfit` is a refusal of the fittings sheet.
-#[derive(Drop)]
-pub enum NamesAnswer {
-    Names { count: usize },
-    Refused { number: u8, place: usize },
-    Unfit { number: u8, place: usize },
-}
+use outcome::{Refusal, room};
 
 // Lists the first n names of a sheet, which are all there.
 fn list_sheet(
@@ -32,15 +24,13 @@ fn list_sheet(
     requires { (walk_end sheet.now 5 n ≤ length sheet.now) × Room n sheets.old firsts.old pasts.old }
     ensures { NameLists (given (fields_in which sheet.now n)) sheets.old firsts.old pasts.old sheets.new firsts.new pasts.new }
 {
-    let mut at: usize = 5;
-    let mut i: usize = 0;
-    while i < n {
+    let mut at = 5;
+    for i in 0..n {
         let past = sheet::past(sheet, at);
         sheets[i] = which;
         firsts[i] = at + 3;
         pasts[i] = past;
         at = past;
-        i += 1;
     }
 }
 
@@ -89,7 +79,7 @@ fn list_names(
     list_both(sheet, 0, sheet, names, sheets, firsts, pasts);
 }
 
-// Gives the names of sheets that are read to the lent lists, where there is room in each.
+// Gives the names of sheets that are read to the lent lists, where there is room in each, and answers how many they are.
 fn give_names(
     fitted: bool,
     fittings: &[u8],
@@ -98,34 +88,19 @@ fn give_names(
     sheets: &mut [u8],
     firsts: &mut [usize],
     pasts: &mut [usize],
-) -> NamesAnswer
+) -> Result<usize, Refusal>
     requires { ReadAs (sheets_of fitted fittings.now sheet.now) names }
     ensures { Promise (naming_all (sheets_of fitted fittings.now sheet.now) (length sheets.old) (length firsts.old) (length pasts.old))
         sheets.old firsts.old pasts.old result sheets.new firsts.new pasts.new }
 {
-    if sheets.len() < names {
-        return NamesAnswer::Refused {
-            number: 9,
-            place: names,
-        };
-    }
-    if firsts.len() < names {
-        return NamesAnswer::Refused {
-            number: 9,
-            place: names,
-        };
-    }
-    if pasts.len() < names {
-        return NamesAnswer::Refused {
-            number: 9,
-            place: names,
-        };
-    }
+    room(names, sheets.len())?;
+    room(names, firsts.len())?;
+    room(names, pasts.len())?;
     list_names(fitted, fittings, sheet, names, sheets, firsts, pasts);
-    NamesAnswer::Names { count: names }
+    Ok(names)
 }
 
-// Where the name of every shape stands.
+// Where the name of every shape stands; how many they are is answered.
 pub fn place_names(
     fitted: bool,
     fittings: &[u8],
@@ -133,18 +108,10 @@ pub fn place_names(
     sheets: &mut [u8],
     firsts: &mut [usize],
     pasts: &mut [usize],
-) -> NamesAnswer
+) -> Result<usize, Refusal>
     ensures { Promise (naming_all (sheets_of fitted fittings.now sheet.now) (length sheets.old) (length firsts.old) (length pasts.old))
         sheets.old firsts.old pasts.old result sheets.new firsts.new pasts.new }
 {
-    match sheet_reading::read_sheets(fitted, fittings, sheet) {
-        ReadAnswer::Read {
-            names,
-            leaves: _,
-            first: _,
-            past: _,
-        } => give_names(fitted, fittings, sheet, names, sheets, firsts, pasts),
-        ReadAnswer::Refused { number, place } => NamesAnswer::Refused { number, place },
-        ReadAnswer::Unfit { number, place } => NamesAnswer::Unfit { number, place },
-    }
+    let read = sheet_reading::read_sheets(fitted, fittings, sheet)?;
+    give_names(fitted, fittings, sheet, read.names, sheets, firsts, pasts)
 }

@@ -17,37 +17,30 @@ use Rattle.accepting.proofs.Accepted.{accepted-numbered}
 use Rattle.toggles.specs.Toggles.{Answers}
 use Rattle.toggles.specs.Named.{first_wrong}
 use Rattle.job_run.specs.Running.{answers_of, toggling, running}
-use Rattle.job_run.specs.Ran.{ran_of, Ran}
-use Rattle.job_run.specs.declared.RunAnswer.{RunAnswer}
-use Rattle.job_run.specs.declared.RunAnswer.TheVariants as answer
+use Rattle.job_run.specs.Ran.{Ran}
+use Rattle.outcome.specs.Refusing.{answered}
+use Rattle.outcome.proofs.Judging.{answered_same}
 
-pub ran_of-same : (r q : RunAnswer) → ran_of r ≡ ran_of q → r ≡ q
-ran_of-same = known_by ran_of (saying answer.Ran answer.Refused answer.Unfit) known
-  where
-    known : (r : RunAnswer) → saying answer.Ran answer.Refused answer.Unfit (ran_of r) ≡ r
-    known (answer.Ran nodes) = refl
-    known (answer.Refused number place) = refl
-    known (answer.Unfit number place) = refl
-
-run_settled : OnSheets (Three Ran) answer.Refused answer.Unfit
+run_settled : OnSheets (Three Ran) refused unfit
 run_settled =
-    on_sheets ran_of (λ v. length v.final) ran_of-same (λ k p. (refl, refl)) (λ o lent r after a. a.answer)
+    on_sheets (λ v. v) (λ v. length v.final) (λ r q e. e) (λ k p. (refl, refl)) (λ o lent r after a. a.answer)
     (λ o lent r after a i. (a.lists.roots_list i, a.lists.counts_list i, a.lists.labels_list i)) (λ k p lent. (refl, refl))
 
-pub run_unique : Unique (Three Ran)
-run_unique = run_settled.own.unique
+-- Answers are known by what they say.
+pub run_unique : Unique (λ o lent r after. Three Ran o lent (answered {A = ℕ} r) after)
+run_unique = λ o lent r q after other a b. let u = run_settled.own.unique o lent (answered r) (answered q) after other a b in (answered_same r q u.0, u.1)
 
-pub run_refusal : Refusal (Three Ran) refused answer.Refused
+pub run_refusal : Refusal (Three Ran) refused refused
 run_refusal = run_settled.own.refusal
 
-pub run_refuses : Refuses (Three Ran) refused answer.Refused
+pub run_refuses : Refuses (Three Ran) refused refused
 run_refuses = run_settled.own.refuses
 
 -- and of the fittings sheet
-pub run_unfit : Refusal (Three Ran) unfit answer.Unfit
+pub run_unfit : Refusal (Three Ran) unfit unfit
 run_unfit = run_settled.fittings.refusal
 
-pub run_unfits : Refuses (Three Ran) unfit answer.Unfit
+pub run_unfits : Refuses (Three Ran) unfit unfit
 run_unfits = run_settled.fittings.refuses
 
 -- No refusal has number 0.

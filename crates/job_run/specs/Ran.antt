@@ -1,15 +1,8 @@
 -- The promise of a toggle run: the paper's numbers and values for each case of the answer, and the lent lists after the call.
 use Rattle.std.specs.Prelude.{ℕ, ◌≡◌, List, length}
-use Rattle.outcome.specs.Outcome.{Outcome, given, refused, unfit, part}
+use Rattle.outcome.specs.Outcome.{Outcome, part}
 use Rattle.outcome.specs.Lent.{after_call}
 use Rattle.toggles.specs.Toggles.{Answers}
-use Rattle.job_run.specs.declared.RunAnswer.{RunAnswer}
-use Rattle.job_run.specs.declared.RunAnswer.TheVariants as answer
-
-abbrev pub ran_of : RunAnswer → Outcome ℕ
-ran_of (answer.Ran nodes) = given nodes
-ran_of (answer.Refused number place) = refused number place
-ran_of (answer.Unfit number place) = unfit number place
 
 -- Of the job's outcome and the lists as lent: the lists after the call.
 pub record RanLists (o : Outcome Answers) (roots counts labels roots' counts' labels' : List ℕ) : Type 0 where
@@ -17,7 +10,7 @@ pub record RanLists (o : Outcome Answers) (roots counts labels roots' counts' la
   pub counts_list : counts' ≡ after_call (part (λ a. a.counts) o) counts
   pub labels_list : labels' ≡ after_call (part (λ a. a.final) o) labels
 
--- And the answer r: how many labels there are.
-pub record Ran (o : Outcome Answers) (roots counts labels : List ℕ) (r : RunAnswer) (roots' counts' labels' : List ℕ) : Type 0 where
-  pub answer : ran_of r ≡ part (λ a. length a.final) o
+-- And what the answer says: how many labels there are.
+pub record Ran (o : Outcome Answers) (roots counts labels : List ℕ) (said : Outcome ℕ) (roots' counts' labels' : List ℕ) : Type 0 where
+  pub answer : said ≡ part (λ a. length a.final) o
   pub lists : RanLists o roots counts labels roots' counts' labels'

@@ -12,7 +12,8 @@ use Rattle.outcome.specs.Settled.{Unique, Three}
 use Rattle.outcome.proofs.NumberedLaws.{part-numbered}
 use Rattle.outcome.proofs.Settling.{reported}
 use Rattle.sheet.specs.Sheet.{Sheets, reading}
-use Rattle.sheet_reading.specs.Reading.{Numbers, numbers_of, told}
+use Rattle.sheet_reading.specs.Reading.{numbers_of, told}
+use Rattle.sheet_reading.specs.declared.Read.{Read}
 use Rattle.sheet.proofs.Numbered.{reading-numbered}
 use Rattle.lines.specs.Lines.{LineLists, AnswerLists}
 use Rattle.job_name.specs.Naming.{Stand, placing}
@@ -35,7 +36,8 @@ use Rattle.job_classify.proofs.Settled.{classify_numbered}
 use Rattle.line_opinion.specs.Judging.{TheirLists, Opinion}
 use Rattle.job_judge.specs.Judging.{judging}
 use Rattle.job_judge.proofs.Settled.{judge_numbered}
-use Rattle.cross_answer.specs.Answer.{Counts, counts_of}
+use Rattle.cross_answer.specs.Answer.{counts_of}
+use Rattle.cross_answer.specs.declared.Counts.{Counts}
 use Rattle.cross_shapes.specs.declared.Probe.{Probe}
 use Rattle.cross_line.specs.Crossing.{crossing_shapes}
 use Rattle.cross_line.proofs.Settled.{shapes_numbered}
@@ -119,7 +121,7 @@ module _ {B : Type 0} (number : Outcome B → ℕ) (is : (k p : ℕ) → (number
   part-given : {A : Type 0} (f : A → B) (o : Outcome A) → Numbered o → number (part f o) ≡ 0 → (v : B) × (part f o ≡ given v)
   part-given f o h = told-given (part f o) (part-numbered f o h)
 
-pub read-given : (s : Sheets) → (read_report (told s)).number ≡ 0 → (v : Numbers) × (told s ≡ given v)
+pub read-given : (s : Sheets) → (read_report (told s)).number ≡ 0 → (v : Read) × (told s ≡ given v)
 unfolding told
 read-given s = part-given (λ o. (read_report o).number) (λ k p. (refl, refl)) numbers_of (reading s) (reading-numbered s)
 

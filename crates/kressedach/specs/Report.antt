@@ -4,7 +4,7 @@ use Rattle.std.specs.Prelude.{ℕ, ◌≡◌, List, true, false, cond, leb, eqb,
 use Rattle.outcome.specs.Outcome.{Outcome, given, refused, unfit, part}
 use Rattle.outcome.specs.Lent.{after_call}
 use Rattle.sheet.specs.Sheet.{Sheets}
-use Rattle.sheet_reading.specs.Reading.{Numbers, numbers}
+use Rattle.sheet_reading.specs.declared.Read.{Read}
 use Rattle.lines.specs.Lines.{LineLists, AnswerLists, Wall}
 use Rattle.lines.specs.Given.{WallLists}
 use Rattle.job_name.specs.Naming.{Stand, stand}
@@ -20,11 +20,13 @@ use Rattle.edit_mix.specs.Edits.{Answers as EditAnswers}
 use Rattle.job_edit.specs.Editing.{Lists as EditLists}
 use Rattle.job_edit.specs.Edited.{EditedLists}
 use Rattle.cross_cuts.specs.Cuts.{Cut}
-use Rattle.cross_answer.specs.Answer.{Counts, counts, counts_of, MadeLists, CrossedLists}
+use Rattle.cross_answer.specs.Answer.{counts_of, MadeLists, CrossedLists}
+use Rattle.cross_answer.specs.declared.Counts.{Counts}
 use Rattle.cross_shapes.specs.declared.Probe.{Probe}
 use Rattle.cross_drawn.specs.Drawn.{Drawn}
 use Rattle.cross_drawn.specs.Refusing.{OfLines, gives, refuses, part_of}
-use Rattle.cross_many.specs.Answer.{ManyCounts, many_counts, many_counts_of, ManyLists}
+use Rattle.cross_many.specs.Answer.{many_counts_of, ManyLists}
+use Rattle.cross_many.specs.declared.Counts.{Counts as ManyCounts}
 use Rattle.kressedach.specs.declared.ReadReport.{ReadReport}
 use Rattle.kressedach.specs.declared.NameReport.{NameReport}
 use Rattle.kressedach.specs.declared.NamesReport.{NamesReport}
@@ -41,9 +43,9 @@ use Rattle.kressedach.specs.declared.CrossManyReport.{CrossManyReport}
 abbrev pub sheet_of : ℕ → ℕ
 sheet_of number = cond (leb number 7) 2 (cond (eqb number 17) 2 0)
 
-abbrev pub read_report : Outcome Numbers → ReadReport
-read_report (given (numbers names leaves first past)) =
-    record { number = 0; sheet = 0; place = 0; names = names; leaves = leaves; first = first; past = past }
+abbrev pub read_report : Outcome Read → ReadReport
+read_report (given read) =
+    record { number = 0; sheet = 0; place = 0; names = read.names; leaves = read.leaves; first = read.first; past = read.past }
 read_report (refused number place) =
     record { number = number; sheet = sheet_of number; place = place; names = 0; leaves = 0; first = 0; past = 0 }
 read_report (unfit number place) =
@@ -98,13 +100,13 @@ judge_report n (unfit number place) =
 
 -- The crossing makers take no sheet: their report has none.
 abbrev pub cross_report : Outcome Counts → CrossReport
-cross_report (given (counts shapes crossings)) = record { number = 0; place = 0; shapes = shapes; crossings = crossings }
+cross_report (given counts) = record { number = 0; place = 0; shapes = counts.shapes; crossings = counts.crossings }
 cross_report (refused number place) = record { number = number; place = place; shapes = 0; crossings = 0 }
 cross_report (unfit number place) = record { number = number; place = place; shapes = 0; crossings = 0 }
 
 -- For many lines it says which line is refused, and how many lines there are.
 abbrev pub cross_many_report : OfLines ManyCounts → CrossManyReport
-cross_many_report (gives (many_counts lines crossings)) = record { number = 0; place = 0; line = 0; lines = lines; crossings = crossings }
+cross_many_report (gives counts) = record { number = 0; place = 0; line = 0; lines = counts.lines; crossings = counts.crossings }
 cross_many_report (refuses number place line) = record { number = number; place = place; line = line; lines = 0; crossings = 0 }
 
 -- A probe line: its origin, then its direction.

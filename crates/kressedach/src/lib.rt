@@ -12,32 +12,30 @@ ghost use Rattle.job_move.specs.Moving.{moving};
 ghost use Rattle.job_build.specs.Building.{building};
 ghost use Rattle.job_run.specs.Running.{running};
 ghost use Rattle.job_edit.specs.Editing.{lists as edit_lists, running_edited};
-ghost use Rattle.job_run.specs.Ran.{ran_of};
 ghost use Rattle.job_both.specs.Shared.{lists};
 ghost use Rattle.lines.specs.Lines.{line_lists, answer_lists};
 ghost use Rattle.job_classify.specs.Classifying.{classifying};
 ghost use Rattle.line_opinion.specs.Judging.{their_lists};
 ghost use Rattle.job_judge.specs.Judging.{judging};
 ghost use Rattle.job_judge.specs.Judged.{judged_of};
-ghost use Rattle.cross_answer.specs.Answer.{crossed_of, made_lists};
+ghost use Rattle.outcome.specs.Refusing.{answered, judged};
+ghost use Rattle.cross_answer.specs.Answer.{made_lists};
 ghost use Rattle.cross_line.specs.Crossing.{crossing_shapes};
 ghost use Rattle.cross_balls.specs.Balls.{crossing_balls};
 ghost use Rattle.cross_many.specs.Crossing.{crossing_many};
 ghost use Rattle.cross_many.specs.Answer.{many_of};
-ghost use Rattle.kressedach.specs.Report.{sheet_of, read_report, name_report, run_report, judge_report, probe_of, cross_report, cross_many_report, NamesReported, MoveReported, BuildReported, RunReported, EditReported, BothReported, ClassifyReported, CrossReported, CrossManyReported};
+ghost use Rattle.kressedach.specs.Report.{sheet_of, read_report, name_report, run_report, classify_report, judge_report, probe_of, cross_report, cross_many_report, NamesReported, MoveReported, BuildReported, RunReported, EditReported, BothReported, ClassifyReported, CrossReported, CrossManyReported};
 ghost use Rattle.kressedach.specs.Version.{version};
 
-use cross_answer::CrossAnswer;
-use cross_many::ManyAnswer;
+use cross_line::Drawing;
+use cross_many::LineFault;
 use cross_shapes::Probe;
-use job_build::BuildAnswer;
-use job_classify::ClassifyAnswer;
-use job_judge::JudgeAnswer;
-use job_move::MoveAnswer;
-use job_name::NameAnswer;
-use job_names::NamesAnswer;
-use job_run::RunAnswer;
-use sheet_reading::ReadAnswer;
+use edits::EditLists;
+use job_name::Place;
+use line_judge::Opinion;
+use line_lists::Crossings;
+use line_writing::lists::WallLists;
+use outcome::{Fault, Refusal};
 
 #[repr(C)]
 #[derive(Drop)]
@@ -172,33 +170,31 @@ pub extern "C" fn kressedach_read(fitted: bool, fittings: &[u8], sheet: &[u8]) -
     ensures { result ≡ read_report (told (sheets_of fitted fittings.now sheet.now)) }
 {
     match sheet_reading::read_sheets(fitted, fittings, sheet) {
-        ReadAnswer::Read {
-            names,
-            leaves,
-            first,
-            past,
-        } => ReadReport {
+        Ok(read) => ReadReport {
             number: 0,
             sheet: 0,
             place: 0,
-            names,
-            leaves,
-            first,
-            past,
+            names: read.names,
+            leaves: read.leaves,
+            first: read.first,
+            past: read.past,
         },
-        ReadAnswer::Refused { number, place } => ReadReport {
-            number,
-            sheet: sheet_of(number),
-            place,
-            names: 0,
-            leaves: 0,
-            first: 0,
-            past: 0,
-        },
-        ReadAnswer::Unfit { number, place } => ReadReport {
-            number,
+        Err(Refusal::Refused(fault)) => {
+            let number = fault.reason.number();
+            ReadReport {
+                number,
+                sheet: sheet_of(number),
+                place: fault.place,
+                names: 0,
+                leaves: 0,
+                first: 0,
+                past: 0,
+            }
+        }
+        Err(Refusal::Unfit(fault)) => ReadReport {
+            number: fault.reason.number(),
             sheet: 1,
-            place,
+            place: fault.place,
             names: 0,
             leaves: 0,
             first: 0,
@@ -218,31 +214,34 @@ pub extern "C" fn kressedach_name(
     ensures { result ≡ name_report (placing (sheets_of fitted fittings.now sheet.now) shape) }
 {
     match job_name::place_name(fitted, fittings, sheet, shape) {
-        NameAnswer::Fitting { first, past } => NameReport {
+        Ok(Place::Fitting { first, past }) => NameReport {
             number: 0,
             sheet: 1,
             place: 0,
             first,
             past,
         },
-        NameAnswer::Own { first, past } => NameReport {
+        Ok(Place::Own { first, past }) => NameReport {
             number: 0,
             sheet: 2,
             place: 0,
             first,
             past,
         },
-        NameAnswer::Refused { number, place } => NameReport {
-            number,
-            sheet: sheet_of(number),
-            place,
-            first: 0,
-            past: 0,
-        },
-        NameAnswer::Unfit { number, place } => NameReport {
-            number,
+        Err(Refusal::Refused(fault)) => {
+            let number = fault.reason.number();
+            NameReport {
+                number,
+                sheet: sheet_of(number),
+                place: fault.place,
+                first: 0,
+                past: 0,
+            }
+        }
+        Err(Refusal::Unfit(fault)) => NameReport {
+            number: fault.reason.number(),
             sheet: 1,
-            place,
+            place: fault.place,
             first: 0,
             past: 0,
         },
@@ -263,22 +262,25 @@ pub extern "C" fn kressedach_names(
         sheets.old firsts.old pasts.old result sheets.new firsts.new pasts.new }
 {
     match job_names::place_names(fitted, fittings, sheet, sheets, firsts, pasts) {
-        NamesAnswer::Names { count } => NamesReport {
+        Ok(names) => NamesReport {
             number: 0,
             sheet: 0,
             place: 0,
-            names: count,
+            names,
         },
-        NamesAnswer::Refused { number, place } => NamesReport {
-            number,
-            sheet: sheet_of(number),
-            place,
-            names: 0,
-        },
-        NamesAnswer::Unfit { number, place } => NamesReport {
-            number,
+        Err(Refusal::Refused(fault)) => {
+            let number = fault.reason.number();
+            NamesReport {
+                number,
+                sheet: sheet_of(number),
+                place: fault.place,
+                names: 0,
+            }
+        }
+        Err(Refusal::Unfit(fault)) => NamesReport {
+            number: fault.reason.number(),
             sheet: 1,
-            place,
+            place: fault.place,
             names: 0,
         },
     }
@@ -295,22 +297,25 @@ pub extern "C" fn kressedach_move(
     ensures { MoveReported (moving (sheets_of fitted fittings.now sheet.now) (length moved.old)) moved.old result moved.new }
 {
     match job_move::move_sheet(fitted, fittings, sheet, moved) {
-        MoveAnswer::Moved { length } => MoveReport {
+        Ok(length) => MoveReport {
             number: 0,
             sheet: 0,
             place: 0,
             length,
         },
-        MoveAnswer::Refused { number, place } => MoveReport {
-            number,
-            sheet: sheet_of(number),
-            place,
-            length: 0,
-        },
-        MoveAnswer::Unfit { number, place } => MoveReport {
-            number,
+        Err(Refusal::Refused(fault)) => {
+            let number = fault.reason.number();
+            MoveReport {
+                number,
+                sheet: sheet_of(number),
+                place: fault.place,
+                length: 0,
+            }
+        }
+        Err(Refusal::Unfit(fault)) => MoveReport {
+            number: fault.reason.number(),
             sheet: 1,
-            place,
+            place: fault.place,
             length: 0,
         },
     }
@@ -330,33 +335,31 @@ pub extern "C" fn kressedach_build(
         kinds.old firsts.old seconds.old result kinds.new firsts.new seconds.new }
 {
     match job_build::build(fitted, fittings, sheet, kinds, firsts, seconds) {
-        BuildAnswer::Built {
-            leaves,
-            nodes,
-            rounds,
-            height,
-        } => BuildReport {
+        Ok(built) => BuildReport {
             number: 0,
             sheet: 0,
             place: 0,
-            leaves,
-            nodes,
-            rounds,
-            height,
+            leaves: built.leaves,
+            nodes: built.nodes,
+            rounds: built.rounds,
+            height: built.height,
         },
-        BuildAnswer::Refused { number, place } => BuildReport {
-            number,
-            sheet: sheet_of(number),
-            place,
-            leaves: 0,
-            nodes: 0,
-            rounds: 0,
-            height: 0,
-        },
-        BuildAnswer::Unfit { number, place } => BuildReport {
-            number,
+        Err(Refusal::Refused(fault)) => {
+            let number = fault.reason.number();
+            BuildReport {
+                number,
+                sheet: sheet_of(number),
+                place: fault.place,
+                leaves: 0,
+                nodes: 0,
+                rounds: 0,
+                height: 0,
+            }
+        }
+        Err(Refusal::Unfit(fault)) => BuildReport {
+            number: fault.reason.number(),
             sheet: 1,
-            place,
+            place: fault.place,
             leaves: 0,
             nodes: 0,
             rounds: 0,
@@ -366,26 +369,29 @@ pub extern "C" fn kressedach_build(
 }
 
 // What is reported of a run's answer.
-fn run_report(a: RunAnswer) -> RunReport
-    ensures { result ≡ run_report (ran_of a) }
+fn run_report(answer: Result<usize, Refusal>) -> RunReport
+    ensures { result ≡ run_report (answered answer) }
 {
-    match a {
-        RunAnswer::Ran { nodes } => RunReport {
+    match answer {
+        Ok(nodes) => RunReport {
             number: 0,
             sheet: 0,
             place: 0,
             nodes,
         },
-        RunAnswer::Refused { number, place } => RunReport {
-            number,
-            sheet: sheet_of(number),
-            place,
-            nodes: 0,
-        },
-        RunAnswer::Unfit { number, place } => RunReport {
-            number,
+        Err(Refusal::Refused(fault)) => {
+            let number = fault.reason.number();
+            RunReport {
+                number,
+                sheet: sheet_of(number),
+                place: fault.place,
+                nodes: 0,
+            }
+        }
+        Err(Refusal::Unfit(fault)) => RunReport {
+            number: fault.reason.number(),
             sheet: 1,
-            place,
+            place: fault.place,
             nodes: 0,
         },
     }
@@ -428,14 +434,17 @@ pub extern "C" fn kressedach_run_edited(
         (edit_lists roots.old counts.old labels.old edit_counts.old) result
         (edit_lists roots.new counts.new labels.new edit_counts.new) }
 {
+    let edits = EditLists {
+        moments,
+        positions,
+        codes,
+    };
     run_report(job_edit::run_edited(
         fitted,
         fittings,
         sheet,
         toggles,
-        moments,
-        positions,
-        codes,
+        edits,
         roots,
         counts,
         labels,
@@ -485,6 +494,35 @@ pub extern "C" fn kressedach_run_both(
     }
 }
 
+// What is reported of the walls.
+fn classify_report(answer: Result<usize, Refusal>) -> ClassifyReport
+    ensures { result ≡ classify_report (answered answer) }
+{
+    match answer {
+        Ok(walls) => ClassifyReport {
+            number: 0,
+            sheet: 0,
+            place: 0,
+            walls,
+        },
+        Err(Refusal::Refused(fault)) => {
+            let number = fault.reason.number();
+            ClassifyReport {
+                number,
+                sheet: sheet_of(number),
+                place: fault.place,
+                walls: 0,
+            }
+        }
+        Err(Refusal::Unfit(fault)) => ClassifyReport {
+            number: fault.reason.number(),
+            sheet: 1,
+            place: fault.place,
+            walls: 0,
+        },
+    }
+}
+
 // Classifies lines against the sheets' formula.
 #[unsafe(no_mangle)]
 pub extern "C" fn kressedach_classify(
@@ -504,72 +542,55 @@ pub extern "C" fn kressedach_classify(
     ensures { ClassifyReported (classifying (sheets_of fitted fittings.now sheet.now) (line_lists rows.now lines.now positions.now shapes.now) (answer_lists wall_lines.old starts.old ends.old start_shapes.old end_shapes.old))
         (answer_lists wall_lines.old starts.old ends.old start_shapes.old end_shapes.old) result (answer_lists wall_lines.new starts.new ends.new start_shapes.new end_shapes.new) }
 {
-    match job_classify::classify(
-        fitted,
-        fittings,
-        sheet,
-        rows,
-        lines,
-        positions,
-        shapes,
-        wall_lines,
+    let x = Crossings {
+        line: lines,
+        at: positions,
+        shape: shapes,
+    };
+    let mut walls = WallLists {
+        lines: wall_lines,
         starts,
         ends,
         start_shapes,
         end_shapes,
-    ) {
-        ClassifyAnswer::Walls { walls } => ClassifyReport {
-            number: 0,
-            sheet: 0,
-            place: 0,
-            walls,
-        },
-        ClassifyAnswer::Refused { number, place } => ClassifyReport {
-            number,
-            sheet: sheet_of(number),
-            place,
-            walls: 0,
-        },
-        ClassifyAnswer::Unfit { number, place } => ClassifyReport {
-            number,
-            sheet: 1,
-            place,
-            walls: 0,
-        },
-    }
+    };
+    classify_report(job_classify::classify(fitted, fittings, sheet, rows, x, &mut walls))
 }
 
 // What is reported of the opinion on a list of so many entries.
-fn judge_report(count: usize, answer: JudgeAnswer) -> JudgeReport
+fn judge_report(count: usize, answer: Result<Opinion, Refusal>) -> JudgeReport
     ensures { result ≡ judge_report count (judged_of answer) }
 {
     match answer {
-        JudgeAnswer::Right => JudgeReport {
+        Ok(Opinion::Right) => JudgeReport {
             number: 0,
             sheet: 0,
             right: true,
             place: 0,
             index: count,
         },
-        JudgeAnswer::Wrong { index } => JudgeReport {
+        Ok(Opinion::Wrong(index)) => JudgeReport {
             number: 0,
             sheet: 0,
             right: false,
             place: 0,
             index,
         },
-        JudgeAnswer::Refused { number, place } => JudgeReport {
-            number,
-            sheet: sheet_of(number),
-            right: false,
-            place,
-            index: 0,
-        },
-        JudgeAnswer::Unfit { number, place } => JudgeReport {
-            number,
+        Err(Refusal::Refused(fault)) => {
+            let number = fault.reason.number();
+            JudgeReport {
+                number,
+                sheet: sheet_of(number),
+                right: false,
+                place: fault.place,
+                index: 0,
+            }
+        }
+        Err(Refusal::Unfit(fault)) => JudgeReport {
+            number: fault.reason.number(),
             sheet: 1,
             right: false,
-            place,
+            place: fault.place,
             index: 0,
         },
     }
@@ -591,14 +612,17 @@ pub extern "C" fn kressedach_judge(
 ) -> JudgeReport
     ensures { result ≡ judge_report (length their_lines.now) (judging (sheets_of fitted fittings.now sheet.now) (line_lists rows.now lines.now positions.now shapes.now) (their_lists their_lines.now their_starts.now their_ends.now)) }
 {
+    let x = Crossings {
+        line: lines,
+        at: positions,
+        shape: shapes,
+    };
     let answer = job_judge::judge(
         fitted,
         fittings,
         sheet,
         rows,
-        lines,
-        positions,
-        shapes,
+        x,
         their_lines,
         their_starts,
         their_ends,
@@ -606,19 +630,19 @@ pub extern "C" fn kressedach_judge(
     judge_report(their_lines.len(), answer)
 }
 
-fn cross_report(answer: CrossAnswer) -> CrossReport
-    ensures { result ≡ cross_report (crossed_of answer) }
+fn cross_report(answer: Result<cross_answer::Counts, Fault>) -> CrossReport
+    ensures { result ≡ cross_report (judged answer) }
 {
     match answer {
-        CrossAnswer::Crossed { shapes, crossings } => CrossReport {
+        Ok(counts) => CrossReport {
             number: 0,
             place: 0,
-            shapes,
-            crossings,
+            shapes: counts.shapes,
+            crossings: counts.crossings,
         },
-        CrossAnswer::Refused { number, place } => CrossReport {
-            number,
-            place,
+        Err(wrong) => CrossReport {
+            number: wrong.reason.number(),
+            place: wrong.place,
             shapes: 0,
             crossings: 0,
         },
@@ -651,7 +675,8 @@ pub extern "C" fn kressedach_cross(
         dy,
         dz,
     };
-    cross_report(cross_line::cross(probe, kinds, numbers, starts, positions, shapes))
+    let drawing = Drawing { kinds, numbers };
+    cross_report(cross_line::cross(probe, drawing, starts, positions, shapes))
 }
 
 // Crosses balls with one line, which is parallel to an axis.
@@ -668,25 +693,21 @@ pub extern "C" fn kressedach_cross_balls(
     cross_report(cross_line::cross_balls(numbers, starts, positions, shapes))
 }
 
-fn cross_many_report(answer: ManyAnswer) -> CrossManyReport
+fn cross_many_report(answer: Result<cross_many::Counts, LineFault>) -> CrossManyReport
     ensures { result ≡ cross_many_report (many_of answer) }
 {
     match answer {
-        ManyAnswer::Crossed { lines, crossings } => CrossManyReport {
+        Ok(counts) => CrossManyReport {
             number: 0,
             place: 0,
             line: 0,
-            lines,
-            crossings,
+            lines: counts.lines,
+            crossings: counts.crossings,
         },
-        ManyAnswer::Refused {
-            number,
-            place,
-            line,
-        } => CrossManyReport {
-            number,
-            place,
-            line,
+        Err(wrong) => CrossManyReport {
+            number: wrong.fault.reason.number(),
+            place: wrong.fault.place,
+            line: wrong.line,
             lines: 0,
             crossings: 0,
         },
@@ -707,13 +728,6 @@ pub extern "C" fn kressedach_cross_many(
     ensures { CrossManyReported (crossing_many kinds.now numbers.now lines.now (line_lists rows.old line_numbers.old positions.old shapes.old))
         (line_lists rows.old line_numbers.old positions.old shapes.old) result (line_lists rows.new line_numbers.new positions.new shapes.new) }
 {
-    cross_many_report(cross_many::cross(
-        kinds,
-        numbers,
-        lines,
-        rows,
-        line_numbers,
-        positions,
-        shapes,
-    ))
+    let drawing = Drawing { kinds, numbers };
+    cross_many_report(cross_many::cross(drawing, lines, rows, line_numbers, positions, shapes))
 }

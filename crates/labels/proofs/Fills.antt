@@ -65,9 +65,9 @@ module _ (ks fs ss : List ℕ) where
     pub low : (c : ℕ) → c < 3072 → get_or links c 0 ≡ absent
 
 module _ {ks fs ss : List ℕ} where
-  pub labels-start : (nodes : ℕ) → LabelsTo ks fs ss nodes 0 (replicate 3072 0)
+  pub labels_start : (nodes : ℕ) {ls : List ℕ} → length ls ≡ 3072 → LabelsTo ks fs ss nodes 0 ls
   unfolding entries
-  labels-start nodes = record { within = omega arith; long = length-replicate {A = ℕ} 3072 0; so = refl }
+  labels_start nodes long = record { within = omega arith; long = long; so = refl }
 
   pub labels_more : {leaves nodes j v : ℕ} {ls : List ℕ} → Shaped ks fs ss leaves nodes → LabelsTo ks fs ss nodes j ls → j < nodes
       → v ≡ label outside ls (rec_at ks fs ss j) → LabelsTo ks fs ss nodes (j + 1) (set ls j v)
@@ -162,24 +162,10 @@ module _ {ks fs ss : List ℕ} where
         low = λ c l. get_or-replicate 4352 c 65535 0 (omega arith);
       }
 
-  -- the leaf before j, whose index i in the arrays is known: the next one after it has an entry
-  pub next-inside : {leaves nodes j i : ℕ} {ls : List ℕ} → Shaped ks fs ss leaves nodes → ChainsFrom ks fs ss leaves nodes j ls → 0 < j → i ≡ j - 1 → 3328 + i < 4352
-  next-inside sh u h e = omega (arith, u.within, sh.few)
-
-  -- and its shape is t
+  -- the leaf before j, whose index i in the arrays is known, and whose shape is t
   module _ {leaves nodes j i t : ℕ} {ls : List ℕ} (sh : Shaped ks fs ss leaves nodes) (u : ChainsFrom ks fs ss leaves nodes j ls) where
     shape-named : 0 < j → i ≡ j - 1 → t ≡ get_or fs i 0 → t < 256
     shape-named h e q = omega (arith, q, sh.named i (omega (arith, u.within)))
-
-    -- so the first leaf of its shape has an entry, and the byte that it begins at a number
-    pub head_inside : 0 < j → i ≡ j - 1 → t ≡ get_or fs i 0 → 3072 + t < 4352
-    head_inside h e q = omega (arith, shape-named h e q)
-
-    pub head_sum : 0 < j → i ≡ j - 1 → t ≡ get_or fs i 0 → Fits w64 (3072 + t)
-    head_sum h e q = record { fits = omega (arith, shape-named h e q) }
-
-    pub head_fits : 0 < j → i ≡ j - 1 → t ≡ get_or fs i 0 → Fits w64 ((3072 + t) * 2)
-    head_fits h e q = record { fits = omega (arith, shape-named h e q) }
 
     pub chains_more : 0 < j → i ≡ j - 1 → t ≡ get_or fs i 0 → ChainsFrom ks fs ss leaves nodes (j - 1) (set (set ls (3328 + i) (get_or ls (3072 + t) 0)) (3072 + t) (j - 1))
     chains_more h e q =

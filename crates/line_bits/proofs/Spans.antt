@@ -1,17 +1,21 @@
 -- From a bit to the first one that is on.
 use Prim.Native.Nat.{ℕ, zero, suc, ◌+◌, ◌-◌, ◌*◌, ◌/◌, ◌%◌, ◌^◌, ◌≤◌, ◌<◌}
 use mathlib.Core.Path.{◌≡◌, refl, sym, ap, ◌∙◌}
-use mathlib.Core.Bool.{Bool, true, false, not, ◌&&◌, ◌||◌}
+use mathlib.Core.Bool.{Bool, true, false, not, ◌&&◌, ◌||◌, or-false}
 use native.Mathlib.Omega.{arith}
 use native.Mathlib.Nat.{pow-suc}
 use lib.Dec.{eqb, leb}
-use lib.Bits.{bit_or, bit_xor, xor_step, xor_self, xor_shr, xor_lt, or_lt}
+use lib.Bits.{bit_or, bit_xor, xor_step, xor_self, xor_shr, or_lt}
 use lib.Pow.{pow-add, pow-lt, pow_mono, shl_exact}
-use borrow.Author.Tests.{eq-eqb, ne_eqb, leb-true, leb-false, le-leb, lt-leb}
+use borrow.Author.Tests.{eq-eqb, leb-true, leb-false, le-leb, lt-leb}
 use Rattle.formula.specs.Formula.{exclusive, meaning}
 use Rattle.word_bits.specs.Words.{digit, bit}
 use Rattle.line_bits.specs.Bits.{none, One, Moved, Inner, Spans, Since, Masked}
-use Rattle.word_bits.proofs.Digits.{bit-or, bit-xor, bit-ones, bit-none, bit_top, bit_top-on, small_word, shift_bit}
+use Rattle.word_bits.proofs.Digits.{bit-or, bit-xor, bit-none, bit_top, bit_top-on, bit_past, shift_bit, small_word}
+use Rattle.std.proofs.lemmas.Nat.Bits.{bit_at_not}
+use Rattle.std.proofs.Common.{w64}
+use Rattle.std.specs.Int.Count.{count_leading_zeros, leading_of_zero}
+use Rattle.std.proofs.lemmas.Nat.{leading_top}
 
 -- ---- none of some
 none-later : (f : ℕ → Bool) (i d : ℕ) → none f (suc i) d ≡ none (λ x. f (suc x)) i d
@@ -103,8 +107,8 @@ carry_bit (suc j) (suc b) x =
     ∙ rw (leb-suc j b, z) (ap (λ (t : Bool). leb (suc j) (suc b) && t) (sym (none-later (off x) j (b - j))))
 
 -- ---- a bit alone
-pub one-first : One 1 0
-one-first = record { is = λ h. refl }
+pub one_first : One 1 0
+one_first = record { is = λ h. refl }
 
 pub one_shifted : (j : ℕ) → One (1 * 2 ^ j % 2 ^ 64) j
 one_shifted j = record { is = λ h. shl_exact {a = 1} 1 j 64 (omega arith) (omega arith) ∙ omega arith }
@@ -112,30 +116,34 @@ one_shifted j = record { is = λ h. shl_exact {a = 1} 1 j 64 (omega arith) (omeg
 one-moved : (one j : ℕ) → One one j → One (one * 2 ^ 1 % 2 ^ 64) (j + 1)
 one-moved one j o = record { is = λ h. rw (o.is (omega arith)) (shl_exact {a = 2 ^ j} (j + 1) 1 64 (pow-lt (omega arith)) (omega arith) ∙ sym (pow-add 2 j 1)) }
 
-pub moved-one : (one : ℕ) → Moved one (one * 2 ^ 1 % 2 ^ 64)
-moved-one one = record { is = one-moved one }
+pub moved_one : (one : ℕ) → Moved one (one * 2 ^ 1 % 2 ^ 64)
+moved_one one = record { is = one-moved one }
 
 pub one_small : (one j : ℕ) → One one j → j < 64 → one ≤ 2 ^ 63
 one_small one j o h = rw (o.is h) (pow_mono {i = j} {j = 63} (omega arith))
 
 -- ---- the bits at which no span ends
-flipped : (t : Bool) → meaning exclusive (t || false) true ≡ not t
-flipped true = refl
-flipped false = refl
+bit_not : (w b : ℕ) → w < 2 ^ 64 → b < 64 → bit (2 ^ 64 - 1 - w) b ≡ not (bit w b)
+bit_not w b h l = sym (shift_bit (2 ^ 64 - 1 - w) b) ∙ ap (λ (x : ℕ). eqb x 1) (bit_at_not w64 w b h l) ∙ told (w / 2 ^ b % 2) (omega arith) ∙ ap not (shift_bit w b)
+  where
+    told : (d : ℕ) → d < 2 → eqb (1 - d) 1 ≡ not (eqb d 1)
+    told zero m = refl
+    told (suc zero) m = refl
+    told (suc (suc d)) m = absurd (omega arith)
 
-ended : (t : Bool) → meaning exclusive (t || true) true ≡ false
-ended true = refl
-ended false = refl
+pub inners : (w : ℕ) → w < 2 ^ 64 → Inner w (2 ^ 64 - 1 - bit_or w 0x8000000000000000)
+inners w h =
+    record {
+      small = small_word _ (omega arith) (bit_not _ 63 fits (omega arith) ∙ rw (bit-or w 0x8000000000000000 63, bit_top-on) (ended (bit w 63)));
+      is = λ b l. bit_not _ b fits (omega arith) ∙ rw (bit-or w 0x8000000000000000 b, bit_top b l) (ap not (or-false (bit w b)));
+    }
+  where
+    fits : bit_or w 0x8000000000000000 < 2 ^ 64
+    fits = or_lt 64 w 0x8000000000000000 h (omega arith)
 
-module _ (w : ℕ) where
-  inner_bit : (b : ℕ) → b < 63 → bit (bit_xor (bit_or w 0x8000000000000000) 0xFFFFFFFFFFFFFFFF) b ≡ not (bit w b)
-  inner_bit b h = bit-xor (bit_or w 0x8000000000000000) 0xFFFFFFFFFFFFFFFF b ∙ rw (bit-or w 0x8000000000000000 b, bit_top b h, bit-ones b (omega arith)) (flipped (bit w b))
-
-  inner_last : bit (bit_xor (bit_or w 0x8000000000000000) 0xFFFFFFFFFFFFFFFF) 63 ≡ false
-  inner_last = bit-xor (bit_or w 0x8000000000000000) 0xFFFFFFFFFFFFFFFF 63 ∙ rw (bit-or w 0x8000000000000000 63, bit_top-on, bit-ones 63 (omega arith)) (ended (bit w 63))
-
-  pub inners : w < 2 ^ 64 → Inner w (bit_xor (bit_or w 0x8000000000000000) 0xFFFFFFFFFFFFFFFF)
-  inners h = record { small = small_word _ (xor_lt 64 (bit_or w 0x8000000000000000) 0xFFFFFFFFFFFFFFFF (or_lt 64 w 0x8000000000000000 h (omega arith)) (omega arith)) inner_last; is = inner_bit }
+    ended : (t : Bool) → not (t || true) ≡ false
+    ended true = refl
+    ended false = refl
 
 -- ---- spans
 off_again : (t u : Bool) → u ≡ not t → not u ≡ t
@@ -155,37 +163,31 @@ pub spans : (rest one : ℕ) → Spans rest one (bit_xor (rest + one) rest)
 spans rest one = record { is = λ w j i o h. record { is = λ b l. rw (o.is h) (span_bit w rest j b i l) } }
 
 -- ---- the last bit that is on
-pub record NoneFrom (w j : ℕ) : Type 0 where
-  pub most : j ≤ 64
-  pub off : (b : ℕ) → j ≤ b → b < 64 → bit w b ≡ false
+top_digit : (j w : ℕ) → 2 ^ j ≤ w → w < 2 ^ suc j → digit w j ≡ 1
+unfolding digit
+top_digit zero w h l = omega arith
+top_digit (suc j) w h l = top_digit j (w / 2) (omega (arith, pow-suc 2 j)) (omega (arith, pow-suc 2 (suc j)))
 
-pub none_yet : (w : ℕ) → NoneFrom w 64
-none_yet w = record { most = omega arith; off = λ b l h. absurd (omega arith) }
-
-pub none_most : (w j : ℕ) → NoneFrom w j → j - 1 < 64
-none_most w j n = omega (arith, n.most)
+since_top : (w j r : ℕ) → r ≡ suc j → r ≤ 64 → 2 ^ j ≤ w → w < 2 ^ suc j → Since w r
+since_top w j r e far h l =
+    record {
+      most = far;
+      last = λ some. let at : r - 1 ≡ j = omega arith in rw at (eq-eqb (digit w j) 1 (top_digit j w h l));
+      none = λ some b m k. bit_past (suc j) w b l (omega arith);
+    }
 
 pub since_none : (w : ℕ) → Since w 0
-since_none w = record { most = omega arith; last = λ h. absurd (omega arith); none = λ h. absurd (omega arith) }
+since_none w = record { most = omega arith; last = λ some. absurd (omega arith); none = λ some. absurd (omega arith) }
 
-pub since_found : (w j : ℕ) → NoneFrom w j → w / 2 ^ (j - 1) % 2 ≡ 1 → Since w j
-since_found w j n e = record { most = n.most; last = λ h. sym (shift_bit w (j - 1)) ∙ eq-eqb (w / 2 ^ (j - 1) % 2) 1 e; none = λ h. n.off }
-
-pub none_sooner : (w j : ℕ) → NoneFrom w j → 0 < j → (w / 2 ^ (j - 1) % 2 ≡ 1 → ⊥) → NoneFrom w (j - 1)
-none_sooner w j n s e = record { most = omega (arith, n.most); off = go }
-  where
-    go : (b : ℕ) → j - 1 ≤ b → b < 64 → bit w b ≡ false
-    go b l h = by (leb j b) refl
-      where
-        by : (t : Bool) → leb j b ≡ t → bit w b ≡ false
-        by true t = n.off b (leb-true j b t) h
-        by false t =
-            let z : b ≡ j - 1 = omega (arith, leb-false j b t) in
-            rw z (sym (shift_bit w (j - 1)) ∙ ne_eqb (w / 2 ^ (j - 1) % 2) 1 e)
+pub since_is : (w : ℕ) → w < 2 ^ 64 → Since w (64 - count_leading_zeros 64 w)
+since_is zero h = rw (leading_of_zero 64) (since_none 0)
+since_is (suc v) h =
+    let t = leading_top 64 (suc v) (omega arith) h in
+    since_top (suc v) t.0 _ (omega (arith, t.1)) (omega arith) t.2 t.3
 
 -- ---- by the last bit
-pub masked_on : (w m : ℕ) → w / 2 ^ 63 % 2 ≡ 1 → Masked w m m
-masked_on w m h = record { is = λ b l. rw (sym (shift_bit w 63), eq-eqb (w / 2 ^ 63 % 2) 1 h) }
+pub masked_on : (w m : ℕ) (on : Bool) → on ≡ bit w 63 → on ≡ true → Masked w m m
+masked_on w m on e t = record { is = λ b l. rw (sym e, t) }
 
-pub masked_off : (w m : ℕ) → (w / 2 ^ 63 % 2 ≡ 1 → ⊥) → Masked w m 0
-masked_off w m h = record { is = λ b l. bit-none b ∙ rw (sym (shift_bit w 63), ne_eqb (w / 2 ^ 63 % 2) 1 h) }
+pub masked_off : (w m : ℕ) (on : Bool) → on ≡ bit w 63 → on ≡ false → Masked w m 0
+masked_off w m on e t = record { is = λ b l. bit-none b ∙ rw (sym e, t) }

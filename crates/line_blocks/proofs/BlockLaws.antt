@@ -6,12 +6,12 @@ use native.Mathlib.Omega.{arith}
 use mathlib.Core.Path.{◌≡◌, refl, sym, ap, ◌∙◌, fun_ext, subst}
 use mathlib.Core.Bool.{Bool, true, false, not, ◌&&◌, true≢false, false≢true}
 use mathlib.Core.List.{List, ◌++◌}
-use mathlib.Core.Option.{Option, none, some}
+use mathlib.Core.Option.{Option}
 use borrow.Author.Tests.{eqb-true, eqb-false, lt-leb, lt-ltb, le-ltb}
 use lib.Dec.{eqb}
 use lib.IntN.{ℤ}
 use lib.ListN.{length, get_or, take}
-use Rattle.formula.specs.Formula.{Formula, inside, postfix, Over}
+use Rattle.formula.specs.Formula.{Formula, postfix, Over}
 use Rattle.formula.specs.States.{State, outside}
 use Rattle.lines.specs.Lines.{LineLists, line_lists, start_state, Wall, Edge}
 use Rattle.lines.specs.Columns.{Column, flipped_by}

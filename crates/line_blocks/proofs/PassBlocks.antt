@@ -1,11 +1,11 @@
 -- The pass, a block on.
-use Prim.Native.Nat.{ℕ, ◌-◌, ◌*◌, ◌/◌, ◌%◌, ◌^◌, ◌<◌, ◌≤◌}
+use Prim.Native.Nat.{ℕ, ◌-◌, ◌*◌, ◌<◌, ◌≤◌}
 use native.Mathlib.Decide.{dec_lt}
 use native.Mathlib.Omega.{arith}
-use mathlib.Core.Path.{◌≡◌, sym, ap, ◌∙◌}
-use mathlib.Core.Bool.{Bool, true, false, not, ◌&&◌}
+use mathlib.Core.Path.{◌≡◌, refl, sym, ap, ◌∙◌}
+use mathlib.Core.Bool.{Bool, not, ◌&&◌}
 use mathlib.Core.List.{List}
-use borrow.Author.Tests.{eq-eqb, ne_eqb}
+use borrow.Author.Tests.{eq-eqb}
 use lib.Dec.{eqb}
 use lib.IntN.{ℤ}
 use lib.ListN.{length, get_or, length-drop}
@@ -13,7 +13,7 @@ use Rattle.lines.specs.Lines.{line_lists, row_count}
 use Rattle.lines.proofs.Items.{accepted-whole, accepted_few, accepted-bytes}
 use Rattle.line_lists.specs.Block.{wide, columns, cell, planned, SaidNumbered, SaidAlone}
 use Rattle.line_strips.specs.Filling.{Fillable}
-use Rattle.word_bits.proofs.Digits.{shift_bit}
+use Rattle.word_bits.specs.Words.{bit}
 use Rattle.line_words.specs.Evaluating.{Evaluable}
 use Rattle.line_words.specs.declared.Arranged.{Arranged}
 use Rattle.line_columns.specs.Planned.{left_at, BlockPlanned}
@@ -28,21 +28,12 @@ use Rattle.line_blocks.proofs.BlockLaws.{block_fillable, block_sweepable, block_
 
 -- ---- the last column
 
-abbrev last_word : List ℕ → ℕ
-last_word lasts = get_or lasts (wide - 1) 0
-
-cell-last : (lasts : List ℕ) → eqb (last_word lasts / 2 ^ 63 % 2) 1 ≡ cell lasts (columns - 1)
+pub cell-last : (lasts : List ℕ) → bit (get_or lasts (wide - 1) 0) 63 ≡ cell lasts (columns - 1)
 unfolding cell
-cell-last lasts = shift_bit (last_word lasts) 63
+cell-last lasts = refl
 
-pub past-short : (lasts : List ℕ) (n : ℕ) → (n ≡ columns → ⊥) → false ≡ (eqb n columns && not (cell lasts (columns - 1)))
-past-short lasts n h = rw (ne_eqb n columns h)
-
-pub past_no : (lasts : List ℕ) (n : ℕ) → n ≡ columns → last_word lasts / 2 ^ 63 % 2 ≡ 1 → false ≡ (eqb n columns && not (cell lasts (columns - 1)))
-past_no lasts n h e = rw (eq-eqb n columns h) (ap not (sym (eq-eqb (last_word lasts / 2 ^ 63 % 2) 1 e) ∙ cell-last lasts))
-
-pub past_yes : (lasts : List ℕ) (n : ℕ) → n ≡ columns → (last_word lasts / 2 ^ 63 % 2 ≡ 1 → ⊥) → true ≡ (eqb n columns && not (cell lasts (columns - 1)))
-past_yes lasts n h e = rw (eq-eqb n columns h) (ap not (sym (ne_eqb (last_word lasts / 2 ^ 63 % 2) 1 e) ∙ cell-last lasts))
+pub past_is : (lasts : List ℕ) (n : ℕ) (on : Bool) → on ≡ bit (get_or lasts (wide - 1) 0) 63 → (n ≡ columns) → not on ≡ (eqb n columns && not (cell lasts (columns - 1)))
+past_is lasts n on is e = rw (eq-eqb n columns e) (ap not (is ∙ cell-last lasts))
 
 module _ {table : List ℕ} {arranged : Arranged} {names : ℕ} {rows ls : List ℕ} {ps : List ℤ} {ss : List ℕ} {words : List ℕ} {p : Pass} (ask : BlockAsk table arranged names (line_lists rows ls ps ss) words p) where
   pub ask_can_plan : {cols lasts events : List ℕ} {numbered : Bool} (count : ℕ) → Sized cols lasts events numbered → count ≡ row_count names rows → CanPlan names rows ls count (planned cols lasts) p.cursor.i p.cursor.q

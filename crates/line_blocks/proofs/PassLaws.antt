@@ -1,11 +1,11 @@
 -- The pass from its first block to its end.
-use Prim.Native.Nat.{ℕ, ◌+◌, ◌*◌, ◌/◌, ◌<◌, ◌≤◌}
+use Prim.Native.Nat.{ℕ, ◌+◌, ◌*◌, ◌/◌, ◌≤◌}
 use native.Mathlib.Omega.{arith}
 use mathlib.Core.Path.{◌≡◌, refl, sym, ap, ◌∙◌}
 use mathlib.Core.Bool.{Bool, true, false, ◌||◌, true≢false}
 use mathlib.Core.List.{List, []}
 use mathlib.Core.Option.{Option, none}
-use borrow.Author.Tests.{lt-ltb, le-ltb}
+use Rattle.std.proofs.Common.{Result, Ok}
 use lib.Dec.{ltb}
 use lib.IntN.{ℤ}
 use lib.ListN.{length, replicate}
@@ -16,12 +16,10 @@ use Rattle.lines.specs.AtIndex.{Accepted}
 use Rattle.lines.proofs.Items.{accepted-whole, accepted-bytes}
 use Rattle.lines.proofs.PassLaws.{pass_start, pass_end, pass_room}
 use Rattle.line_checking.specs.Verdicts.{verdict, Judged}
-use Rattle.line_checking.specs.declared.Verdict.{Verdict}
-use Rattle.line_checking.specs.declared.Verdict.TheVariants as verdicts
+use Rattle.outcome.specs.declared.Fault.{Fault}
 use Rattle.line_lists.specs.Block.{wide, columns}
 use Rattle.line_words.specs.declared.Arranged.{Arranged}
 use Rattle.line_columns.specs.Planning.{WholeRows, NextInside}
-use Rattle.line_columns.specs.declared.Cursor.{Cursor}
 use Rattle.line_columns.proofs.CursorLaws.{cursor_first, first-left, cursor_some, cursor_over, air_first}
 use Rattle.line_blocks.specs.Blocks.{Sized, left_of, PassingAt, Going, BlockAsk, SaidOf, Begun, CanPass, FewCodes, CallMade}
 use Rattle.line_blocks.specs.declared.Call.{Call}
@@ -29,12 +27,6 @@ use Rattle.line_blocks.specs.declared.Pass.{Pass}
 
 pub said-first : (names : ℕ) (rows : List ℕ) (count : ℕ) (air : Bool) → WholeRows names rows count → SaidOf air rows → air ≡ true → NextInside names rows 0 count
 said-first names rows count air w s e = air_first names rows count (s.so e) w.are
-
-pub left_crossing : (f : Cursor) (n count : ℕ) → f.i < n → true ≡ (ltb f.i n || ltb f.q count)
-left_crossing f n count h = rw (lt-ltb f.i n h)
-
-pub left-row : (f : Cursor) (n count : ℕ) → n ≤ f.i → ltb f.q count ≡ (ltb f.i n || ltb f.q count)
-left-row f n count h = rw (le-ltb f.i n h)
 
 -- ---- its beginning
 
@@ -101,12 +93,12 @@ module _ {codes : List ℕ} {names : ℕ} {air : Bool} {c : LineLists} {table : 
 -- ---- the judgement
 
 -- what a verdict tells of the judgement it meets
-pub verdict-told : {v w : Verdict} {o : _} → verdict v ≡ o → v ≡ w → o ≡ verdict w
+pub verdict-told : {v w : Result Bool Fault} {o : _} → verdict v ≡ o → v ≡ w → o ≡ verdict w
 verdict-told e q = sym e ∙ ap verdict q
 
-module _ {names : ℕ} {rows ls : List ℕ} {ps : List ℤ} {ss : List ℕ} {v : Verdict} {air : Bool} (j : Judged names (line_lists rows ls ps ss) v) (is : v ≡ verdicts.Fine air) where
+module _ {names : ℕ} {rows ls : List ℕ} {ps : List ℤ} {ss : List ℕ} {v : Result Bool Fault} {air : Bool} (j : Judged names (line_lists rows ls ps ss) v) (is : v ≡ Ok air) where
   pub lists-accepted : {codes : List ℕ} → FewCodes codes names → Accepted names (line_lists rows ls ps ss)
   lists-accepted ok = record { some = ok.some_names; few = ok.few_names; judged_so = verdict-told j.is is }
 
   pub lists-said : SaidOf air rows
-  lists-said = record { so = λ e. j.air (is ∙ ap verdicts.Fine e) }
+  lists-said = record { so = λ e. j.air (is ∙ ap (λ x. Ok x) e) }

@@ -1,14 +1,15 @@
 -- What a block of the pass is made of, and what the pass over the blocks keeps, whatever is done with the walls.
-use Rattle.std.specs.Prelude.{ℕ, ◌+◌, ◌*◌, ◌<◌, ◌≤◌, ◌≡◌, Bool, true, false, List, ◌++◌, length, take, get_or}
+use Rattle.std.specs.Prelude.{ℕ, ◌*◌, ◌<◌, ◌≤◌, ◌≡◌, Bool, true, false, List, ◌++◌, length, take, get_or}
 use Rattle.std.proofs.Math.Option.{Option}
 use Rattle.formula.specs.Formula.{Formula, postfix, Over}
 use Rattle.formula.specs.States.{State}
-use Rattle.lines.specs.Lines.{LineLists, row_count, start_state, Wall, Edge}
+use Rattle.lines.specs.Lines.{LineLists, line_lists, row_count, start_state, Wall, Edge}
 use Rattle.lines.specs.AtIndex.{Accepted}
 use Rattle.lines.specs.Columns.{Column}
 use Rattle.lines.specs.Views.{Passed}
 use Rattle.line_checking.specs.Verdicts.{InAir}
 use Rattle.line_lists.specs.Block.{columns, planned, SaidNumbered}
+use Rattle.line_lists.specs.declared.Crossings.{Crossings}
 use Rattle.line_strips.specs.Strips.{flips_at, last_at, Filled}
 use Rattle.line_strips.specs.Filling.{Entered}
 use Rattle.line_words.specs.Stretches.{Workable, StandFor}
@@ -20,6 +21,10 @@ use Rattle.line_writing.specs.Finishing.{Held, held, event_edge, event_line, wal
 use Rattle.line_writing.specs.Spots.{EventHeld}
 use Rattle.line_blocks.specs.declared.Call.{Call}
 use Rattle.line_blocks.specs.declared.Pass.{Pass}
+
+-- the lists of a call
+abbrev pub call_lists : List ℕ → Crossings → LineLists
+call_lists rows x = line_lists rows x.line.now x.at.now x.shape.now
 
 -- ---- a block's row
 

@@ -1,5 +1,5 @@
 -- A block on: its walls put into five lists, whoever lends them.
-use Rattle.std.specs.Prelude.{ℕ, ◌+◌, ◌/◌, ◌≤◌, ◌<◌, ◌≡◌, false, List, ◌++◌, length}
+use Rattle.std.specs.Prelude.{ℕ, ◌+◌, ◌/◌, ◌≤◌, ◌<◌, ◌≡◌, None, List, ◌++◌, length}
 use Rattle.formula.specs.Formula.{Formula, postfix, Over}
 use Rattle.lines.specs.Lines.{LineLists, row_count, AnswerLists, Wall}
 use Rattle.line_lists.specs.Block.{columns}
@@ -35,5 +35,5 @@ pub record StepDone (table : List ℕ) (arranged : Arranged) (names : ℕ) (c : 
 -- a pass that has done nothing
 pub record NothingDone (names : ℕ) (rows : List ℕ) (p : Progress) : Type 0 where
   pub begun : Begun names rows p.pass
-  pub air : p.run.metal ≡ false
+  pub air : p.run.from ≡ None
   pub none : p.run.count ≡ 0

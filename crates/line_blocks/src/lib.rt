@@ -1,16 +1,19 @@
 // The pass over a call's columns, block by block: a block's columns, its row of metal, its events, and the walls that they finish, put into five lists. Whose lists they are is the caller's.
 #![tactic(auto)]
 
-ghost use Rattle.std.specs.Prelude.{◌≡◌, not, ◌&&◌, ◌||◌, eqb, ltb, ◌-◌, length};
-ghost use Rattle.lines.specs.Lines.{line_lists, row_count, answer_lists};
-ghost use Rattle.line_lists.specs.Block.{wide, columns, cell};
+ghost use Rattle.std.specs.Prelude.{◌≡◌, not, ◌&&◌, ◌||◌, eqb, ltb, ◌-◌};
+ghost use Rattle.lines.specs.Lines.{row_count};
+ghost use Rattle.line_lists.specs.Block.{columns, cell};
 ghost use Rattle.line_strips.specs.Filling.{Fillable};
 ghost use Rattle.line_words.specs.Evaluating.{Evaluable};
 ghost use Rattle.line_columns.specs.Planning.{WholeRows, NextInside};
-ghost use Rattle.line_blocks.specs.Blocks.{RowMade, Sized, SaidOf, Begun, FewCodes, CallMade};
+ghost use Rattle.line_writing.specs.Lists.{lists_in, SameLists};
+ghost use Rattle.line_blocks.specs.Blocks.{call_lists, RowMade, Sized, SaidOf, Begun, FewCodes, CallMade};
 ghost use Rattle.line_blocks.specs.Walls.{StepAsk, StepDone, NothingDone};
 
-use line_lists::{COLUMNS, EVENTS, Part, W};
+use line_lists::{COLUMNS, Crossings, EVENTS, Part, W};
+use line_writing::lists::WallLists;
+use line_writing::writing::{Course, deliver};
 
 const LAST: usize = W - 1;
 
@@ -35,7 +38,15 @@ pub struct Pass {
 #[derive(Clone, Copy, Drop)]
 pub struct Progress {
     pub pass: Pass,
-    pub run: line_writing::writing::Course,
+    pub run: Course,
+}
+
+// The arrays of a block: its columns, which of them are their lines' last, and its events.
+#[derive(Drop)]
+pub struct Desk {
+    pub cols: [usize; COLUMNS],
+    pub lasts: [u64; W],
+    pub events: [u16; EVENTS],
 }
 
 // The formula's row of a block.
@@ -53,22 +64,14 @@ fn block_row(
     ensures { RowMade table.now call.arranged call.names rows.now shape.now cols.now lasts.now b.first b.size b.onward words.old words.new result }
 {
     line_strips::fill(words, call.names, rows, shape, cols, lasts, b);
-    let arranged = call.arranged;
-    line_words::evaluate(table, arranged, words)
+    line_words::evaluate(table, call.arranged, words)
 }
 
 // The line of the last of n columns goes on: only where the block is full.
 fn goes_past(lasts: &[u64; W], n: usize) -> bool
-    requires { length lasts.now ≡ wide }
     ensures { result ≡ (eqb n columns && not (cell lasts.now (columns - 1))) }
 {
-    if n != COLUMNS {
-        return false;
-    }
-    if (lasts[LAST] >> 63) % 2 == 1 {
-        return false;
-    }
-    true
+    n == COLUMNS && !word_bits::is_on(lasts[LAST], 63)
 }
 
 // The first line with a shape inside at its start. Where every line starts in air the rows are not looked at.
@@ -77,9 +80,10 @@ fn first_start(rows: &[u8], names: usize, count: usize, air: bool) -> usize
     ensures { NextInside names rows.now 0 result }
 {
     if air {
-        return count;
+        count
+    } else {
+        line_columns::Starts { rows, names, count }.next_inside(0)
     }
-    line_columns::next_inside(rows, names, count, 0)
 }
 
 fn first_pass(rows: &[u8], names: usize, count: usize, air: bool) -> Pass
@@ -100,48 +104,57 @@ pub fn step(
     call: Call,
     words: &mut [u64],
     rows: &[u8],
-    line: &[u32],
-    at: &[i32],
-    shape: &[u16],
-    cols: &mut [usize; COLUMNS],
-    lasts: &mut [u64; W],
-    events: &mut [u16; EVENTS],
+    x: Crossings<'_>,
+    desk: &mut Desk,
     p: Progress,
-    wl: &mut [u32],
-    ws: &mut [i32],
-    we: &mut [i32],
-    wf: &mut [u16],
-    wt: &mut [u16],
+    walls: &mut WallLists<'_>,
 ) -> Progress
-    requires { StepAsk table.now call.arranged call.names (line_lists rows.now line.now at.now shape.now) words.old p (answer_lists wl.old ws.old we.old wf.old wt.old) × Sized cols.old lasts.old events.old p.pass.numbered × (call.count ≡ row_count call.names rows.now) }
-    ensures { StepDone table.now call.arranged call.names (line_lists rows.now line.now at.now shape.now) words.old p (answer_lists wl.old ws.old we.old wf.old wt.old) words.new cols.new lasts.new events.new result (answer_lists wl.new ws.new we.new wf.new wt.new) }
+    requires { StepAsk table.now call.arranged call.names (call_lists rows.now x) words.old p (lists_in walls.old) × Sized desk.old.cols desk.old.lasts desk.old.events p.pass.numbered × (call.count ≡ row_count call.names rows.now) }
+    ensures step { StepDone table.now call.arranged call.names (call_lists rows.now x.entry) words.old p (lists_in walls.old) words.new desk.new.cols desk.new.lasts desk.new.events result (lists_in walls.new) }
+    ensures same { SameLists walls.old walls.new }
 {
     let pass = p.pass;
-    let run = p.run;
     let from = pass.cursor;
-    let names = call.names;
-    let count = call.count;
-    let ended = line_columns::plan(cols, lasts, rows, names, count, line, from, pass.numbered);
+    let starts = line_columns::Starts {
+        rows,
+        names: call.names,
+        count: call.count,
+    };
+    let ended = line_columns::plan(
+        &mut desk.cols,
+        &mut desk.lasts,
+        starts,
+        x.line,
+        from,
+        pass.numbered,
+    );
     let next = ended.next;
     let b = Part {
         first: from.i,
         size: next.c,
         alone: ended.alone,
         onward: pass.onward,
-        metal: run.metal,
+        metal: p.run.from.is_some(),
     };
-    let row = block_row(table, call, words, rows, shape, cols, lasts, b);
-    let m = line_sweeping::sweep(&row, lasts, line, at, cols, b, events);
-    let after = line_writing::writing::deliver(
-        events, m, line, at, shape, from.i, cols, run, wl, ws, we, wf, wt,
+    let row = block_row(
+        table,
+        call,
+        words,
+        rows,
+        x.shape,
+        &desk.cols,
+        &desk.lasts,
+        b,
     );
+    let m = line_sweeping::sweep(x, &desk.cols, &row, &desk.lasts, b, &mut desk.events);
+    let run = deliver(&desk.events, m, x, from.i, &desk.cols, p.run, walls);
     Progress {
         pass: Pass {
             cursor: next,
-            onward: goes_past(lasts, next.c),
+            onward: goes_past(&desk.lasts, next.c),
             numbered: ended.alone,
         },
-        run: after,
+        run,
     }
 }
 
@@ -153,15 +166,13 @@ pub fn call_of(
     rows: &[u8],
     table: &mut [u32; line_words::TABLE],
 ) -> Call
-    requires { FewCodes codes.now names × (length table.old ≡ 2048) }
+    requires { FewCodes codes.now names }
     ensures { CallMade codes.now names air rows.now table.new result }
 {
-    let arranged = line_words::arrange(codes, table);
-    let count = rows.len() / names;
     Call {
-        arranged,
+        arranged: line_words::arrange(codes, table),
         names,
-        count,
+        count: rows.len() / names,
         air,
     }
 }
@@ -170,12 +181,10 @@ pub fn begin(rows: &[u8], call: Call) -> Progress
     requires { WholeRows call.names rows.now call.count × SaidOf call.air rows.now }
     ensures { NothingDone call.names rows.now result }
 {
-    let pass = first_pass(rows, call.names, call.count, call.air);
     Progress {
-        pass,
-        run: line_writing::writing::Course {
-            metal: false,
-            from: line_writing::spots::Spot { at: 0, shape: 0 },
+        pass: first_pass(rows, call.names, call.count, call.air),
+        run: Course {
+            from: None,
             count: 0,
         },
     }
@@ -185,10 +194,6 @@ pub fn begin(rows: &[u8], call: Call) -> Progress
 pub fn is_left(p: Progress, crossings: usize, count: usize) -> bool
     ensures { result ≡ (ltb p.pass.cursor.i crossings || ltb p.pass.cursor.q count) }
 {
-    let pass = p.pass;
-    let f = pass.cursor;
-    if f.i < crossings {
-        return true;
-    }
-    f.q < count
+    let f = p.pass.cursor;
+    f.i < crossings || f.q < count
 }

@@ -1,4 +1,3 @@
-mod ItemLaws
-mod OrderLaws
-mod RoomLaws
-mod JudgeLaws
+pub mod ItemLaws
+pub mod OrderLaws
+pub mod JudgeLaws

@@ -1,209 +1,165 @@
 // Judges start rows and crossing lists, and the room in the answer lists: refusals 13, 14, 10, 15, 11 and 9.
 #![tactic(auto)]
 
-ghost use Rattle.std.specs.Prelude.{◌≡◌, ◌<◌, max, length};
-ghost use Rattle.lines.specs.Lines.{line_lists, roomy};
-ghost use Rattle.line_checking.specs.Verdicts.{verdict, RowsJudged, ItemsJudged, Judged};
-ghost use Rattle.line_checking.specs.Items.{falls_at, at_mark, wrong_at, Alike, Later, StrayAt, NoneStray, AllFine};
+ghost use Rattle.std.specs.Prelude.{◌≡◌, ◌<◌, ◌||◌, Ok, true, leb, pos, get_or, length};
+ghost use Rattle.outcome.specs.Refusing.{judged};
+ghost use Rattle.lines.specs.Lines.{line_lists, rowed, roomy};
 ghost use Rattle.line_lists.specs.Greatest.{Greatest};
+ghost use Rattle.line_checking.specs.Verdicts.{verdict, InAir, Judged};
+ghost use Rattle.line_checking.specs.Items.{at_mark, falls_at, asked_at, ordered_from, Later, NoneStray, AllFine};
 
-use line_lists::{Place, below, greatest_byte, not_beyond, one_if, spot};
+use line_lists::Crossings;
+use outcome::{Fault, Reason, need};
 
-#[derive(Drop)]
-pub enum Verdict {
-    // whether every line starts in air
-    Fine(bool),
-    Refused(u8, usize),
+const MOST_ROWS: usize = 4_294_967_296;
+
+// The crossings of lists that have one length, and what they are asked by.
+#[derive(Clone, Copy, Drop)]
+struct Items<'a> {
+    names: usize,
+    rows: usize,
+    line: &'a [u32],
+    at: &'a [i32],
+    shape: &'a [u16],
+    ghost positions: { length at.now ≡ length line.now },
+    ghost shapes: { length shape.now ≡ length line.now },
 }
 
-fn at_mark(p: Place) -> bool
-    ensures { result ≡ at_mark p.at }
+fn at_mark(p: i32) -> bool
+    ensures { result ≡ at_mark p }
 {
-    if not_beyond(p, Place { at: -2147483648 }) {
-        return true;
-    }
-    not_beyond(Place { at: 2147483647 }, p)
+    p <= i32::MIN || i32::MAX <= p
 }
 
-// The item at i, not the first, falls behind the one before it.
+// The item at i, not the first, falls behind the one before it. No branch: then many items are looked at at once.
+#[tactic(auto, using(crate::proofs::ItemLaws::falls_by))]
 fn falls_behind(line: &[u32], at: &[i32], i: usize) -> bool
     requires { Later line.now at.now i }
     ensures { result ≡ falls_at line.now at.now i }
 {
-    let l0 = line[i - 1];
-    let l1 = line[i];
-    if l1 < l0 {
-        return true;
-    }
-    if l1 == l0 {
-        return below(at, i, i - 1);
-    }
-    false
+    let same = line[i] == line[i - 1];
+    let down = at[i] < at[i - 1];
+    (line[i] < line[i - 1]) | (same & down)
 }
 
-// 0 if the item at i, not the first, neither falls behind the one before it nor is at an end mark. Flags and no branch: then many items are looked at at once.
-fn stray(line: &[u32], at: &[i32], i: usize) -> u32
-    requires { Later line.now at.now i }
-    ensures { StrayAt line.now at.now i result }
-{
-    let l0 = line[i - 1];
-    let l1 = line[i];
-    let p = spot(at, i);
-    let back = one_if(l1 < l0);
-    let same = one_if(l1 == l0);
-    let down = one_if(below(at, i, i - 1));
-    let mark = one_if(at_mark(p));
-    back | (same & down) | mark
-}
-
-fn larger_shape(a: u16, b: u16) -> u16
-    ensures { result ≡ max a b }
-{
-    if a < b {
-        return b;
-    }
-    a
-}
-
-// 0 if no item but perhaps the first falls or is at an end mark. No way out before the end, for the same reason.
-fn strays(line: &[u32], at: &[i32]) -> u32
+// Some item but the first falls or is at an end mark. No way out before the end, for the same reason.
+#[tactic(auto, using(crate::proofs::ItemLaws::none_yet, crate::proofs::ItemLaws::none_more))]
+fn strays(line: &[u32], at: &[i32]) -> bool
     requires { length at.now ≡ length line.now }
     ensures { NoneStray line.now at.now (length line.now) result }
 {
-    let mut found: u32 = 0;
-    let mut i: usize = 1;
-    while i < line.len() {
-        let s = stray(line, at, i);
-        found = found | s;
-        i += 1;
+    let mut found = false;
+    for i in 1..line.len() {
+        found |= falls_behind(line, at, i) | at_mark(at[i]);
     }
     found
 }
 
-fn greatest_shape(shapes: &[u16]) -> u16
-    ensures { Greatest shapes.now (length shapes.now) result }
-{
-    let mut most: u16 = 0;
-    let mut i: usize = 0;
-    while i < shapes.len() {
-        let s = shapes[i];
-        most = larger_shape(most, s);
-        i += 1;
+impl Items<'_> {
+    // The item at i is at an end mark, or on a line with no row.
+    fn astray(self, i: usize) -> bool
+        requires { i < length self.line.now }
+        ensures { result ≡ (at_mark (get_or self.entry.at.now i (pos 0)) || leb self.entry.rows (get_or self.entry.line.now i 0)) }
+    {
+        at_mark(self.at[i]) || self.rows <= self.line[i] as usize
     }
-    most
-}
 
-// 10, 15 or 11 for the item at i; 0 where nothing is wrong with it.
-fn wrong(names: usize, rows: usize, line: &[u32], at: &[i32], shape: &[u16], i: usize) -> u8
-    requires { Alike line.now at.now shape.now × (i < length line.now) }
-    ensures { result ≡ wrong_at names rows line.now at.now shape.now i }
-{
-    if names <= basics::wide(shape[i]) {
-        return 10;
+    // The item at i falls behind the one before it.
+    #[tactic(auto, using(crate::proofs::ItemLaws::falls_first))]
+    fn falls(self, i: usize) -> bool
+        requires { i < length self.line.now }
+        ensures { result ≡ falls_at self.entry.line.now self.entry.at.now i }
+    {
+        i != 0 && falls_behind(self.line, self.at, i)
     }
-    if at_mark(spot(at, i)) {
-        return 15;
-    }
-    if rows <= basics::wide_long(line[i]) {
-        return 15;
-    }
-    if i == 0 {
-        return 0;
-    }
-    if falls_behind(line, at, i) {
-        return 11;
-    }
-    0
-}
 
-// Item by item: the first reason met. `air` is what is known of the rows.
-fn first_wrong(
-    names: usize,
-    rows: usize,
-    line: &[u32],
-    at: &[i32],
-    shape: &[u16],
-    air: bool,
-) -> Verdict
-    requires { Alike line.now at.now shape.now }
-    ensures { ItemsJudged names rows line.now at.now shape.now air result }
-{
-    let mut i: usize = 0;
-    while i < line.len() {
-        let number = wrong(names, rows, line, at, shape, i);
-        if number != 0 {
-            return Verdict::Refused(number, i);
+    // 10, 15 and 11 of the item at i.
+    #[tactic(auto, unfolding(crate::specs::Items::asked_at))]
+    fn asked(self, i: usize) -> Result<(), Fault>
+        requires { i < length self.line.now }
+        ensures { judged result ≡ asked_at self.entry.names self.entry.rows self.entry.line.now self.entry.at.now self.entry.shape.now i }
+    {
+        let named = usize::from(self.shape[i]) < self.names;
+        need(named, Reason::NoSuchShape, i)?;
+        need(!self.astray(i), Reason::Astray, i)?;
+        need(!self.falls(i), Reason::Falls, i)
+    }
+
+    // Item by item: the first reason met.
+    #[tactic(auto, using(crate::proofs::OrderLaws::fine_none, crate::proofs::OrderLaws::fine_more, crate::proofs::OrderLaws::fine_wrong, crate::proofs::OrderLaws::fine_all))]
+    fn first_wrong(self) -> Result<(), Fault>
+        ensures { judged result ≡ ordered_from self.entry.names self.entry.rows self.entry.line.now self.entry.at.now self.entry.shape.now 0 }
+    {
+        for i in 0..self.line.len() {
+            self.asked(i)?;
         }
-        i += 1;
+        Ok(())
     }
-    Verdict::Fine(air)
-}
 
-// Nothing is wrong with any item. A no may be wrong: then they are asked one by one.
-fn all_fine(names: usize, rows: usize, line: &[u32], at: &[i32], shape: &[u16]) -> bool
-    requires { Alike line.now at.now shape.now × (0 < length line.now) }
-    ensures { AllFine names rows line.now at.now shape.now result }
-{
-    if wrong(names, rows, line, at, shape, 0) != 0 {
-        return false;
+    #[tactic(auto, using(line_lists::proofs::GreatestLaws::greatest_fold))]
+    fn greatest_shape(self) -> u16
+        ensures { Greatest self.entry.shape.now (length self.entry.shape.now) result }
+    {
+        self.shape.iter().fold(0, |most, &s| most.max(s))
     }
-    if rows <= basics::wide_long(line[line.len() - 1]) {
-        return false;
-    }
-    if names <= basics::wide(greatest_shape(shape)) {
-        return false;
-    }
-    strays(line, at) == 0
-}
 
-// 10, 15 and 11 over all items.
-fn items(names: usize, rows: usize, line: &[u32], at: &[i32], shape: &[u16], air: bool) -> Verdict
-    requires { Alike line.now at.now shape.now }
-    ensures { ItemsJudged names rows line.now at.now shape.now air result }
-{
-    if line.len() == 0 {
-        return Verdict::Fine(air);
+    // Nothing is wrong with any item. A no may be wrong: then they are asked one by one.
+    #[tactic(auto, using(crate::proofs::OrderLaws::all_fine_not, crate::proofs::OrderLaws::all_fine_by))]
+    fn all_fine(self) -> bool
+        requires { 0 < length self.line.now }
+        ensures { AllFine self.entry.names self.entry.rows self.entry.line.now self.entry.at.now self.entry.shape.now result }
+    {
+        let last = self.line[self.line.len() - 1] as usize;
+        !at_mark(self.at[0])
+            && last < self.rows
+            && usize::from(self.greatest_shape()) < self.names
+            && !strays(self.line, self.at)
     }
-    if all_fine(names, rows, line, at, shape) {
-        return Verdict::Fine(air);
+
+    // 10, 15 and 11 over all items.
+    fn judge(self) -> Result<(), Fault>
+        ensures { judged result ≡ ordered_from self.entry.names self.entry.rows self.entry.line.now self.entry.at.now self.entry.shape.now 0 }
+    {
+        if !self.line.is_empty() && self.all_fine() {
+            return Ok(());
+        }
+        self.first_wrong()
     }
-    first_wrong(names, rows, line, at, shape, air)
 }
 
 // 14, and whether every line starts in air.
-fn judge_rows(names: usize, rows: &[u8]) -> Verdict
+#[tactic(auto, using(line_lists::proofs::GreatestLaws::greatest_fold, crate::proofs::JudgeLaws::bits_by, crate::proofs::JudgeLaws::air_by))]
+fn judge_rows(names: usize, rows: &[u8]) -> Result<bool, Fault>
     requires { 0 < names }
-    ensures { RowsJudged names rows.now result }
+    ensures is { verdict result ≡ rowed names rows.now }
+    ensures air { result ≡ Ok true → InAir rows.now }
 {
-    if rows.len() % names != 0 {
-        return Verdict::Refused(14, 0);
-    }
-    if 4294967296 < rows.len() / names {
-        return Verdict::Refused(14, 0);
-    }
-    let most = greatest_byte(rows);
-    if 1 < most {
-        return Verdict::Refused(14, 0);
-    }
-    Verdict::Fine(most == 0)
+    need(rows.len() % names == 0, Reason::RowsWrong, 0)?;
+    need(rows.len() / names <= MOST_ROWS, Reason::RowsWrong, 0)?;
+    let most = rows.iter().fold(0, |most, &b| most.max(b));
+    need(most <= 1, Reason::RowsWrong, 0)?;
+    Ok(most == 0)
 }
 
-// Start rows and crossing lists: 13, then 14, then 10, 15 and 11.
-pub fn judge(names: usize, rows: &[u8], line: &[u32], at: &[i32], shape: &[u16]) -> Verdict
+// Start rows and crossing lists: 13, then 14, then 10, 15 and 11; and whether every line starts in air.
+#[tactic(auto, unfolding(crate::specs::Items::ordered_from, lines::specs::Lines::judged))]
+pub fn judge(names: usize, rows: &[u8], crossings: Crossings<'_>) -> Result<bool, Fault>
     requires { 0 < names }
-    ensures { Judged names (line_lists rows.now line.now at.now shape.now) result }
+    ensures { Judged names (line_lists rows.now crossings.entry.line.now crossings.entry.at.now crossings.entry.shape.now) result }
 {
-    if at.len() != line.len() {
-        return Verdict::Refused(13, 0);
-    }
-    if shape.len() != line.len() {
-        return Verdict::Refused(13, 0);
-    }
-    let v = judge_rows(names, rows);
-    match v {
-        Verdict::Refused(number, place) => Verdict::Refused(number, place),
-        Verdict::Fine(air) => items(names, rows.len() / names, line, at, shape, air),
-    }
+    let Crossings { line, at, shape } = crossings;
+    need(at.len() == line.len(), Reason::LengthsDiffer, 0)?;
+    need(shape.len() == line.len(), Reason::LengthsDiffer, 0)?;
+    let air = judge_rows(names, rows)?;
+    let items = Items {
+        names,
+        rows: rows.len() / names,
+        line,
+        at,
+        shape,
+    };
+    items.judge()?;
+    Ok(air)
 }
 
 // 9: the answer lists line, start, end, start shape, end shape, of which each needs n entries.
@@ -214,23 +170,12 @@ pub fn room(
     ends: usize,
     start_shapes: usize,
     end_shapes: usize,
-) -> Verdict
-    ensures { verdict result ≡ roomy n lines starts ends start_shapes end_shapes }
+) -> Result<(), Fault>
+    ensures { judged result ≡ roomy n lines starts ends start_shapes end_shapes }
 {
-    if lines < n {
-        return Verdict::Refused(9, n);
-    }
-    if starts < n {
-        return Verdict::Refused(9, n);
-    }
-    if ends < n {
-        return Verdict::Refused(9, n);
-    }
-    if start_shapes < n {
-        return Verdict::Refused(9, n);
-    }
-    if end_shapes < n {
-        return Verdict::Refused(9, n);
-    }
-    Verdict::Fine(false)
+    outcome::room(n, lines)?;
+    outcome::room(n, starts)?;
+    outcome::room(n, ends)?;
+    outcome::room(n, start_shapes)?;
+    outcome::room(n, end_shapes)
 }

@@ -1,5 +1,5 @@
 -- The planning of a block: how it begins, goes on by a column or a word, and ends.
-use Prim.Native.Nat.{ℕ, ◌+◌, ◌-◌, ◌%◌, ◌<◌, ◌≤◌}
+use Prim.Native.Nat.{ℕ, ◌+◌, ◌-◌, ◌<◌, ◌≤◌, ◌*◌}
 use native.Mathlib.Omega.{arith}
 use mathlib.Core.Path.{◌≡◌, refl, sym, ap, ◌∙◌}
 use mathlib.Core.Bool.{Bool, true, false}
@@ -15,6 +15,7 @@ use Rattle.lines.specs.Views.{view_of, view_at}
 use Rattle.lines.specs.AtIndex.{item, group_ends_at, Accepted}
 use Rattle.line_lists.specs.Block.{Plan, columns, cell, start_line}
 use Rattle.line_strips.specs.Strips.{last_at}
+use Rattle.line_columns.specs.declared.Cursor.{Cursor}
 use Rattle.line_columns.specs.Planned.{left_at, start_held, crossing_held, held_at, HeldWithin, PlanSized, BlockPlanned}
 use Rattle.line_runs.specs.Runs.{over_at}
 use Rattle.line_columns.specs.Planning.{AtCursor, NextInside, StartsNext, Planning, PlanningOf, CanPlan, WordNext, WordPlanned, PlanMade}
@@ -180,10 +181,10 @@ module _ (names : ℕ) (c : LineLists) (ok : Accepted names c) (i q : ℕ) where
 
 -- ---- the same whatever the positions and the shapes are
 
--- whole words are planned
-pub record Words (names : ℕ) (rows ls : List ℕ) (count : ℕ) (i q : ℕ) (p : Plan) (n i' q' : ℕ) : Type 0 where
+-- k whole words are planned
+pub record Words (names : ℕ) (rows ls : List ℕ) (count : ℕ) (i q : ℕ) (p : Plan) (k n i' q' : ℕ) : Type 0 where
   pub planning : PlanningOf names rows ls count i q p n i' q'
-  pub words : n % 64 ≡ 0
+  pub words : n ≡ 64 * k
 
 module _ (names : ℕ) (rows ls : List ℕ) (count i q : ℕ) where
   pub each_kept : (p p' : Plan) (n i' q' : ℕ) → Kept p p' n → PlanningOf names rows ls count i q p n i' q' → PlanningOf names rows ls count i q p' n i' q'
@@ -231,7 +232,7 @@ module _ (names : ℕ) (rows ls : List ℕ) (count i q : ℕ) where
 
   -- ---- word by word
 
-  pub words_none : (p : Plan) → CanPlan names rows ls count p i q → Words names rows ls count i q p 0 i q
+  pub words_none : (p : Plan) → CanPlan names rows ls count p i q → Words names rows ls count i q p 0 0 i q
   words_none p can = record {
     planning = record {
       whole = can.whole;
@@ -248,18 +249,30 @@ module _ (names : ℕ) (rows ls : List ℕ) (count i q : ℕ) where
   }
 
   module _ (p : Plan) (n i' q' : ℕ) where
-    pub words_next : Words names rows ls count i q p n i' q' → n < columns → WordNext names rows ls count i q p n i' q'
-    words_next t h = record { planning = t.planning; words = t.words; more = h }
-
     made : PlanningOf names rows ls count i q p n i' q' → ((ps : List ℤ) (ss : List ℕ) → Accepted names (line_lists rows ls ps ss) → AtCursor names (line_lists rows ls ps ss) i q → BlockPlanned names (line_lists rows ls ps ss) i q p n i' q') → PlanMade names rows ls p i q n i' q'
     made t block = record { sized = t.sized; narrow = t.narrow; crossing = t.crossing; row = omega (arith, t.row, t.whole.are); block = block; next = λ ps ss ok at. (t.all ps ss ok at).cursor }
 
-    pub words_full : Words names rows ls count i q p n i' q' → columns ≤ n → PlanMade names rows ls p i q n i' q'
-    words_full t h = made t.planning (λ ps ss ok at. planned_full names (line_lists rows ls ps ss) ok i q p n i' q' (t.planning.all ps ss ok at) h)
+    pub words_full : (k : ℕ) → Words names rows ls count i q p k n i' q' → 8 ≤ k → PlanMade names rows ls p i q n i' q'
+    words_full k t h = made t.planning (λ ps ss ok at. planned_full names (line_lists rows ls ps ss) ok i q p n i' q' (t.planning.all ps ss ok at) (omega (arith, t.words)))
 
-    module _ (c : ℕ) (t : WordPlanned names rows ls count i q p c n i' q') where
-      pub words_more : c % 64 ≡ 0 → c + 64 ≤ n → Words names rows ls count i q p n i' q'
-      words_more e h = record { planning = t.planning; words = omega (arith, t.most) }
+  module _ (p : Plan) (f : Cursor) where
+    abbrev n : ℕ
+    n = f.c
 
-      pub words_over : n < c + 64 → PlanMade names rows ls p i q n i' q'
-      words_over h = made t.planning (λ ps ss ok at. planned-over names (line_lists rows ls ps ss) ok i q p n i' q' (t.planning.all ps ss ok at) (t.crossing h) (omega (arith, t.row h, t.planning.whole.are)))
+    abbrev i' : ℕ
+    i' = f.i
+
+    abbrev q' : ℕ
+    q' = f.q
+
+    pub words_next : (k : ℕ) → Words names rows ls count i q p k f.c f.i f.q → k < 8 → WordNext names rows ls count i q p f
+    words_next k t h = record { planning = t.planning; words = omega (arith, t.words); more = omega (arith, t.words) }
+
+    module _ {p₀ : Plan} {c i₀ q₀ : ℕ} (k : ℕ) (was : Words names rows ls count i q p₀ k c i₀ q₀) (t : WordPlanned names rows ls count i q p c f) where
+      pub words_more : 64 * (k + 1) ≤ f.c → Words names rows ls count i q p (k + 1) f.c f.i f.q
+      words_more h = record { planning = t.planning; words = omega (arith, t.most, was.words) }
+
+      pub words_over : f.c < 64 * (k + 1) → PlanMade names rows ls p i q f.c f.i f.q
+      words_over h =
+          let short : n < c + 64 = omega (arith, was.words) in
+          made p n i' q' t.planning (λ ps ss ok at. planned-over names (line_lists rows ls ps ss) ok i q p n i' q' (t.planning.all ps ss ok at) (t.crossing short) (omega (arith, t.row short, t.planning.whole.are)))

@@ -1,5 +1,5 @@
 -- Start rows: whether a shape is inside, and the next row with one.
-use Prim.Native.Nat.{ℕ, zero, suc, ◌+◌, ◌-◌, ◌*◌, ◌<◌, ◌≤◌}
+use Prim.Native.Nat.{ℕ, zero, suc, ◌+◌, ◌-◌, ◌*◌, ◌<◌, ◌≤◌, max}
 use native.Mathlib.Nat.{not-suc-le-zero, mul-le-mul_right}
 use native.Mathlib.Omega.{arith}
 use mathlib.Core.Path.{◌≡◌, refl, sym, ◌∙◌}
@@ -12,7 +12,6 @@ use lib.Seq.{get_or-drop, get_or-take, length-take-le}
 use Rattle.formula.specs.States.{State}
 use Rattle.lines.specs.Lines.{start_state}
 use Rattle.lines.specs.Columns.{any_inside}
-use Rattle.line_lists.specs.Greatest.{Greatest}
 use Rattle.line_columns.specs.Planning.{NextInside, WholeRows, RowThere, Occupied}
 
 any_none : (n : ℕ) (state : State) → ((s : ℕ) → s < n → state s ≡ false) → any_inside n state ≡ false
@@ -33,12 +32,37 @@ any_some (suc n) state s h e = by (ltb s n) refl (λ k. any_some n state s k e)
     by true k ih = rw (ih (ltb-true s n k)) (or_yes (state n))
     by false k ih = let same : s ≡ n = omega (arith, ltb-false s n k) in rw (← same, e)
 
-pub occupied : (row : List ℕ) (m : ℕ) → Greatest row (length row) m → Occupied row (not (eqb m 0))
-occupied row m g = by (eqb m 0) refl
+-- of the first i bytes of a row m is the greatest, or 0
+pub record Greatest (row : List ℕ) (i m : ℕ) : Type 0 where
+  pub none : m ≡ 0 → (s : ℕ) → s < i → get_or row s 0 ≡ 0
+  pub some : (m ≡ 0 → ⊥) → (s : ℕ) × (s < i) × (get_or row s 0 ≡ 0 → ⊥)
+
+pub greatest_none : (row : List ℕ) → Greatest row 0 0
+greatest_none row = record { none = λ e s h. absurd (omega arith); some = λ n. absurd (n refl) }
+
+pub greatest_more : {row : List ℕ} {i m m' : ℕ} → Greatest row i m → m' ≡ max m (get_or row i 0) → Greatest row (i + 1) m'
+greatest_more {row} {i} {m} {m'} g e = record { none = none; some = some }
+  where
+    none : m' ≡ 0 → (s : ℕ) → s < i + 1 → get_or row s 0 ≡ 0
+    none z s h = by (ltb s i) refl
+      where
+        by : (t : Bool) → ltb s i ≡ t → get_or row s 0 ≡ 0
+        by true k = g.none (omega arith) s (ltb-true s i k)
+        by false k = let same : s ≡ i = omega (arith, ltb-false s i k) in rw same (omega arith)
+
+    some : (m' ≡ 0 → ⊥) → (s : ℕ) × (s < i + 1) × (get_or row s 0 ≡ 0 → ⊥)
+    some n = by (eqb (get_or row i 0) 0) refl
+      where
+        by : (t : Bool) → eqb (get_or row i 0) 0 ≡ t → (s : ℕ) × (s < i + 1) × (get_or row s 0 ≡ 0 → ⊥)
+        by true k = let f = g.some (λ z. n (omega (arith, eqb-true (get_or row i 0) 0 k))) in (f.0, omega (arith, f.1), f.2)
+        by false k = (i, omega arith, eqb-false (get_or row i 0) 0 k)
+
+pub occupied : (row : List ℕ) (i m : ℕ) → Greatest row i m → i ≡ length row → Occupied row (not (eqb m 0))
+occupied row i m g l = by (eqb m 0) refl
   where
     by : (t : Bool) → eqb m 0 ≡ t → Occupied row (not t)
-    by true e = record { yes = λ h. absurd (false≢true h); no = λ h s k. omega (arith, g.above s k, eqb-true m 0 e) }
-    by false e = record { yes = λ h. let f = g.among (omega (arith, eqb-false m 0 e)) in (f.0, f.1, λ z. absurd (omega (arith, f.2, eqb-false m 0 e))); no = λ h. absurd (true≢false h) }
+    by true e = record { yes = λ h. absurd (false≢true h); no = λ h s k. g.none (eqb-true m 0 e) s (omega arith) }
+    by false e = record { yes = λ h. let f = g.some (eqb-false m 0 e) in (f.0, omega (arith, f.1), f.2); no = λ h. absurd (true≢false h) }
 
 module _ (names : ℕ) (rows : List ℕ) (q : ℕ) (there : RowThere names rows q) where
   abbrev row : List ℕ
@@ -104,5 +128,7 @@ module _ (names : ℕ) (rows : List ℕ) (count : ℕ) (whole : WholeRows names 
   pub next_found : (r q : ℕ) (b : Bool) → Passed names rows count r q → q < count → b ≡ any_inside names (start_state names rows q) → b ≡ true → NextInside names rows r q
   next_found r q b p h e z = record { from = p.from; row = omega (arith, whole.are); none = p.none; inside = λ k. sym e ∙ z }
 
-  pub next-none : (r q : ℕ) → Passed names rows count r q → count ≤ q → NextInside names rows r q
-  next-none r q p h = record { from = p.from; row = omega (arith, p.row, whole.are); none = p.none; inside = λ k. absurd (omega (arith, whole.are)) }
+  pub next_none : (r q : ℕ) → Passed names rows count r q → count ≤ q → NextInside names rows r count
+  next_none r q p h =
+      let z : count ≡ q = omega (arith, p.row) in
+      record { from = omega (arith, p.from); row = omega (arith, whole.are); none = λ l a k. p.none l a (omega arith); inside = λ k. absurd (omega (arith, whole.are)) }

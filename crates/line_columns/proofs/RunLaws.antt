@@ -1,5 +1,5 @@
 -- Crossings alone: their ends, and that they are the block that is planned.
-use Prim.Native.Nat.{ℕ, zero, suc, ◌+◌, ◌-◌, ◌<◌, ◌≤◌}
+use Prim.Native.Nat.{ℕ, zero, suc, ◌+◌, ◌-◌, ◌<◌, ◌≤◌, min}
 use native.Mathlib.Omega.{arith}
 use native.Mathlib.Decide.{dec_lt}
 use mathlib.Core.Path.{◌≡◌, refl, sym, ap, ◌∙◌}
@@ -30,19 +30,12 @@ module _ (ls : List ℕ) where
   pub runs_none : (count i q : ℕ) → i ≤ length ls → RunsOn ls count i q 0
   runs_none count i q h = record { most = omega arith; there = omega arith; whole = λ s. absurd (omega arith); before = λ s. absurd (omega arith) }
 
-  module _ (count i q e : ℕ) (some : i < e) (there : e ≤ length ls) (most : e - i ≤ columns) (whole : e < length ls → e - i ≡ columns) where
-    ends : e - i < columns → i + (e - i) ≡ length ls
-    ends k = by (dec_lt e (length ls))
-      where
-        by : Dec (e < length ls) → i + (e - i) ≡ length ls
-        by (yes l) = absurd (omega (arith, whole l))
-        by (no l) = omega arith
+  module _ (count i q n : ℕ) (on : i ≤ length ls) (is : n ≡ min (length ls - i) columns) where
+    pub runs-free : count ≤ q → RunsOn ls count i q n
+    runs-free h = record { most = omega arith; there = omega arith; whole = λ s k. omega arith; before = λ s k. absurd (omega arith) }
 
-    pub runs-free : count ≤ q → RunsOn ls count i q (e - i)
-    runs-free h = record { most = most; there = omega arith; whole = λ s. ends; before = λ s k. absurd (omega arith) }
-
-    pub runs-line : (w : ℕ) → w ≡ get_or ls (e - 1) 0 → w < q → RunsOn ls count i q (e - i)
-    runs-line w is h = let back : i + (e - i) - 1 ≡ e - 1 = omega arith in record { most = most; there = omega arith; whole = λ s. ends; before = λ s k. rw back (omega (arith, is)) }
+    pub runs-line : (w : ℕ) → w ≡ get_or ls (i + n - 1) 0 → w < q → RunsOn ls count i q n
+    runs-line w e h = record { most = omega arith; there = omega arith; whole = λ s k. omega arith; before = λ s k. omega (arith, e) }
 
 -- ---- the block
 

@@ -5,8 +5,10 @@ use Rattle.lines.specs.Columns.{any_inside}
 use Rattle.lines.specs.Views.{view_at}
 use Rattle.lines.specs.AtIndex.{Accepted}
 use Rattle.word_bits.specs.Words.{bit}
-use Rattle.line_lists.specs.Block.{Plan, planned, wide, columns}
+use Rattle.line_lists.specs.Block.{Plan, planned, columns}
 use Rattle.line_runs.specs.Runs.{over_at}
+use Rattle.line_columns.specs.declared.Cursor.{Cursor}
+use Rattle.line_columns.specs.declared.Word.{Word}
 use Rattle.line_columns.specs.Planned.{left_at, held_at, HeldWithin, PlanSized, BlockPlanned}
 
 -- a cursor stands before crossing i, and before the start of line q, where a shape is inside, or after all starts
@@ -58,34 +60,34 @@ pub record ColumnPut (cols : List ℕ) (w : ℕ) (cols' : List ℕ) (w' c col : 
   pub same : (j : ℕ) → (j ≡ c → ⊥) → get_or cols' j 0 ≡ get_or cols j 0
   pub lasts : LastPut w w' c last
 
--- the start of line q can become column c
-pub record StartReady (names : ℕ) (rows ls : List ℕ) (count : ℕ) (cols : List ℕ) (i q c : ℕ) : Type 0 where
+-- the start of the cursor's line can become its column
+pub record StartReady (names : ℕ) (rows ls : List ℕ) (count : ℕ) (cols : List ℕ) (at : Word) : Type 0 where
   pub whole : WholeRows names rows count
   pub few : count ≤ 4294967296
   pub wide : length cols ≡ columns
-  pub narrow : c < columns
-  pub crossing : i ≤ length ls
-  pub row : q < count
+  pub narrow : at.next.c < columns
+  pub crossing : at.next.i ≤ length ls
+  pub row : at.next.q < count
 
-pub record StartPut (names : ℕ) (rows ls cols : List ℕ) (w : ℕ) (cols' : List ℕ) (w' i q c i' q' c' : ℕ) : Type 0 where
-  pub put : ColumnPut cols w cols' w' c (columns + q) (over_at ls q i)
-  pub next : NextInside names rows (q + 1) q'
-  pub same : i' ≡ i
-  pub more : c' ≡ c + 1
+pub record StartPut (names : ℕ) (rows ls cols : List ℕ) (at : Word) (cols' : List ℕ) (at' : Word) : Type 0 where
+  pub put : ColumnPut cols at.lasts cols' at'.lasts at.next.c (columns + at.next.q) (over_at ls at.next.q at.next.i)
+  pub next : NextInside names rows (at.next.q + 1) at'.next.q
+  pub same : at'.next.i ≡ at.next.i
+  pub more : at'.next.c ≡ at.next.c + 1
 
--- crossing i can become column c of the block that begins at crossing a
-pub record CrossingReady (cols : List ℕ) (a i c : ℕ) : Type 0 where
+-- the cursor's crossing can become its column, of the block that begins at crossing a
+pub record CrossingReady (cols : List ℕ) (a : ℕ) (at : Word) : Type 0 where
   pub wide : length cols ≡ columns
-  pub narrow : c < columns
-  pub few : i < 18446744073709551615
-  pub on : a ≤ i
-  pub gone : i ≤ a + c
+  pub narrow : at.next.c < columns
+  pub few : at.next.i < 18446744073709551615
+  pub on : a ≤ at.next.i
+  pub gone : at.next.i ≤ a + at.next.c
 
-pub record CrossingPut (cols : List ℕ) (w : ℕ) (cols' : List ℕ) (w' a : ℕ) (last : Bool) (i q c i' q' c' : ℕ) : Type 0 where
-  pub put : ColumnPut cols w cols' w' c (i - a) last
-  pub next : i' ≡ i + 1
-  pub same : q' ≡ q
-  pub more : c' ≡ c + 1
+pub record CrossingPut (cols : List ℕ) (a : ℕ) (last : Bool) (at : Word) (cols' : List ℕ) (at' : Word) : Type 0 where
+  pub put : ColumnPut cols at.lasts cols' at'.lasts at.next.c (at.next.i - a) last
+  pub next : at'.next.i ≡ at.next.i + 1
+  pub same : at'.next.q ≡ at.next.q
+  pub more : at'.next.c ≡ at.next.c + 1
 
 -- n columns of the block at cursor i, q are planned, and the cursor is at i', q'
 pub record Planning (names : ℕ) (c : LineLists) (i q : ℕ) (p : Plan) (n i' q' : ℕ) : Type 0 where
@@ -112,57 +114,57 @@ pub record PlanningOf (names : ℕ) (rows ls : List ℕ) (count : ℕ) (i q : �
   pub all : (ps : List ℤ) (ss : List ℕ) → Accepted names (line_lists rows ls ps ss) → AtCursor names (line_lists rows ls ps ss) i q → Planning names (line_lists rows ls ps ss) i q p n i' q'
 
 -- a word of columns comes next
-pub record WordNext (names : ℕ) (rows ls : List ℕ) (count : ℕ) (i q : ℕ) (p : Plan) (c i' q' : ℕ) : Type 0 where
-  pub planning : PlanningOf names rows ls count i q p c i' q'
+pub record WordNext (names : ℕ) (rows ls : List ℕ) (count : ℕ) (i q : ℕ) (p : Plan) (f : Cursor) : Type 0 where
+  pub planning : PlanningOf names rows ls count i q p f.c f.i f.q
+  pub words : f.c % 64 ≡ 0
+  pub more : f.c < columns
+
+-- the word of lasts from column c on is in hand, and says of no column from the cursor's on
+pub record WordPlanning (names : ℕ) (rows ls : List ℕ) (count : ℕ) (i q : ℕ) (lasts : List ℕ) (c : ℕ) (cols : List ℕ) (at : Word) : Type 0 where
+  pub planning : PlanningOf names rows ls count i q (planned cols (set lasts (c / 64) at.lasts)) at.next.c at.next.i at.next.q
   pub words : c % 64 ≡ 0
   pub more : c < columns
+  pub from : c ≤ at.next.c
+  pub most : at.next.c ≤ c + 64
+  pub off : (d : ℕ) → at.next.c ≤ c + d → d < 64 → bit at.lasts d ≡ false
 
--- the word of lasts from column c on is in hand: it is w, and says of no column from n on
-pub record WordPlanning (names : ℕ) (rows ls : List ℕ) (count : ℕ) (i q : ℕ) (lasts : List ℕ) (c : ℕ) (cols : List ℕ) (w n i' q' : ℕ) : Type 0 where
-  pub planning : PlanningOf names rows ls count i q (planned cols (set lasts (c / 64) w)) n i' q'
-  pub words : c % 64 ≡ 0
-  pub more : c < columns
-  pub from : c ≤ n
-  pub most : n ≤ c + 64
-  pub off : (d : ℕ) → n ≤ c + d → d < 64 → bit w d ≡ false
-
--- the crossings from i on, to the one before stop, can become the columns from c on
-pub record UntilReady (ls cols : List ℕ) (a stop i c : ℕ) : Type 0 where
+-- the crossings from the cursor's on, to the one before stop, can become columns
+pub record UntilReady (ls cols : List ℕ) (a stop : ℕ) (at : Word) : Type 0 where
   pub wide : length cols ≡ columns
-  pub room : stop + c ≤ columns + i
+  pub room : stop + at.next.c ≤ columns + at.next.i
   pub there : stop ≤ length ls
-  pub crossing : i ≤ length ls
-  pub on : a ≤ i
-  pub gone : i ≤ a + c
+  pub crossing : at.next.i ≤ length ls
+  pub on : a ≤ at.next.i
+  pub gone : at.next.i ≤ a + at.next.c
 
 -- the first of them are columns: whatever block they are of, if its next start is not before line limit
-pub record UntilPut (ls : List ℕ) (a limit stop : ℕ) (cols : List ℕ) (w i q c : ℕ) (cols' : List ℕ) (w' i' q' c' : ℕ) : Type 0 where
-  pub further : c ≤ c'
-  pub planning : (names : ℕ) (rows : List ℕ) (count q₀ : ℕ) (lasts : List ℕ) (c₀ : ℕ) → (q < count → limit ≤ q) → stop + c ≤ c₀ + 64 + i
-      → WordPlanning names rows ls count a q₀ lasts c₀ cols w c i q → WordPlanning names rows ls count a q₀ lasts c₀ cols' w' c' i' q'
+pub record UntilPut (ls : List ℕ) (a limit stop : ℕ) (cols : List ℕ) (at : Word) (cols' : List ℕ) (at' : Word) : Type 0 where
+  pub further : at.next.c ≤ at'.next.c
+  pub planning : (names : ℕ) (rows : List ℕ) (count q₀ : ℕ) (lasts : List ℕ) (c₀ : ℕ) → (at.next.q < count → limit ≤ at.next.q) → stop + at.next.c ≤ c₀ + 64 + at.next.i
+      → WordPlanning names rows ls count a q₀ lasts c₀ cols at → WordPlanning names rows ls count a q₀ lasts c₀ cols' at'
 
--- the crossings from i on can become the columns from c to end
-pub record CrossingsReady (ls cols : List ℕ) (a end i c : ℕ) : Type 0 where
+-- the crossings from the cursor's on can become the columns to end
+pub record CrossingsReady (ls cols : List ℕ) (a end : ℕ) (at : Word) : Type 0 where
   pub wide : length cols ≡ columns
   pub narrow : end ≤ columns
-  pub room : c < end
-  pub crossing : i < length ls
-  pub on : a ≤ i
-  pub gone : i ≤ a + c
+  pub room : at.next.c < end
+  pub crossing : at.next.i < length ls
+  pub on : a ≤ at.next.i
+  pub gone : at.next.i ≤ a + at.next.c
 
--- one or more of them are columns: whatever block they are of, if its next start is not before crossing i
-pub record CrossingsPut (ls : List ℕ) (count a end : ℕ) (cols : List ℕ) (w i q c : ℕ) (cols' : List ℕ) (w' i' q' c' : ℕ) : Type 0 where
-  pub further : c < c'
-  pub planning : (names : ℕ) (rows : List ℕ) (q₀ : ℕ) (lasts : List ℕ) (c₀ : ℕ) → StartsNext ls count i q false → end ≡ c₀ + 64
-      → WordPlanning names rows ls count a q₀ lasts c₀ cols w c i q → WordPlanning names rows ls count a q₀ lasts c₀ cols' w' c' i' q'
+-- one or more of them are columns: whatever block they are of, if its next start is not before the cursor's crossing
+pub record CrossingsPut (ls : List ℕ) (count a end : ℕ) (cols : List ℕ) (at : Word) (cols' : List ℕ) (at' : Word) : Type 0 where
+  pub further : at.next.c < at'.next.c
+  pub planning : (names : ℕ) (rows : List ℕ) (q₀ : ℕ) (lasts : List ℕ) (c₀ : ℕ) → StartsNext ls count at.next.i at.next.q false → end ≡ c₀ + 64
+      → WordPlanning names rows ls count a q₀ lasts c₀ cols at → WordPlanning names rows ls count a q₀ lasts c₀ cols' at'
 
--- the word from column c on is planned, to column n; its columns are fewer than 64 only where nothing is left
-pub record WordPlanned (names : ℕ) (rows ls : List ℕ) (count : ℕ) (i q : ℕ) (p : Plan) (c n i' q' : ℕ) : Type 0 where
-  pub planning : PlanningOf names rows ls count i q p n i' q'
-  pub from : c ≤ n
-  pub most : n ≤ c + 64
-  pub crossing : n < c + 64 → length ls ≤ i'
-  pub row : n < c + 64 → count ≤ q'
+-- the word from column c on is planned, to the cursor's column; its columns are fewer than 64 only where nothing is left
+pub record WordPlanned (names : ℕ) (rows ls : List ℕ) (count : ℕ) (i q : ℕ) (p : Plan) (c : ℕ) (f : Cursor) : Type 0 where
+  pub planning : PlanningOf names rows ls count i q p f.c f.i f.q
+  pub from : c ≤ f.c
+  pub most : f.c ≤ c + 64
+  pub crossing : f.c < c + 64 → length ls ≤ f.i
+  pub row : f.c < c + 64 → count ≤ f.q
 
 -- what a plan is made of: whole rows, a cursor within the lists
 pub record CanPlan (names : ℕ) (rows ls : List ℕ) (count : ℕ) (p : Plan) (i q : ℕ) : Type 0 where

@@ -1,7 +1,7 @@
 // The columns of a block, from a cursor in the lists: a crossing, or the start of a line with a shape inside. See specs/Planned.antt.
 #![tactic(auto)]
 
-ghost use Rattle.std.specs.Prelude.{◌≡◌, cond, ◌+◌, ◌<◌, ◌≤◌, length};
+ghost use Rattle.std.specs.Prelude.{◌≡◌, ◌+◌, ◌<◌, ◌≤◌, length};
 ghost use Rattle.lines.specs.Lines.{start_state};
 ghost use Rattle.lines.specs.Columns.{any_inside};
 ghost use Rattle.line_lists.specs.Block.{planned, SaidNumbered, SaidAlone};
@@ -34,129 +34,113 @@ pub struct Ended {
     pub alone: bool,
 }
 
+// The start rows of a call's lines, so many, each with a byte for so many names.
+#[derive(Clone, Copy, Drop)]
+pub struct Starts<'a> {
+    pub rows: &'a [u8],
+    pub names: usize,
+    pub count: usize,
+}
+
 // Some byte of a start row is not 0.
+#[tactic(auto, using(crate::proofs::RowLaws::greatest_none, crate::proofs::RowLaws::greatest_more, crate::proofs::RowLaws::occupied))]
 fn is_inside(row: &[u8]) -> bool
     ensures { Occupied row.now result }
 {
-    line_lists::greatest_byte(row) != 0
+    // Kept: any() ends at the first such byte, so it looks at one after another; the greatest is sought in many at once.
+    let mut most: u8 = 0;
+    for &b in row {
+        most = most.max(b);
+    }
+    most != 0
 }
 
-// Some shape is inside at the start of line q.
-fn row_inside(rows: &[u8], names: usize, q: usize) -> bool
-    requires { RowThere names rows.now q }
-    ensures { result ≡ any_inside names (start_state names rows.now q) }
-{
-    let a = q * names;
-    let e = a + names;
-    let row = &rows[a..e];
-    is_inside(row)
-}
+impl Starts<'_> {
+    // Some shape is inside at the start of line q.
+    #[tactic(auto, using(crate::proofs::RowLaws::row_inside))]
+    fn row_inside(self, q: usize) -> bool
+        requires { RowThere self.names self.rows.now q }
+        ensures { result ≡ any_inside self.entry.names (start_state self.entry.names self.entry.rows.now q) }
+    {
+        let a = q * self.names;
+        is_inside(&self.rows[a..a + self.names])
+    }
 
-// The first line from r on with a shape inside at its start, or the number of lines.
-pub fn next_inside(rows: &[u8], names: usize, count: usize, r: usize) -> usize
-    requires { WholeRows names rows.now count × (r ≤ count) }
-    ensures { NextInside names rows.now r result }
-{
-    let mut q = r;
-    while q < count {
-        if row_inside(rows, names, q) {
-            return q;
+    // The first line from r on with a shape inside at its start, or the number of lines.
+    #[tactic(auto, using(crate::proofs::RowLaws::row_there, crate::proofs::RowLaws::passed_none, crate::proofs::RowLaws::passed_more, crate::proofs::RowLaws::next_found, crate::proofs::RowLaws::next_none))]
+    pub fn next_inside(self, r: usize) -> usize
+        requires { WholeRows self.names self.rows.now self.count × (r ≤ self.count) }
+        ensures { NextInside self.entry.names self.entry.rows.now r result }
+    {
+        for q in r..self.count {
+            if self.row_inside(q) {
+                return q;
+            }
         }
-        q += 1;
+        self.count
     }
-    q
-}
-
-fn one_if(last: bool) -> u64
-    ensures { result ≡ cond last 1 0 }
-{
-    if last {
-        return 1;
-    }
-    0
 }
 
 // Column c is its line's last, or is not; nothing was said of it before in its word of lasts.
+#[tactic(auto, using(crate::proofs::LastLaws::last_put))]
 fn put_last(lasts: u64, c: usize, last: bool) -> u64
     ensures { LastPut lasts result c last }
 {
-    let b = c % 64;
-    lasts | (one_if(last) << b)
+    lasts | (u64::from(last) << (c % 64))
 }
 
 // The next column is the start of line q.
+#[tactic(auto, using(crate::proofs::PutLaws::starts_rows, crate::proofs::PutLaws::starts_end, crate::proofs::PutLaws::starts_line))]
 fn is_start(line: &[u32], count: usize, f: Cursor) -> bool
     requires { f.i ≤ length line.now }
     ensures { StartsNext line.now count f.i f.q result }
 {
-    let i = f.i;
-    let q = f.q;
-    if count <= q {
-        return false;
-    }
-    if i == line.len() {
-        return true;
-    }
-    q <= basics::wide_long(line[i])
+    f.q < count && (f.i == line.len() || f.q <= line[f.i] as usize)
 }
 
-// The start of line q becomes column c; the cursor and the lasts after it.
-fn start_column(
-    cols: &mut [usize; COLUMNS],
-    rows: &[u8],
-    names: usize,
-    count: usize,
-    line: &[u32],
-    at: Word,
-) -> Word
-    requires { StartReady names rows.now line.now count cols.old at.next.i at.next.q at.next.c }
-    ensures { StartPut names rows.now line.now cols.old at.lasts cols.new result.lasts at.next.i at.next.q at.next.c result.next.i result.next.q result.next.c }
+// The start of the cursor's line becomes its column; the cursor and the lasts after it.
+#[tactic(auto, using(crate::proofs::PutLaws::start_put))]
+fn start_column(cols: &mut [usize; COLUMNS], starts: Starts<'_>, line: &[u32], at: Word) -> Word
+    requires { StartReady starts.names starts.rows.now line.now starts.count cols.old at }
+    ensures { StartPut starts.entry.names starts.entry.rows.now line.now cols.old at cols.new result }
 {
-    let i = at.next.i;
-    let q = at.next.q;
-    let c = at.next.c;
+    let Cursor { i, q, c } = at.next;
     let last = line_runs::is_over(line, q, i);
     cols[c] = COLUMNS + q;
-    let lasts = put_last(at.lasts, c, last);
-    let after = next_inside(rows, names, count, q + 1);
     Word {
         next: Cursor {
             i,
-            q: after,
+            q: starts.next_inside(q + 1),
             c: c + 1,
         },
-        lasts,
+        lasts: put_last(at.lasts, c, last),
     }
 }
 
 // The next crossing becomes column c of the block that begins at crossing a; the cursor and the lasts after it.
+#[tactic(auto, using(crate::proofs::PutLaws::crossing_put))]
 fn crossing_column(cols: &mut [usize; COLUMNS], a: usize, last: bool, at: Word) -> Word
-    requires { CrossingReady cols.old a at.next.i at.next.c }
-    ensures { CrossingPut cols.old at.lasts cols.new result.lasts a last at.next.i at.next.q at.next.c result.next.i result.next.q result.next.c }
+    requires { CrossingReady cols.old a at }
+    ensures { CrossingPut cols.old a last at cols.new result }
 {
-    let i = at.next.i;
-    let q = at.next.q;
-    let c = at.next.c;
+    let Cursor { i, q, c } = at.next;
     cols[c] = i - a;
-    let lasts = put_last(at.lasts, c, last);
     Word {
         next: Cursor {
             i: i + 1,
             q,
             c: c + 1,
         },
-        lasts,
+        lasts: put_last(at.lasts, c, last),
     }
 }
 
 // The line of the next start, or a line beyond all.
+// Kept: a line that there is not, and no Option, so that the loop below asks one question of each crossing.
 fn start_line(count: usize, q: usize) -> usize
     ensures { q < count → result ≤ q }
 {
-    if q < count {
-        return q;
-    }
-    NO_LINE
+    if q < count { q } else { NO_LINE }
 }
 
 // As long as the next crossing is before line `limit`, and another one comes before `stop`, it becomes a column. Most columns are made here, so little is asked of each.
@@ -168,13 +152,14 @@ fn cross_until(
     stop: usize,
     from: Word,
 ) -> Word
-    requires { UntilReady line.now cols.old a stop from.next.i from.next.c }
-    ensures { UntilPut line.now a limit stop cols.old from.lasts from.next.i from.next.q from.next.c cols.new result.lasts result.next.i result.next.q result.next.c }
+    requires { UntilReady line.now cols.old a stop from }
+    ensures { UntilPut line.now a limit stop cols.old from cols.new result }
 {
     let mut at = from;
+    // Kept: the cursor itself counts here.
     while at.next.i + 1 < stop {
         let i = at.next.i;
-        if limit <= basics::wide_long(line[i]) {
+        if limit <= line[i] as usize {
             return at;
         }
         let last = line_runs::last_of_line(line, i);
@@ -192,13 +177,13 @@ fn crossings(
     end: usize,
     at: Word,
 ) -> Word
-    requires { CrossingsReady line.now cols.old a end at.next.i at.next.c }
-    ensures { CrossingsPut line.now count a end cols.old at.lasts at.next.i at.next.q at.next.c cols.new result.lasts result.next.i result.next.q result.next.c }
+    requires { CrossingsReady line.now cols.old a end at }
+    ensures { CrossingsPut line.now count a end cols.old at cols.new result }
 {
     let i = at.next.i;
-    let stop = basics::part_end(i, line.len(), end - at.next.c);
+    let stop = i + (line.len() - i).min(end - at.next.c);
     let limit = start_line(count, at.next.q);
-    let last = line_runs::is_over(line, basics::wide_long(line[i]), i + 1);
+    let last = line_runs::is_over(line, line[i] as usize, i + 1);
     let first = crossing_column(cols, a, last, at);
     cross_until(cols, line, a, limit, stop, first)
 }
@@ -207,15 +192,13 @@ fn crossings(
 fn plan_word(
     cols: &mut [usize; COLUMNS],
     lasts: &mut [u64; W],
-    rows: &[u8],
-    names: usize,
-    count: usize,
+    starts: Starts<'_>,
     line: &[u32],
     from: Cursor,
     first: Cursor,
 ) -> Cursor
-    requires { WordNext names rows.now line.now count from.i from.q (planned cols.old lasts.old) first.c first.i first.q }
-    ensures { WordPlanned names rows.now line.now count from.i from.q (planned cols.new lasts.new) first.c result.c result.i result.q }
+    requires { WordNext starts.names starts.rows.now line.now starts.count from.i from.q (planned cols.old lasts.old) first }
+    ensures { WordPlanned starts.entry.names starts.entry.rows.now line.now starts.entry.count from.i from.q (planned cols.new lasts.new) first.c result }
 {
     let k = first.c / 64;
     let end = first.c + 64;
@@ -223,16 +206,17 @@ fn plan_word(
         next: first,
         lasts: 0,
     };
+    // Kept: the cursor goes on by one column or by many.
     while at.next.c < end {
-        if is_start(line, count, at.next) {
-            at = start_column(cols, rows, names, count, line, at);
+        if is_start(line, starts.count, at.next) {
+            at = start_column(cols, starts, line, at);
             continue;
         }
         if at.next.i == line.len() {
             lasts[k] = at.lasts;
             return at.next;
         }
-        at = crossings(cols, line, count, from.i, end, at);
+        at = crossings(cols, line, starts.count, from.i, end, at);
     }
     lasts[k] = at.lasts;
     at.next
@@ -242,24 +226,17 @@ fn plan_word(
 fn plan_each(
     cols: &mut [usize; COLUMNS],
     lasts: &mut [u64; W],
-    rows: &[u8],
-    names: usize,
-    count: usize,
+    starts: Starts<'_>,
     line: &[u32],
     from: Cursor,
 ) -> Cursor
-    requires { CanPlan names rows.now line.now count (planned cols.old lasts.old) from.i from.q }
-    ensures { PlanMade names rows.now line.now (planned cols.new lasts.new) from.i from.q result.c result.i result.q }
+    requires { CanPlan starts.names starts.rows.now line.now starts.count (planned cols.old lasts.old) from.i from.q }
+    ensures { PlanMade starts.entry.names starts.entry.rows.now line.now (planned cols.new lasts.new) from.i from.q result.c result.i result.q }
 {
-    let mut f = Cursor {
-        i: from.i,
-        q: from.q,
-        c: 0,
-    };
-    while f.c < COLUMNS {
-        let end = f.c + 64;
-        f = plan_word(cols, lasts, rows, names, count, line, from, f);
-        if f.c < end {
+    let mut f = Cursor { c: 0, ..from };
+    for k in 0..W {
+        f = plan_word(cols, lasts, starts, line, from, f);
+        if f.c < 64 * (k + 1) {
             return f;
         }
     }
@@ -271,47 +248,43 @@ fn run_length(line: &[u32], count: usize, f: Cursor) -> usize
     requires { f.i ≤ length line.now }
     ensures { RunsOn line.now count f.i f.q result }
 {
-    let i = f.i;
-    let q = f.q;
-    if i == line.len() {
+    let n = (line.len() - f.i).min(COLUMNS);
+    if n == 0 {
         return 0;
     }
-    let e = basics::part_end(i, line.len(), COLUMNS);
-    if count <= q {
-        return e - i;
+    if count <= f.q || (line[f.i + n - 1] as usize) < f.q {
+        n
+    } else {
+        0
     }
-    if basics::wide_long(line[e - 1]) < q {
-        return e - i;
-    }
-    0
 }
 
 // The columns of the block that begins at a cursor, and how it ends. Crossings alone are put many at a time; `numbered` says that the columns are numbered already.
 pub fn plan(
     cols: &mut [usize; COLUMNS],
     lasts: &mut [u64; W],
-    rows: &[u8],
-    names: usize,
-    count: usize,
+    starts: Starts<'_>,
     line: &[u32],
     from: Cursor,
     numbered: bool,
 ) -> Ended
-    requires { CanPlan names rows.now line.now count (planned cols.old lasts.old) from.i from.q × SaidNumbered cols.old numbered }
-    ensures { PlanMade names rows.now line.now (planned cols.new lasts.new) from.i from.q result.next.c result.next.i result.next.q × SaidAlone line.now cols.new from.i result.next.c result.alone × SaidNumbered cols.new result.alone }
+    requires { CanPlan starts.names starts.rows.now line.now starts.count (planned cols.old lasts.old) from.i from.q × SaidNumbered cols.old numbered }
+    ensures { PlanMade starts.entry.names starts.entry.rows.now line.now (planned cols.new lasts.new) from.i from.q result.next.c result.next.i result.next.q × SaidAlone line.now cols.new from.i result.next.c result.alone × SaidNumbered cols.new result.alone }
 {
-    let n = run_length(line, count, from);
+    let n = run_length(line, starts.count, from);
     if n == 0 {
-        let next = plan_each(cols, lasts, rows, names, count, line, from);
+        let next = plan_each(cols, lasts, starts, line, from);
         return Ended { next, alone: false };
     }
-    let i = from.i;
-    let q = from.q;
     line_runs::number_once(cols, numbered);
-    line_runs::note_ends(lasts, line, i, n);
+    line_runs::note_ends(lasts, line, from.i, n);
     let m = line_runs::cut(lasts, n);
     Ended {
-        next: Cursor { i: i + m, q, c: m },
+        next: Cursor {
+            i: from.i + m,
+            c: m,
+            ..from
+        },
         alone: true,
     }
 }

@@ -4,11 +4,12 @@ use native.Mathlib.Numerals.{add-one}
 use native.Mathlib.Omega.{arith}
 use mathlib.Core.Path.{◌≡◌, refl, ap, ◌∙◌}
 use mathlib.Core.Bool.{Bool, true, false, not, ◌&&◌, or-false}
+use mir.Val.{bool_byte}
 use lib.Bits.{bit_and, bit_or, bit_xor}
 use Rattle.formula.specs.Formula.{exclusive, meaning}
 use Rattle.word_bits.specs.Words.{digit, bit}
-use Rattle.line_events.specs.Noted.{one_if, GoesOn, Before, FirstOn, BitOf}
-use Rattle.word_bits.proofs.Digits.{bit-and, bit-or, bit-xor, bit-ones, bit-none, bit-first, bit_moved, bit_shift, bit_past, shift_bit}
+use Rattle.line_events.specs.Noted.{one_if, GoesOn, Before, FirstOn}
+use Rattle.word_bits.proofs.Digits.{bit-and, bit-or, bit-xor, bit-ones, bit-none, bit-first, bit_moved, bit_shift, bit_past}
 
 pub goes_on : (w y : ℕ) → GoesOn w y (bit_and w (bit_xor w y))
 goes_on w y = record { says = λ b. bit-and w (bit_xor w y) b ∙ ap (λ (x : Bool). bit w b && x) (bit-xor w y b) ∙ by (bit w b) (bit y b) }
@@ -29,9 +30,13 @@ unfolding digit
 one_above true b = bit-none b
 one_above false b = bit-none b
 
-pub metal-before : (w y g h l : ℕ) (metal : Bool) → GoesOn w y g → h ≡ one_if metal → l ≡ h → Before w y metal (bit_or (g * 2 ^ 1 % 2 ^ 64) l)
-metal-before w y g h l metal on is same =
-    let one : l ≡ one_if metal = same ∙ is in
+byte_is : (b : Bool) → bool_byte b ≡ one_if b
+byte_is true = refl
+byte_is false = refl
+
+pub metal_before : (w y g l : ℕ) (metal : Bool) → GoesOn w y g → l ≡ bool_byte metal → Before w y metal (bit_or (g * 2 ^ 1 % 2 ^ 64) l)
+metal_before w y g l metal on is =
+    let one : l ≡ one_if metal = is ∙ byte_is metal in
     rw one
     (record {
       first = bit-or (g * 2 ^ 1 % 2 ^ 64) (one_if metal) 0 ∙ rw (bit-first g) (one-first metal);
@@ -46,6 +51,3 @@ first_on m h =
       on = λ b l. bit_shift (2 ^ 64 - 1) (64 - m) b ∙ bit-ones (64 - m + b) (omega arith);
       off = λ b l. bit_shift (2 ^ 64 - 1) (64 - m) b ∙ bit_past 64 (2 ^ 64 - 1) (64 - m + b) (omega arith) (omega arith);
     }
-
-pub bit_of : (w b : ℕ) → BitOf w b (w / 2 ^ b % 2)
-bit_of w b = record { small = omega arith; says = shift_bit w b }

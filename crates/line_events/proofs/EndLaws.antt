@@ -4,59 +4,45 @@ use native.Mathlib.Omega.{arith}
 use mathlib.Core.Path.{◌≡◌, refl, sym, ◌∙◌}
 use mathlib.Core.Bool.{Bool, true, false, not, cond, ◌||◌, false≢true}
 use mathlib.Core.List.{List}
-use borrow.Author.Tests.{eqb-true, ne_eqb}
-use lib.Bits.{bit_and, bit_or, and_self, and_zero_l, and_zero_r, or_add_and, and_le_l, and_le_r}
+use borrow.Author.Tests.{ne_eqb}
+use lib.Bits.{bit_or, or_add_and, and_le_l, and_le_r}
+use mir.Val.{bool_byte}
 use lib.Dec.{eqb}
 use lib.IntN.{ℤ, pos}
 use lib.ListN.{length, get_or}
 use lib.Signed.{lt_z}
 use Rattle.lines.specs.AtIndex.{group_ends_at}
-use Rattle.line_events.specs.Noted.{one_if, rises_at, AllHold}
+use Rattle.line_events.specs.Noted.{rises_at, AllHold}
 use Rattle.line_strips.proofs.Stores.{same?}
 
-both_one : (p q : Bool) → bit_and (one_if p) (one_if (not q)) ≡ one_if (not (not p || q))
-both_one true true = and_zero_r 1
-both_one true false = and_self 1
-both_one false true = and_zero_l 0
-both_one false false = and_zero_l 1
-
-none_yet : (holds : Bool) → one_if (not holds) ≡ 0 → holds ≡ true
+none_yet : (holds : Bool) → bool_byte (not holds) ≡ 0 → holds ≡ true
 none_yet true h = refl
 none_yet false h = absurd (omega arith)
 
--- of what is asked from i to e, what is before x holds if no flag was seen
-pub record HoldTo (holds : ℕ → Bool) (i e some x : ℕ) : Type 0 where
-  pub from : i ≤ x
-  pub inside : x ≤ e
-  pub is : some ≡ 0 → (z : ℕ) → i ≤ z → z < x → holds z ≡ true
+-- of what is asked from i on, what is before x holds if no flag was seen
+pub record HoldTo (holds : ℕ → Type 0) (i some x : ℕ) : Type 0 where
+  pub is : some ≡ 0 → (z : ℕ) → i ≤ z → z < x → holds z
 
-module _ (holds : ℕ → Bool) (i e : ℕ) where
-  pub hold_none : i ≤ e → HoldTo holds i e 0 i
-  hold_none h = record { from = omega arith; inside = h; is = λ q z lo hi. absurd (omega arith) }
+module _ (holds : ℕ → Type 0) (i : ℕ) where
+  pub hold_none : HoldTo holds i 0 i
+  hold_none = record { is = λ q z lo hi. absurd (omega arith) }
 
-  pub hold_more : (some x r : ℕ) → HoldTo holds i e some x → r ≡ one_if (not (holds x)) → x < e → HoldTo holds i e (bit_or some r) (x + 1)
-  hold_more some x r t says h =
+  pub hold_more : (some x : ℕ) (r : Bool) (n : ℕ) → HoldTo holds i some x → n ≡ bool_byte (not r) → (r ≡ true → holds x) → HoldTo holds i (bit_or some n) (x + 1)
+  hold_more some x r n t says here =
       record {
-        from = omega (arith, t.from);
-        inside = omega arith;
         is = λ none z lo hi.
             same? z x
-            (λ q. rw q (none_yet (holds x) (sym says ∙ omega (arith, or_add_and some r, and_le_l some r))))
-            (λ q. t.is (omega (arith, or_add_and some r, and_le_r some r)) z lo (omega arith));
+            (λ q. rw q (here (none_yet r (sym says ∙ omega (arith, or_add_and some n, and_le_l some n)))))
+            (λ q. t.is (omega (arith, or_add_and some n, and_le_r some n)) z lo (omega arith));
       }
 
-  pub hold_all : (some x : ℕ) → HoldTo holds i e some x → e ≤ x → AllHold holds i e (eqb some 0)
-  hold_all some x t h = record { each = λ told z lo hi. t.is (eqb-true some 0 told) z lo (omega arith) }
-
-pub level_there : (ps : List ℤ) (i g : ℕ) (r : Bool) → r ≡ lt_z (get_or ps i (pos 0)) (get_or ps (i + 1) (pos 0)) → g ≡ one_if (not r) → g ≡ one_if (not (rises_at ps i))
+pub rises_there : (ps : List ℤ) (i : ℕ) → lt_z (get_or ps i (pos 0)) (get_or ps (i + 1) (pos 0)) ≡ rises_at ps i
 unfolding rises_at
-level_there ps i g r below is = rw below at is
+rises_there ps i = refl
 
-pub stays_there : (ls : List ℕ) (ps : List ℤ) (i : ℕ) → i + 1 < length ls → (f g : ℕ) → f ≡ one_if (eqb (get_or ls (i + 1) 0) (get_or ls i 0)) → g ≡ one_if (not (rises_at ps i)) → bit_and f g ≡ one_if (not (group_ends_at ls ps i))
+pub ends_there : (ls : List ℕ) (ps : List ℤ) (i : ℕ) (r : Bool) → i + 1 < length ls → r ≡ rises_at ps i → (not (eqb (get_or ls (i + 1) 0) (get_or ls i 0)) || r) ≡ group_ends_at ls ps i
 unfolding rises_at
-stays_there ls ps i h f g same is =
-    rw (ne_eqb (i + 1) (length ls) (λ q. omega arith), same, is)
-    (both_one (eqb (get_or ls (i + 1) 0) (get_or ls i 0)) (lt_z (get_or ps i (pos 0)) (get_or ps (i + 1) (pos 0))))
+ends_there ls ps i r h is = rw (ne_eqb (i + 1) (length ls) (λ q. omega arith), is)
 
 -- a position below the next is the last there, whatever the lines
 rises_ends : (ls : List ℕ) (ps : List ℤ) (i : ℕ) → rises_at ps i ≡ true → group_ends_at ls ps i ≡ true
@@ -71,5 +57,9 @@ rises_ends ls ps i h = rw h (by (eqb (i + 1) (length ls)) (eqb (get_or ls (i + 1
 pub hold_not : (holds : ℕ → Bool) (i e : ℕ) → AllHold holds i e false
 hold_not holds i e = record { each = λ t. absurd (false≢true t) }
 
-pub rise_end : (ls : List ℕ) (ps : List ℤ) (i e : ℕ) (told : Bool) → AllHold (rises_at ps) i e told → AllHold (group_ends_at ls ps) i e told
-rise_end ls ps i e told r = record { each = λ t x lo hi. rises_ends ls ps x (r.each t x lo hi) }
+-- what is told of each from i to e, by an answer that is what is asked
+pub all_rise : (ls : List ℕ) (ps : List ℤ) (i e : ℕ) (told : Bool) → (told ≡ true → (x : ℕ) → i ≤ x → x < e → true ≡ rises_at ps x) → AllHold (group_ends_at ls ps) i e told
+all_rise ls ps i e told r = record { each = λ t x lo hi. rises_ends ls ps x (sym (r t x lo hi)) }
+
+pub all_end : (ls : List ℕ) (ps : List ℤ) (i e : ℕ) (told : Bool) → (told ≡ true → (x : ℕ) → i ≤ x → x < e → true ≡ group_ends_at ls ps x) → AllHold (group_ends_at ls ps) i e told
+all_end ls ps i e told r = record { each = λ t x lo hi. sym (r t x lo hi) }

@@ -7,13 +7,14 @@ use mathlib.Core.Bool.{Bool, true, false, ◌||◌, true≢false}
 use mathlib.Core.List.{List, [], ◌++◌, append_assoc, append-nil}
 use borrow.Author.Tests.{ltb-true, ltb-false}
 use lib.Bits.{bit_or, or_zero_r}
-use lib.Dec.{eqb, ltb}
+use lib.Dec.{ltb}
 use lib.ListN.{length, take, set, length-set, length-append}
 use lib.Seq.{take-suc-set, take-set-le}
+use mir.Val.{bool_byte}
 use Rattle.word_bits.specs.Words.{bit}
 use Rattle.line_lists.specs.Block.{wide, columns}
 use Rattle.word_bits.specs.Lowest.{Lowest, Others}
-use Rattle.line_events.specs.Noted.{NoteRoom, Noted, BitOf, some_if, said_events, RoomFrom}
+use Rattle.line_events.specs.Noted.{NoteRoom, Noted, some_if, said_events, RoomFrom}
 use Rattle.word_bits.proofs.Digits.{bit-or, bit-none}
 
 -- ---- events after events
@@ -28,25 +29,25 @@ noted_both {new} {more} {k} {events = events} a b =
 
 -- ---- an event if there is one
 
-pub noted_if : {v count : ℕ} {events : List ℕ} (one k x : ℕ) → one ≤ 1 → NoteRoom v count events → k ≡ count → x ≡ v → Noted (some_if (eqb one 1) v) count events (count + one) (set events k x)
-noted_if {v} {count} {events} zero k x small room at is =
+pub noted_if : {v count k n : ℕ} {events : List ℕ} (is : Bool) → NoteRoom v count events → k ≡ count → n ≡ bool_byte is → Noted (some_if is v) count events (count + n) (set events k v)
+noted_if {v} {count} {events = events} true room at one =
+    rw (at, one) (record { sized = length-set events count v; count = refl; are = rw (add-one count) (take-suc-set events count v (omega (arith, room.few, room.sized))) })
+noted_if {v} {count} {events = events} false room at none =
     let z : count + 0 ≡ count = omega arith in
-    rw (at, is, z) (record { sized = length-set events count v; count = omega arith; are = take-set-le count events count v (omega arith) ∙ sym (append-nil (take count events)) })
-noted_if {v} {count} {events} (suc zero) k x small room at is =
-    rw (at, is) (record { sized = length-set events count v; count = refl; are = rw (add-one count) (take-suc-set events count v (omega (arith, room.few, room.sized))) })
-noted_if (suc (suc one)) k x small room at is = absurd (omega arith)
+    rw (at, none, z) (record { sized = length-set events count v; count = omega arith; are = take-set-le count events count v (omega arith) ∙ sym (append-nil (take count events)) })
 
 one_at_most : (holds : Bool) (v : ℕ) → length (some_if holds v) ≤ 1
 one_at_most true v = omega arith
 one_at_most false v = omega arith
 
-pub room_after : {c count more : ℕ} (one : ℕ) {events events' : List ℕ} → RoomFrom c events count → c < columns → Noted (some_if (eqb one 1) c) count events more events' → NoteRoom (columns + c) more events'
-room_after {c} {count} {more} one room narrow n =
-    record { narrow = omega arith; few = omega (arith, room.few, n.count, one_at_most (eqb one 1) c); sized = n.sized ∙ room.sized }
+pub room_after : {c count more : ℕ} (is : Bool) {events events' : List ℕ} → RoomFrom c events count → c < columns → Noted (some_if is c) count events more events' → NoteRoom (columns + c) more events'
+room_after {c} {count} {more} is room narrow n =
+    record { narrow = omega arith; few = omega (arith, room.few, n.count, one_at_most is c); sized = n.sized ∙ room.sized }
 
-pub noted_said : (changes opens b c one two : ℕ) {count more all : ℕ} {events events' events'' : List ℕ} → BitOf changes b one → BitOf opens b two → Noted (some_if (eqb one 1) c) count events more events' → Noted (some_if (eqb two 1) (columns + c)) more events' all events''
+-- one after another, by what their bits say
+pub noted_said : (changes opens b c : ℕ) {count more all : ℕ} {one two : Bool} {events events' events'' : List ℕ} → one ≡ bit changes b → two ≡ bit opens b → Noted (some_if one c) count events more events' → Noted (some_if two (columns + c)) more events' all events''
     → Noted (some_if (bit changes b) c ++ some_if (bit opens b) (columns + c)) count events all events''
-noted_said changes opens b c one two u v n m = noted_both (rw u.says at n) (rw v.says at m)
+noted_said changes opens b c u v n m = noted_both (rw u at n) (rw v at m)
 
 -- ---- the events that two words say
 

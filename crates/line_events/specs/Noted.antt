@@ -1,5 +1,5 @@
 -- The events so far, which stand first in their list, and the bits of a word where each column stands alone.
-use Rattle.std.specs.Prelude.{ℕ, zero, suc, ◌+◌, ◌*◌, ◌≤◌, ◌<◌, ◌≡◌, Bool, true, false, not, cond, ◌&&◌, List, [], ◌∷◌, ◌++◌, eqb, ℤ, pos, length, take, get_or}
+use Rattle.std.specs.Prelude.{ℕ, zero, suc, ◌+◌, ◌*◌, ◌≤◌, ◌<◌, ◌≡◌, Bool, true, false, not, cond, ◌&&◌, List, [], ◌∷◌, ◌++◌, ℤ, pos, length, take, get_or}
 use Rattle.std.specs.Int.Signed.{lt_z}
 use Rattle.word_bits.specs.Words.{bit}
 use Rattle.line_lists.specs.Block.{columns}
@@ -61,11 +61,6 @@ pub record Before (w y : ℕ) (metal : Bool) (r : ℕ) : Type 0 where
 pub record FirstOn (m r : ℕ) : Type 0 where
   pub on : (b : ℕ) → b < m → bit r b ≡ true
   pub off : (b : ℕ) → m ≤ b → bit r b ≡ false
-
--- bit b of w as a number
-pub record BitOf (w b r : ℕ) : Type 0 where
-  pub small : r ≤ 1
-  pub says : eqb r 1 ≡ bit w b
 
 abbrev pub some_if : Bool → ℕ → List ℕ
 some_if holds v = cond holds (v ∷ []) []

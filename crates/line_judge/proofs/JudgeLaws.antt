@@ -1,21 +1,22 @@
 -- The whole: from the first block to the last or to a wrong entry, and what the judgement decides of the answer.
+use Rattle.std.proofs.Common.{Result, Ok, Err, IsOk}
 use Prim.Native.Nat.{ℕ, ◌+◌, ◌*◌, ◌<◌, ◌≤◌}
 use native.Mathlib.Omega.{arith}
 use mathlib.Core.Path.{◌≡◌, refl, sym, ap, ◌∙◌}
-use mathlib.Core.Bool.{Bool, true, false, ◌||◌}
+use mathlib.Core.Bool.{Bool, true, false, ◌&&◌, ◌||◌}
 use mathlib.Core.List.{List, [], ◌∷◌, ◌++◌, map, append-nil}
-use borrow.Author.Tests.{eq-eqb, ne_eqb}
-use lib.Dec.{ltb}
-use lib.IntN.{ℤ}
+use lib.Dec.{eqb, ltb}
 use lib.ListN.{length, take, drop, replicate, length-map}
-use lib.Seq.{sets, sets-eq}
-use Rattle.outcome.specs.Outcome.{given, refused}
+use lib.Seq.{sets, sets-eq, take_at}
+use Rattle.outcome.specs.Outcome.{given, refused, need}
+use Rattle.outcome.specs.Refusing.{number_of, judged as told}
+use Rattle.outcome.specs.declared.Fault.{Fault}
+use Rattle.line_judge.specs.declared.Opinion as said
+use Rattle.line_judge.specs.declared.Opinion.TheVariants as saying
 use Rattle.formula.specs.Formula.{Formula, inside, postfix, Over}
 use Rattle.lines.specs.Lines.{LineLists, row_count, judged, AnswerLists, Wall, walls}
 use Rattle.lines.specs.Columns.{column_walls}
 use Rattle.line_checking.specs.Verdicts.{Judged}
-use Rattle.line_checking.specs.declared.Verdict.{Verdict}
-use Rattle.line_checking.specs.declared.Verdict.TheVariants as verdicts
 use Rattle.line_lists.specs.Block.{columns}
 use Rattle.line_words.specs.Stretches.{StandFor}
 use Rattle.line_words.specs.declared.Arranged.{Arranged}
@@ -26,15 +27,11 @@ use Rattle.line_writing.specs.Writing.{open_of, Put, HasRoom}
 use Rattle.line_blocks.specs.Walls.{StepAsk, StepDone, NothingDone}
 use Rattle.line_blocks.specs.declared.Progress.{Progress}
 use Rattle.line_writing.proofs.ListLaws.{put_same}
-use Rattle.line_opinion.specs.Judging.{Entry, entries, bare, TheirLists, their_lists, theirs, opinion, opinion_from, judgement}
-use Rattle.line_opinion.specs.Eating.{SameLength, Ours, Ate}
-use Rattle.line_opinion.specs.declared.Eaten.{Eaten}
-use Rattle.line_opinion.specs.declared.Eaten.TheVariants as eaten
+use Rattle.line_opinion.specs.Judging.{Entry, entries, bare, TheirLists, theirs, opinion, opinion_from, judgement}
+use Rattle.line_opinion.specs.Eating.{SameLength, Ate}
 use Rattle.line_opinion.proofs.EatLaws.{opinion-over, opinion-done}
 use Rattle.line_opinion.proofs.AllLaws.{ate_none, ate_more}
 use Rattle.line_judge.specs.Blocks.{OpinionFound, OpinionGiven, JudgeDone}
-use Rattle.line_judge.specs.declared.TheirAnswer.{TheirAnswer}
-use Rattle.line_judge.specs.declared.TheirAnswer.TheVariants.{Right, Wrong, Refused}
 
 bare_app : (a b : List Wall) → map bare (a ++ b) ≡ map bare a ++ map bare b
 bare_app [] b = refl
@@ -43,27 +40,31 @@ bare_app (w ∷ a) b = ap (λ (r : List Entry). bare w ∷ r) (bare_app a b)
 -- ---- the pass
 
 -- our walls put from the first entry on, as entries
-put_entries : (new : List Wall) (ls : List ℕ) (ps qs : List ℤ) → take (length new) (entries (map (λ (w : Wall). w.line) new ++ ls) (map (λ (w : Wall). w.start) new ++ ps) (map (λ (w : Wall). w.end) new ++ qs)) ≡ map bare new
-put_entries [] ls ps qs = refl
-put_entries (w ∷ new) ls ps qs = ap (λ (r : List Entry). bare w ∷ r) (put_entries new ls ps qs)
+put_entries : (new : List Wall) → entries (map (λ (w : Wall). w.line) new) (map (λ (w : Wall). w.start) new) (map (λ (w : Wall). w.end) new) ≡ map bare new
+put_entries [] = refl
+put_entries (w ∷ new) = ap (λ (r : List Entry). bare w ∷ r) (put_entries new)
 
-put_ours : {new : List Wall} {now after : AnswerLists} → Put new 0 now after → HasRoom (length new) now → take (length new) (theirs (their_lists after.lines after.starts after.ends)) ≡ map bare new
+put_ours : {new : List Wall} {now after : AnswerLists} → Put new 0 now after → HasRoom (length new) now
+    → entries (take (length new) after.lines) (take (length new) after.starts) (take (length new) after.ends) ≡ map bare new
 put_ours {new} {now} put room =
     rw (put.lines ∙ first _ now.lines room.lines, put.starts ∙ first _ now.starts room.starts, put.ends ∙ first _ now.ends room.ends)
-    (put_entries new (drop (length new) now.lines) (drop (length new) now.starts) (drop (length new) now.ends))
+    (rw (taken _ (drop (length new) now.lines), taken _ (drop (length new) now.starts), taken _ (drop (length new) now.ends)) (put_entries new))
   where
     first : {A : Type 0} (f : Wall → A) (l : List A) → length new ≤ length l → sets l 0 (map f new) ≡ map f new ++ drop (length new) l
     first f l h = let z : 0 + length (map f new) ≡ length new = omega (arith, length-map new f) in sets-eq (map f new) l 0 (omega (arith, length-map new f)) ∙ rw z
 
+    taken : {A : Type 0} (f : Wall → A) (l : List A) → take (length new) (map f new ++ l) ≡ map f new
+    taken f l = take_at (map f new) l (length new) (length-map new f)
+
 -- the pass as it stands, its next wall the first of a list
 abbrev afresh : Progress → Progress
-afresh p = record { pass = p.pass; run = record { metal = p.run.metal; from = p.run.from; count = 0 } }
+afresh p = record { pass = p.pass; run = record { from = p.run.from; count = 0 } }
 
 -- of a formula's walls those found are given by their list before entry next
 pub record PassOf (f : Formula) (names : ℕ) (c : LineLists) (t : TheirLists) (words : List ℕ) (p : Progress) (next : ℕ) : Type 0 where
   pub done : List Wall
   pub passing : PassingAt f names c p.pass words (open_of p.run) done
-  pub whole : Ate t 0 (map bare done) (eaten.Whole next)
+  pub whole : Ate t 0 (map bare done) (Ok next)
 
 -- our own lists, each as long as a block is wide
 pub record Own (own : AnswerLists) : Type 0 where
@@ -119,19 +120,19 @@ module _ {table : List ℕ} {arranged : Arranged} {names : ℕ} {c : LineLists} 
     pub looping_long : length words' ≡ length words₀
     looping_long = e.long ∙ l.kept
 
-    pub looping_ours : Ours (their_lists after.lines after.starts after.ends) p'.run.count
-    looping_ours =
+    pub looping_few : (p'.run.count ≤ length after.lines) × (p'.run.count ≤ length after.starts) × (p'.run.count ≤ length after.ends)
+    looping_few =
         let o = own-after in
-        record { same = record { starts = o.starts ∙ sym o.lines; ends = o.ends ∙ sym o.lines }; there = omega (arith, e.room.lines, l.own_sized.lines, o.lines) }
+        (omega (arith, counts, e.room.lines, l.own_sized.lines, o.lines), omega (arith, counts, e.room.lines, l.own_sized.lines, o.starts), omega (arith, counts, e.room.lines, l.own_sized.lines, o.ends))
 
-    module _ {r : Eaten} (ate : Ate t next (take p'.run.count (theirs (their_lists after.lines after.starts after.ends))) r) where
+    module _ {r : Result ℕ ℕ} (ate : Ate t next (entries (take p'.run.count after.lines) (take p'.run.count after.starts) (take p'.run.count after.ends)) r) where
       compared : Ate t next (map bare e.new) r
       compared = rw (put_ours e.put (rw counts at e.room)) at (rw counts at ate)
 
       so_far : (f : Formula) (st : StandFor (postfix f) table arranged) (o : Over names f) → Ate t 0 (map bare ((l.passed f st o).done ++ e.new)) r
       so_far f st o = let q = l.passed f st o in rw (bare_app q.done e.new) (ate_more q.whole compared)
 
-      pub looping_more : {next' : ℕ} → r ≡ eaten.Whole next' → Looping table arranged names c t count words₀ words' cols' lasts' events' p' next' after
+      pub looping_more : {next' : ℕ} → r ≡ Ok next' → Looping table arranged names c t count words₀ words' cols' lasts' events' p' next' after
       looping_more is =
           record {
             going = e.going;
@@ -143,14 +144,14 @@ module _ {table : List ℕ} {arranged : Arranged} {names : ℕ} {c : LineLists} 
             counted = l.counted;
           }
 
-      pub looping_wrong : {index : ℕ} → r ≡ eaten.Wrong index → OpinionFound table arranged names c t (Wrong index)
+      pub looping_wrong : {index : ℕ} → r ≡ Err index → OpinionFound table arranged names c t (saying.Wrong index)
       looping_wrong {index} is =
           record {
             is = λ f st o.
                 let q = l.passed f st o in
                 let b = e.passes f st o q.done q.passing in
                 let rest = column_walls (inside f) b.state (open_of p'.run) (left_of names c p'.pass) in
-                ap given (sym (ap (λ (ws : List Entry). opinion_from 0 ws (theirs t)) (ap (map bare) b.passed.all ∙ bare_app (q.done ++ e.new) rest) ∙ (rw is at (so_far f st o)).to (map bare rest)));
+                sym (ap (λ (ws : List Entry). opinion_from 0 ws (theirs t)) (ap (map bare) b.passed.all ∙ bare_app (q.done ++ e.new) rest) ∙ (rw is at (so_far f st o)).to (map bare rest));
           }
 
   module _ {a : Bool} (is : a ≡ (ltb p.pass.cursor.i (length c.lines) || ltb p.pass.cursor.q count)) where
@@ -176,13 +177,13 @@ module _ {table : List ℕ} {arranged : Arranged} {names : ℕ} {c : LineLists} 
           ap (λ (ws : List Entry). opinion_from 0 ws (theirs t)) (ap (map bare) (passing_end l.going count l.counted a is f (open_of p.run) q.done none_left q.passing) ∙ sym (append-nil (map bare q.done)))
           ∙ q.whole.to []
 
-      pub looping_over : next < length t.lines → OpinionFound table arranged names c t (Wrong next)
-      looping_over h = record { is = λ f st o. ap given (sym (over f st o ∙ opinion-over t l.same next h)) }
+      pub looping_over : next < length t.lines → OpinionFound table arranged names c t (saying.Wrong next)
+      looping_over h = record { is = λ f st o. sym (over f st o ∙ opinion-over t l.same next h) }
 
-      pub looping_right : length t.lines ≤ next → OpinionFound table arranged names c t Right
-      looping_right h = record { is = λ f st o. ap given (sym (over f st o ∙ opinion-done t l.same next h)) }
+      pub looping_right : length t.lines ≤ next → OpinionFound table arranged names c t saying.Right
+      looping_right h = record { is = λ f st o. sym (over f st o ∙ opinion-done t l.same next h) }
 
-pub opinion-given : {codes : List ℕ} {names : ℕ} {air : Bool} {rows table : List ℕ} {call : Call} {c : LineLists} {t : TheirLists} {r : TheirAnswer} → CallMade codes names air rows table call → OpinionFound table call.arranged call.names c t r
+pub opinion-given : {codes : List ℕ} {names : ℕ} {air : Bool} {rows table : List ℕ} {call : Call} {c : LineLists} {t : TheirLists} {r : said.Opinion} → CallMade codes names air rows table call → OpinionFound table call.arranged call.names c t r
     → OpinionGiven codes names c t r
 opinion-given {names = names} {table = table} {call = call} {c = c} {t = t} {r = r} m w =
     let g : OpinionFound table call.arranged names c t r = rw m.named at w in
@@ -190,37 +191,35 @@ opinion-given {names = names} {table = table} {call = call} {c = c} {t = t} {r =
 
 -- ---- the judgement
 
+-- their lists are as long as each other
+abbrev pub alike : TheirLists → Bool
+alike t = eqb (length t.starts) (length t.lines) && eqb (length t.ends) (length t.lines)
+
 module _ (f : Formula) (names : ℕ) (c : LineLists) (t : TheirLists) where
-  starts_uneven : (length t.starts ≡ length t.lines → ⊥) → refused 13 0 ≡ judgement f names c t
+  uneven : (number place : ℕ) → need (alike t) 13 0 ≡ refused number place → refused number place ≡ judgement f names c t
   unfolding judgement
-  starts_uneven h = rw (ne_eqb (length t.starts) (length t.lines) h)
+  uneven number place e = rw e
 
-  ends_uneven : length t.starts ≡ length t.lines → (length t.ends ≡ length t.lines → ⊥) → refused 13 0 ≡ judgement f names c t
-  unfolding judgement
-  ends_uneven starts h = rw (eq-eqb (length t.starts) (length t.lines) starts, ne_eqb (length t.ends) (length t.lines) h)
-
-  module _ (same : SameLength t) where
+  module _ (same : alike t ≡ true) where
     lines-refused : (number place : ℕ) → judged names c ≡ refused number place → refused number place ≡ judgement f names c t
     unfolding judgement
-    lines-refused number place e = rw (eq-eqb (length t.starts) (length t.lines) same.starts, eq-eqb (length t.ends) (length t.lines) same.ends, e)
+    lines-refused number place e = rw (same, e)
 
     lines_good : judged names c ≡ given tt → given (opinion (walls f names c) (theirs t)) ≡ judgement f names c t
     unfolding judgement
-    lines_good e = rw (eq-eqb (length t.starts) (length t.lines) same.starts, eq-eqb (length t.ends) (length t.lines) same.ends, e)
+    lines_good e = rw (same, e)
 
-module _ {codes : List ℕ} {names : ℕ} {c : LineLists} {ls : List ℕ} {ps qs : List ℤ} where
-  pub uneven_starts : (length ps ≡ length ls → ⊥) → JudgeDone codes names c (their_lists ls ps qs) (Refused 13 0)
-  uneven_starts h = record { answered_so = λ f q o. starts_uneven f names c (their_lists ls ps qs) h }
+module _ {codes : List ℕ} {names : ℕ} {c : LineLists} {t : TheirLists} where
+  pub judge_uneven : {q : Result (Unit {0}) Fault} {fault : Fault} → told q ≡ need (alike t) 13 0 → q ≡ Err fault → JudgeDone codes names c t (Err fault)
+  judge_uneven {fault = fault} e is = record { answered_so = λ f q o. uneven f names c t (number_of fault.reason) fault.place (sym e ∙ ap told is) }
 
-  pub uneven_ends : length ps ≡ length ls → (length qs ≡ length ls → ⊥) → JudgeDone codes names c (their_lists ls ps qs) (Refused 13 0)
-  uneven_ends starts h = record { answered_so = λ f q o. ends_uneven f names c (their_lists ls ps qs) starts h }
+  module _ (same : alike t ≡ true) {v : Result Bool Fault} (j : Judged names c v) where
+    pub judge_refused : {fault : Fault} → v ≡ Err fault → JudgeDone codes names c t (Err fault)
+    judge_refused {fault} is = record { answered_so = λ f q o. lines-refused f names c t same (number_of fault.reason) fault.place (verdict-told j.is is) }
 
-  module _ (starts : length ps ≡ length ls) (ends : length qs ≡ length ls) {v : Verdict} (j : Judged names c v) where
-    pub judge_refused : {number place : ℕ} → v ≡ verdicts.Refused number place → JudgeDone codes names c (their_lists ls ps qs) (Refused number place)
-    judge_refused {number} {place} is = record { answered_so = λ f q o. lines-refused f names c (their_lists ls ps qs) (record { starts = starts; ends = ends }) number place (verdict-told j.is is) }
+    pub judge_given : {air : Bool} {r : said.Opinion} → v ≡ Ok air → OpinionGiven codes names c t r → JudgeDone codes names c t (Ok r)
+    judge_given is g = record { answered_so = λ f q o. ap given (g.is f q o) ∙ lines_good f names c t same (verdict-told j.is is) }
 
-    pub judge_given : {air : Bool} {r : TheirAnswer} → v ≡ verdicts.Fine air → OpinionGiven codes names c (their_lists ls ps qs) r → JudgeDone codes names c (their_lists ls ps qs) r
-    judge_given is g = record { answered_so = λ f q o. g.is f q o ∙ lines_good f names c (their_lists ls ps qs) (record { starts = starts; ends = ends }) (verdict-told j.is is) }
-
-pub even : {ls : List ℕ} {ps qs : List ℤ} → length ps ≡ length ls → length qs ≡ length ls → SameLength (their_lists ls ps qs)
-even starts ends = record { starts = starts; ends = ends }
+-- where the question was answered yes
+pub even_by : {a b : Bool} {q : Result (Unit {0}) Fault} → a ≡ b → (IsOk q → a ≡ true) → {u : Unit {0}} → q ≡ Ok u → b ≡ true
+even_by is so ok = sym is ∙ so (rw ok refl)

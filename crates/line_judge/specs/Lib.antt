@@ -1,1 +1,2 @@
+pub mod Opinions
 pub mod Blocks

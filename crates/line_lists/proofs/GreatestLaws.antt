@@ -1,59 +1,36 @@
--- The greatest of a list, one entry after another.
-use Prim.Native.Nat.{ℕ, ◌+◌, ◌<◌, ◌≤◌, max}
-use native.Mathlib.Nat.{le-max_left, le-max_right, max-eq_left, max-eq_right}
+-- The greatest of a list.
+use Prim.Native.Nat.{ℕ, zero, suc, ◌<◌, ◌≤◌, max}
+use native.Mathlib.Nat.{not-suc-le-zero}
 use native.Mathlib.Omega.{arith}
-use mathlib.Core.Path.{◌≡◌, refl, sym, ◌∙◌}
+use mathlib.Core.Path.{◌≡◌, refl}
 use mathlib.Core.Bool.{Bool, true, false}
-use mathlib.Core.List.{List}
-use mathlib.Core.Logic.{◌⊎◌, inl, inr}
+use mathlib.Core.List.{List, [], ◌∷◌}
+use Rattle.std.specs.List.{fold}
 use borrow.Author.Tests.{ltb-true, ltb-false}
 use lib.Dec.{ltb}
 use lib.ListN.{length, get_or}
 use Rattle.line_lists.specs.Greatest.{Greatest}
 
-of_two : (a b : ℕ) → (max a b ≡ a) ⊎ (max a b ≡ b)
-of_two a b = by (ltb a b) refl
+-- the greatest of what is gone through and of what was there before
+record Over (xs : List ℕ) (a m : ℕ) : Type 0 where
+  start : a ≤ m
+  above : (j : ℕ) → j < length xs → get_or xs j 0 ≤ m
+  among : a < m → (j : ℕ) × (j < length xs) × (get_or xs j 0 ≡ m)
+
+over_more : (x : ℕ) (xs : List ℕ) (a m : ℕ) → Over xs (max a x) m → Over (x ∷ xs) a m
+over_more x xs a m rest = record { start = omega (arith, rest.start); above = above; among = λ h. among h (ltb (max a x) m) refl }
   where
-    by : (t : Bool) → ltb a b ≡ t → (max a b ≡ a) ⊎ (max a b ≡ b)
-    by true e = inr (max-eq_right (omega (arith, ltb-true a b e)))
-    by false e = inl (max-eq_left (omega (arith, ltb-false a b e)))
+    above : (j : ℕ) → j < suc (length xs) → get_or (x ∷ xs) j 0 ≤ m
+    above zero h = omega (arith, rest.start)
+    above (suc j) h = rest.above j (omega arith)
 
-greatest-none : (xs : List ℕ) → Greatest xs 0 0
-greatest-none xs = record { above = λ j h. absurd (omega arith); among = λ h. absurd (omega arith) }
+    among : a < m → (t : Bool) → ltb (max a x) m ≡ t → (j : ℕ) × (j < suc (length xs)) × (get_or (x ∷ xs) j 0 ≡ m)
+    among h true e = let f = rest.among (ltb-true (max a x) m e) in (suc f.0, omega (arith, f.1), f.2)
+    among h false e = (zero, omega arith, omega (arith, rest.start, ltb-false (max a x) m e))
 
-greatest_more : (xs : List ℕ) (i m b r : ℕ) → Greatest xs i m → b ≡ get_or xs i 0 → r ≡ max m b → Greatest xs (i + 1) r
-greatest_more xs i m b r g of is = record { above = above; among = among }
-  where
-    left : m ≤ r
-    left = rw is (le-max_left m b)
+over : (xs : List ℕ) (a : ℕ) → Over xs a (fold max a xs)
+over [] a = record { start = omega arith; above = λ j h. absurd (not-suc-le-zero h); among = λ h. absurd (omega arith) }
+over (x ∷ xs) a = over_more x xs a (fold max (max a x) xs) (over xs (max a x))
 
-    right : b ≤ r
-    right = rw is (le-max_right m b)
-
-    above : (j : ℕ) → j < i + 1 → get_or xs j 0 ≤ r
-    above j h = by (ltb j i) refl
-      where
-        by : (t : Bool) → ltb j i ≡ t → get_or xs j 0 ≤ r
-        by true e = omega (arith, g.above j (ltb-true j i e), left)
-        by false e = let same : j ≡ i = omega (arith, ltb-false j i e) in rw same (omega (arith, right, of))
-
-    among : 0 < r → (j : ℕ) × (j < i + 1) × (get_or xs j 0 ≡ r)
-    among h = by (of_two m b)
-      where
-        by : (max m b ≡ m) ⊎ (max m b ≡ b) → (j : ℕ) × (j < i + 1) × (get_or xs j 0 ≡ r)
-        by (inl e) = let f = g.among (omega (arith, is ∙ e)) in (f.0, omega (arith, f.1), f.2 ∙ sym (is ∙ e))
-        by (inr e) = (i, omega arith, sym (is ∙ e ∙ of))
-
--- the first i entries of a list that has as many
-pub record Sought (xs : List ℕ) (i m : ℕ) : Type 0 where
-  pub within : i ≤ length xs
-  pub found : Greatest xs i m
-
-pub sought_none : (xs : List ℕ) → Sought xs 0 0
-sought_none xs = record { within = omega arith; found = greatest-none xs }
-
-pub sought_more : (xs : List ℕ) (i m b r : ℕ) → Sought xs i m → i < length xs → b ≡ get_or xs i 0 → r ≡ max m b → Sought xs (i + 1) r
-sought_more xs i m b r s h of is = record { within = omega arith; found = greatest_more xs i m b r s.found of is }
-
-pub sought_all : (xs : List ℕ) (i m : ℕ) → Sought xs i m → length xs ≤ i → Greatest xs (length xs) m
-sought_all xs i m s h = let same : length xs ≡ i = omega (arith, s.within) in rw same s.found
+pub greatest_fold : (xs : List ℕ) (m : ℕ) → m ≡ fold max 0 xs → Greatest xs (length xs) m
+greatest_fold xs m e = rw e (record { above = (over xs 0).above; among = (over xs 0).among })

@@ -43,7 +43,7 @@ and_both : (a b : Bool) → (a && b) ≡ true → (a ≡ true) × (b ≡ true)
 and_both true b e = (refl, e)
 and_both false b e = absurd (false≢true e)
 
-same-same : (a b : ℤ) → same_place a b ≡ true → a ≡ b
+pub same-same : (a b : ℤ) → same_place a b ≡ true → a ≡ b
 same-same a b e = let h = and_both (le_z a b) (le_z b a) e in antisym a b h.0 h.1
 
 same_self : (a : ℤ) → same_place a a ≡ true

@@ -1,119 +1,68 @@
 // Their wall list against one wall of ours after another.
 #![tactic(auto)]
 
-ghost use Rattle.std.specs.Prelude.{◌≡◌, [], ◌∷◌, ◌<◌, take};
-ghost use Rattle.line_opinion.specs.Judging.{their_lists, theirs, same_place, fits};
-ghost use Rattle.line_opinion.specs.Eating.{SameLength, entry_at, needed, EntryThere, Ours, Ate};
+ghost use Rattle.std.specs.Prelude.{◌≡◌, [], ◌∷◌, ◌<◌, length};
+ghost use Rattle.line_opinion.specs.Judging.{theirs, same_place, fits};
+ghost use Rattle.line_opinion.specs.Eating.{lists_of, entry_at, needed, Ate};
 
-use line_lists::{Place, not_beyond, spot};
+pub mod entries;
+
+use entries::Entries;
 
 // A wall of ours, or the part of it that their list has still to give.
 #[derive(Clone, Copy, Drop)]
 pub struct Need {
     pub line: u32,
-    pub from: Place,
-    pub to: Place,
+    pub from: i32,
+    pub to: i32,
 }
 
-// Their entries gave the wall whole, and this is the next; or this is the first after which no right list could begin that way.
-#[derive(Drop)]
-pub enum Eaten {
-    Whole(usize),
-    Wrong(usize),
-}
-
-fn same_place(a: Place, b: Place) -> bool
-    ensures { result ≡ same_place a.at b.at }
+fn same_place(a: i32, b: i32) -> bool
+    ensures { result ≡ same_place a b }
 {
-    if not_beyond(a, b) {
-        return not_beyond(b, a);
-    }
-    false
+    a == b
 }
 
 // Their entry j begins the wall, or the part of it, that is needed next, and ends within it.
-fn fits_at(lines: &[u32], starts: &[i32], ends: &[i32], j: usize, v: Need) -> bool
-    requires { EntryThere (their_lists lines.now starts.now ends.now) j }
-    ensures { result ≡ fits (needed v) (entry_at (their_lists lines.now starts.now ends.now) j) }
+fn fits_at(list: Entries<'_>, j: usize, v: Need) -> bool
+    requires { j < length list.lines.now }
+    ensures { result ≡ fits (needed v) (entry_at (lists_of list.entry) j) }
 {
-    let a = spot(starts, j);
-    let b = spot(ends, j);
-    let f = v.from;
-    let t = v.to;
-    if lines[j] != v.line {
-        return false;
-    }
-    if same_place(a, f) {
-        if not_beyond(b, a) {
-            return false;
-        }
-        return not_beyond(b, t);
-    }
-    false
+    let start = list.starts[j];
+    let end = list.ends[j];
+    list.lines[j] == v.line && same_place(start, v.from) && start < end && end <= v.to
 }
 
-// One wall of ours against their entries from `first` on.
-fn eat(lines: &[u32], starts: &[i32], ends: &[i32], first: usize, wall: Need) -> Eaten
-    requires { SameLength (their_lists lines.now starts.now ends.now) }
-    ensures { Ate (their_lists lines.now starts.now ends.now) first (needed wall ∷ []) result }
+// One wall of ours against their entries from `first` on: the entry after it, or the first after which no right list could begin that way.
+fn eat(list: Entries<'_>, first: usize, wall: Need) -> Result<usize, usize>
+    ensures { Ate (lists_of list.entry) first (needed wall ∷ []) result }
 {
-    let mut j = first;
     let mut v = wall;
-    while j < lines.len() {
-        if fits_at(lines, starts, ends, j, v) {
-            let b = spot(ends, j);
-            let l = v.line;
-            let t = v.to;
-            if not_beyond(t, b) {
-                return Eaten::Whole(j + 1);
-            }
-            v = Need {
-                line: l,
-                from: b,
-                to: t,
-            };
-            j += 1;
-            continue;
+    for j in first..list.lines.len() {
+        if !fits_at(list, j, v) {
+            return Err(j);
         }
-        return Eaten::Wrong(j);
+        let end = list.ends[j];
+        if v.to <= end {
+            return Ok(j + 1);
+        }
+        v.from = end;
     }
-    Eaten::Wrong(j)
+    Err(first.max(list.lines.len()))
 }
 
-// The first n walls of ours, in three lists as theirs, against their entries from `first` on.
-pub fn eat_all(
-    lines: &[u32],
-    starts: &[i32],
-    ends: &[i32],
-    first: usize,
-    ours: &[u32],
-    from: &[i32],
-    to: &[i32],
-    n: usize,
-) -> Eaten
-    requires { SameLength (their_lists lines.now starts.now ends.now) × Ours (their_lists ours.now from.now to.now) n }
-    ensures { Ate (their_lists lines.now starts.now ends.now) first (take n (theirs (their_lists ours.now from.now to.now))) result }
+// Walls of ours against their entries from `first` on.
+pub fn eat_all(list: Entries<'_>, first: usize, ours: Entries<'_>) -> Result<usize, usize>
+    ensures { Ate (lists_of list.entry) first (theirs (lists_of ours.entry)) result }
 {
-    let mut j = first;
-    let mut k: usize = 0;
-    while k < n {
-        let a = spot(from, k);
-        let b = spot(to, k);
-        let l = ours[k];
+    let mut next = first;
+    for k in 0..ours.lines.len() {
         let wall = Need {
-            line: l,
-            from: a,
-            to: b,
+            line: ours.lines[k],
+            from: ours.starts[k],
+            to: ours.ends[k],
         };
-        let eaten = eat(lines, starts, ends, j, wall);
-        match eaten {
-            Eaten::Whole(next) => {
-                j = next;
-                k += 1;
-                continue;
-            }
-            Eaten::Wrong(index) => return Eaten::Wrong(index),
-        }
+        next = eat(list, next, wall)?;
     }
-    Eaten::Whole(j)
+    Ok(next)
 }

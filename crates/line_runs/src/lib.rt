@@ -2,7 +2,7 @@
 #![tactic(auto)]
 
 ghost use Rattle.std.specs.Prelude.{◌≡◌, ◌+◌, ◌<◌, ◌≤◌, length};
-ghost use Rattle.line_lists.specs.Block.{wide, columns, SaidNumbered};
+ghost use Rattle.line_lists.specs.Block.{columns, SaidNumbered};
 ghost use Rattle.line_runs.specs.Runs.{over_at, last_of_line, Ends, LineEnds, EndsNoted, Numbered, CutTo};
 
 use line_lists::{COLUMNS, W};
@@ -10,14 +10,12 @@ use line_lists::{COLUMNS, W};
 const LAST: usize = W - 1;
 
 // Line l is over before crossing i.
+#[tactic(auto, using(crate::proofs::EndLaws::over_end, crate::proofs::EndLaws::over_on))]
 pub fn is_over(line: &[u32], l: usize, i: usize) -> bool
     requires { i ≤ length line.now }
     ensures { result ≡ over_at line.now l i }
 {
-    if i == line.len() {
-        return true;
-    }
-    basics::wide_long(line[i]) != l
+    i == line.len() || line[i] as usize != l
 }
 
 // The crossing at i, which is not the list's last, is its line's last.
@@ -28,115 +26,79 @@ pub fn last_of_line(line: &[u32], i: usize) -> bool
     line[i + 1] != line[i]
 }
 
-// 1 if the crossing at i, which is not the list's last, is its line's last.
-fn flag(line: &[u32], i: usize) -> u64
-    requires { i + 1 < length line.now }
-    ensures { Ends line.now i 1 result }
-{
-    if line[i + 1] != line[i] {
-        return 1;
-    }
-    0
-}
-
-// The same of two, four and eight crossings, a bit each. Written out, so that they are compared at once.
-fn flags_2(line: &[u32], i: usize) -> u64
-    requires { i + 2 < length line.now }
-    ensures { Ends line.now i 2 result }
-{
-    flag(line, i) | (flag(line, i + 1) << 1)
-}
-
-fn flags_4(line: &[u32], i: usize) -> u64
-    requires { i + 4 < length line.now }
-    ensures { Ends line.now i 4 result }
-{
-    flags_2(line, i) | (flags_2(line, i + 2) << 2)
-}
-
-fn flags_8(line: &[u32], i: usize) -> u64
-    requires { i + 8 < length line.now }
-    ensures { Ends line.now i 8 result }
-{
-    flags_4(line, i) | (flags_4(line, i + 4) << 4)
-}
-
-// The same of 64.
-fn flags(line: &[u32], i: usize) -> u64
-    requires { i + 64 < length line.now }
-    ensures { Ends line.now i 64 result }
+// Which of n crossings from i on are their lines' last, a bit each; the list's last crossing is not among them. No branch: then many are compared at once.
+#[tactic(auto, using(crate::proofs::EndLaws::ends_none, crate::proofs::EndLaws::ends_more))]
+fn flags(line: &[u32], i: usize, n: usize) -> u64
+    requires { (n ≤ 64) × (i + n < length line.now) }
+    ensures { Ends line.now i n result }
 {
     let mut w: u64 = 0;
-    let mut t: usize = 0;
-    while t < 64 {
-        w = w | (flags_8(line, i + t) << t);
-        t += 8;
+    for t in 0..n {
+        w |= u64::from(last_of_line(line, i + t)) << t;
     }
     w
 }
 
-// The same of those that are left, 64 at most, one by one: the list's last crossing is its line's last.
-fn rest_flags(line: &[u32], i: usize) -> u64
-    requires { (i < length line.now) × (length line.now ≤ i + 64) }
-    ensures { LineEnds line.now i result }
+// The same of 64, in eights, whose number the machine code knows.
+#[tactic(auto, using(crate::proofs::EndLaws::ends_none, crate::proofs::EndLaws::ends_eight))]
+fn flags_64(line: &[u32], i: usize) -> u64
+    requires { i + 64 < length line.now }
+    ensures { Ends line.now i 64 result }
 {
     let mut w: u64 = 0;
-    let mut t: usize = 0;
-    while t + 1 < line.len() - i {
-        w = w | (flag(line, i + t) << t);
-        t += 1;
+    for k in 0..8 {
+        w |= flags(line, i + 8 * k, 8) << (8 * k);
     }
-    w | (1 << t)
+    w
 }
 
-// Which of the crossings from i on are their lines' last, a bit each.
+// Which of the crossings from i on are their lines' last, a bit each: the list's last crossing is its line's last.
+#[tactic(auto, using(crate::proofs::EndLaws::flags_ends, crate::proofs::EndLaws::rest_ends))]
 fn line_ends(line: &[u32], i: usize) -> u64
     requires { i < length line.now }
     ensures { LineEnds line.now i result }
 {
-    if 64 < line.len() - i {
-        return flags(line, i);
+    let left = line.len() - i;
+    if 64 < left {
+        return flags_64(line, i);
     }
-    rest_flags(line, i)
+    flags(line, i, left - 1) | (1 << (left - 1))
 }
 
 // The lasts of n crossings alone, from i on.
+#[tactic(auto, using(crate::proofs::EndLaws::run_none, crate::proofs::EndLaws::run_all))]
 pub fn note_ends(lasts: &mut [u64; W], line: &[u32], i: usize, n: usize)
-    requires { (length lasts.old ≡ wide) × (n ≤ columns) × (i + n ≤ length line.now) }
+    requires { (n ≤ columns) × (i + n ≤ length line.now) }
     ensures { EndsNoted line.now i n lasts.new n }
 {
-    let mut k: usize = 0;
-    while 64 * k < n {
+    for k in 0..n.div_ceil(64) {
         lasts[k] = line_ends(line, i + 64 * k);
-        k += 1;
     }
 }
 
+#[tactic(auto, using(crate::proofs::EndLaws::numbered_none, crate::proofs::EndLaws::numbered_more, crate::proofs::EndLaws::numbered_all))]
 fn number(cols: &mut [usize; COLUMNS])
-    requires { length cols.old ≡ columns }
     ensures { Numbered cols.new columns }
 {
-    let mut c: usize = 0;
-    while c < COLUMNS {
-        cols[c] = c;
-        c += 1;
+    for (c, column) in cols.iter_mut().enumerate() {
+        *column = c;
     }
 }
 
 // The columns numbered, if they are not so already: most blocks of crossings alone come after another one.
+#[tactic(auto, using(crate::proofs::EndLaws::numbered_said))]
 pub fn number_once(cols: &mut [usize; COLUMNS], numbered: bool)
-    requires { (length cols.old ≡ columns) × SaidNumbered cols.old numbered }
+    requires { SaidNumbered cols.old numbered }
     ensures { Numbered cols.new columns }
 {
-    if numbered {
-        return;
+    if !numbered {
+        number(cols);
     }
-    number(cols);
 }
 
 // Of n crossings alone, as many as the block takes: where it is full, up to the last line's end in its last word, so that the next block begins with a line and no shape's state has to be carried.
+#[tactic(auto, using(crate::proofs::EndLaws::cut_none))]
 pub fn cut(lasts: &[u64; W], n: usize) -> usize
-    requires { length lasts.now ≡ wide }
     ensures { CutTo lasts.now n result }
 {
     if n < COLUMNS {

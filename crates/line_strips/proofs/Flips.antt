@@ -1,5 +1,5 @@
 -- A column's shapes flipped: a start row's byte by byte, or one crossing's.
-use Prim.Native.Nat.{ℕ, ◌+◌, ◌-◌, ◌*◌, ◌/◌, ◌%◌, ◌≤◌, ◌<◌}
+use Prim.Native.Nat.{ℕ, ◌+◌, ◌-◌, ◌*◌, ◌/◌, ◌%◌, ◌^◌, ◌≤◌, ◌<◌}
 use mathlib.Core.Path.{◌≡◌, refl, sym, ap, ◌∙◌}
 use mathlib.Core.Bool.{Bool, true, false, ◌&&◌, true≢false}
 use mathlib.Core.List.{List}
@@ -17,8 +17,12 @@ use Rattle.line_bits.specs.Bits.{Binary, Woven}
 use Rattle.line_lists.specs.Block.{wide, columns, start_line}
 use Rattle.line_strips.specs.Strips.{flips_at}
 use Rattle.line_strips.specs.Filling.{Flippable, Legible, Fillable, flips_of, inside_to, Bytes, WordFlips, GoesOn, InWord, Layable}
-use Rattle.word_bits.proofs.Digits.{bit-times, bit-none}
+use Rattle.word_bits.proofs.Digits.{bit-times, bit-none, times-fits}
 use Rattle.line_strips.proofs.Stores.{flips_none, flips_same, flips_more}
+
+-- a product with a byte is a word
+pub times_fits : (m r : ℕ) → r ≤ 1 → m < 2 ^ 64 → m * r < 2 ^ 64
+times_fits = times-fits
 
 -- ---- a start row
 inside-next : (row : List ℕ) (s : ℕ) → inside_to row (s + 1) s ≡ eqb (get_or row s 0) 1
@@ -46,8 +50,8 @@ pub record FlippedTo (row : List ℕ) (k m a s e : ℕ) (ws ws' : List ℕ) : Ty
   pub long : length ws' ≡ length ws
   pub goes : GoesOn row k m a s ws ws'
 
-pub flipped-none : (row : List ℕ) (k m a e : ℕ) (ws : List ℕ) → a ≤ e → FlippedTo row k m a a e ws ws
-flipped-none row k m a e ws h = record { far = h; long = refl; goes = record { is = λ before f. f } }
+pub flipped_none : (row : List ℕ) (k m a e : ℕ) (ws : List ℕ) → a ≤ e → FlippedTo row k m a a e ws ws
+flipped_none row k m a e ws h = record { far = h; long = refl; goes = record { is = λ before f. f } }
 
 pub flipped_more : (row : List ℕ) (k m a s e r : ℕ) (ws ws₁ ws₂ : List ℕ) → FlippedTo row k m a s e ws ws₁ → r ≡ m * get_or row s 0 → ws₂ ≡ set ws₁ (s * wide + k) (bit_xor (get_or ws₁ (s * wide + k) 0) r) → Bytes row → s < e → e ≤ length row → 256 * wide ≤ length ws → k < wide
     → FlippedTo row k m a (s + 1) e ws ws₂
@@ -159,11 +163,14 @@ pub record Rowed (row : List ℕ) (k m s : ℕ) (ws ws' : List ℕ) : Type 0 whe
   pub long : length ws' ≡ length ws
   pub flips : WordFlips (length row) (inside_to row s) k m ws ws'
 
-pub rowed-none : (row : List ℕ) (k m : ℕ) (ws : List ℕ) → Rowed row k m 0 ws ws
-rowed-none row k m ws = record { far = omega arith; long = refl; flips = flips_none (length row) (inside_to row 0) k m ws (λ s n. inside_not row 0 s (omega arith)) }
+pub rowed_none : (row : List ℕ) (k m : ℕ) (ws : List ℕ) → Rowed row k m 0 ws ws
+rowed_none row k m ws = record { far = omega arith; long = refl; flips = flips_none (length row) (inside_to row 0) k m ws (λ s n. inside_not row 0 s (omega arith)) }
 
 pub rowed_more : (row : List ℕ) (k m s e : ℕ) (ws ws₁ ws₂ : List ℕ) → Rowed row k m s ws ws₁ → GoesOn row k m s e ws₁ ws₂ → length ws₂ ≡ length ws₁ → e ≤ length row → Rowed row k m e ws ws₂
 rowed_more row k m s e ws ws₁ ws₂ r g l h = record { far = h; long = l ∙ r.long; flips = g.is ws r.flips }
+
+pub rowed_chunk : (row : List ℕ) (k m c n : ℕ) (ws ws₁ ws₂ : List ℕ) → Rowed row k m (c * 32) ws ws₁ → GoesOn row k m (c * 32) (c * 32 + 32) ws₁ ws₂ → length ws₂ ≡ length ws₁ → c < n → n ≡ length row / 32 → Rowed row k m ((c + 1) * 32) ws ws₂
+rowed_chunk row k m c n ws ws₁ ws₂ r g l h is = let more : c * 32 + 32 ≡ (c + 1) * 32 = omega arith in rw (← more) (rowed_more row k m (c * 32) (c * 32 + 32) ws ws₁ ws₂ r g l (omega arith))
 
 pub rowed_end : (row : List ℕ) (k m s : ℕ) (ws ws₁ ws₂ : List ℕ) → Rowed row k m s ws ws₁ → GoesOn row k m s (length row) ws₁ ws₂ → WordFlips (length row) (inside_to row (length row)) k m ws ws₂
 rowed_end row k m s ws ws₁ ws₂ r g = g.is ws r.flips
@@ -176,9 +183,9 @@ start-inside : (names l : ℕ) (rows : List ℕ) (s : ℕ) → s < names → sta
 start-inside names l rows s n =
     rw (lt-ltb s names n) (sym (inside-below (take names (drop (l * names) rows)) names s n ∙ rw (get_or-take names (drop (l * names) rows) s 0 n, get_or-drop (l * names) rows s 0)))
 
-pub start-flipped : (names l k m : ℕ) (rows ws ws' : List ℕ) → l * names + names ≤ length rows → WordFlips (length (take (l * names + names - l * names) (drop (l * names) rows))) (inside_to (take (l * names + names - l * names) (drop (l * names) rows)) (length (take (l * names + names - l * names) (drop (l * names) rows)))) k m ws ws'
+pub start_flipped : (names l k m : ℕ) (rows ws ws' : List ℕ) → l * names + names ≤ length rows → WordFlips (length (take (l * names + names - l * names) (drop (l * names) rows))) (inside_to (take (l * names + names - l * names) (drop (l * names) rows)) (length (take (l * names + names - l * names) (drop (l * names) rows)))) k m ws ws'
     → WordFlips names (start_state names rows l) k m ws ws'
-start-flipped names l k m rows ws ws' h f =
+start_flipped names l k m rows ws ws' h f =
     let same : l * names + names - l * names ≡ names = omega arith in
     flips_same names (inside_to (take names (drop (l * names) rows)) names) (start_state names rows l) k m ws ws' (rw (same, row-bytes_long names (l * names) rows h) at f) (start-inside names l rows)
 
@@ -228,8 +235,8 @@ module _ (names : ℕ) (rows shapes cols : List ℕ) (a c : ℕ) (l : Legible na
   pub row_there : columns ≤ get_or cols c 0 → start_line cols c * names + names ≤ length rows
   row_there e = flippable.row e
 
-  pub row-bytes : columns ≤ get_or cols c 0 → Bytes (take names (drop (start_line cols c * names) rows))
-  row-bytes e =
+  pub row_bytes : columns ≤ get_or cols c 0 → Bytes (take names (drop (start_line cols c * names) rows))
+  row_bytes e =
       record {
         few = omega (arith, l.few, length-take names (drop (start_line cols c * names) rows));
         bits = λ s h.

@@ -16,7 +16,7 @@ use Rattle.line_bits.specs.Bits.{none, One, Moved, Inner, Span, Spans}
 use Rattle.line_strips.specs.Filling.{Legible, flips_of, WordFlips, SpanFlipped, SpanFlips, Laid, Lays, LaysSome, Layable, Named, LaysRun, Bytes}
 use Rattle.line_bits.proofs.Spans.{none_from, one_small}
 use Rattle.line_strips.proofs.Stores.{same?, apart_none, apart_more}
-use Rattle.line_strips.proofs.Flips.{legible_less, legible_next, row_there, row-bytes, start_flips, crossing_there, crossing_named, crossing_flips}
+use Rattle.line_strips.proofs.Flips.{legible_less, legible_next, row_there, row_bytes, start_flips, crossing_there, crossing_named, crossing_flips}
 
 -- ---- the states from one column to the next
 pub entering-last : (flips : ℕ → State) (last : ℕ → Bool) (first : State) (j s : ℕ) → last j ≡ true → entering flips last first (suc j) s ≡ false
@@ -146,7 +146,7 @@ module _ (names : ℕ) (rows shapes cols lasts : List ℕ) (a k j m : ℕ) (legi
     laying_row = row_there names rows shapes cols a (64 * k + i) (column_legible i more)
 
     pub laying_bytes : columns ≤ get_or cols (64 * k + i) 0 → Bytes (take names (drop (start_line cols (64 * k + i) * names) rows))
-    laying_bytes = row-bytes names rows shapes cols a (64 * k + i) (column_legible i more)
+    laying_bytes = row_bytes names rows shapes cols a (64 * k + i) (column_legible i more)
 
     pub laying_crossing : get_or cols (64 * k + i) 0 < columns → a + get_or cols (64 * k + i) 0 < length shapes
     laying_crossing = crossing_there names rows shapes cols a (64 * k + i) (column_legible i more)
@@ -219,8 +219,8 @@ running_none shapes lasts a k m rest one ws n f room =
     record { far = omega arith; inner = n; place = f; room = room; lays = record { long = refl; lays = λ names flips few same. record { apart = apart_none names k ws; laid = λ first l. l } } }
 
 module _ (shapes lasts : List ℕ) (a k m rest one i : ℕ) (ws ws₁ : List ℕ) (y : Running shapes lasts a k m rest one i ws ws₁) (more : i < m) (short : m ≤ 64) where
-  pub running-bit : one ≤ 2 ^ 63
-  running-bit = one_small one i y.place (omega arith)
+  pub running_bit : one ≤ 2 ^ 63
+  running_bit = one_small one i y.place (omega arith)
 
   pub running_more : (one' : ℕ) (ws₂ : List ℕ) → SpanFlips 256 (only (get_or shapes (a + (64 * k + i)) 0)) k rest one ws₁ ws₂ → Moved one one' → Running shapes lasts a k m rest one' (i + 1) ws ws₂
   running_more one' ws₂ f g =
@@ -244,8 +244,8 @@ module _ (shapes lasts : List ℕ) (a k m rest one i : ℕ) (ws ws₁ : List ℕ
 pub running_there : (shapes : List ℕ) (a k m i : ℕ) → Named shapes a (64 * k + m) → i < m → a + (64 * k + i) < length shapes
 running_there shapes a k m i n h = n.there (64 * k + i) (omega arith)
 
-pub running-named : (shapes : List ℕ) (a k m i : ℕ) → Named shapes a (64 * k + m) → i < m → get_or shapes (a + (64 * k + i)) 0 < 256
-running-named shapes a k m i n h = n.named (64 * k + i) (omega arith)
+pub running_named : (shapes : List ℕ) (a k m i : ℕ) → Named shapes a (64 * k + m) → i < m → get_or shapes (a + (64 * k + i)) 0 < 256
+running_named shapes a k m i n h = n.named (64 * k + i) (omega arith)
 
 pub running_end : (shapes lasts : List ℕ) (a k m rest one i : ℕ) (ws ws' : List ℕ) → Running shapes lasts a k m rest one i ws ws' → m ≤ i → LaysRun shapes lasts a k m ws ws'
 running_end shapes lasts a k m rest one i ws ws' y h = let e : i ≡ m = omega (arith, y.far) in rw e at y.lays
@@ -261,8 +261,8 @@ module _ (names : ℕ) (rows shapes cols : List ℕ) (a k m : ℕ) (told : Bool)
   as_far : (c : ℕ) → c < 64 * k + m → Legible names rows shapes cols a (c + 1)
   as_far c h = legible_next names rows shapes cols a (64 * k + m) c ok.legible h
 
-  pub alone-named : Named shapes a (64 * k + m)
-  alone-named =
+  pub alone_named : Named shapes a (64 * k + m)
+  alone_named =
       record {
         there = λ c h. rw (own c h) at (crossing_there names rows shapes cols a c (as_far c h) (no_start c h));
         named = λ c h. rw (own c h) at (crossing_named names rows shapes cols a c (as_far c h) (no_start c h));

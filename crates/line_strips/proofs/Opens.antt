@@ -1,20 +1,19 @@
 -- Words before their own columns: carried, replayed, or off.
-use Prim.Native.Nat.{ℕ, suc, ◌+◌, ◌-◌, ◌*◌, ◌/◌, ◌%◌, ◌^◌, ◌≤◌, ◌<◌}
+use Prim.Native.Nat.{ℕ, suc, ◌+◌, ◌-◌, ◌*◌, ◌/◌, ◌%◌, ◌≤◌, ◌<◌}
 use mathlib.Core.Path.{◌≡◌, refl, sym, ap, ◌∙◌}
 use mathlib.Core.Bool.{Bool, true, false, not, ◌&&◌, cond}
-use mathlib.Core.List.{List}
+use mathlib.Core.List.{List, ◌++◌}
 use native.Mathlib.Omega.{arith}
-use lib.ListN.{length, get_or, set, length-set}
+use lib.ListN.{length, get_or, get_or-append, set, take, drop, replicate, length-set, length-append, length-take, length-drop}
+use Rattle.std.proofs.lemmas.List.{get_or-replicate, length-replicate}
 use lib.Seq.{get_or-set_same, get_or-set_other}
-use borrow.Author.Tests.{eq-eqb, ne_eqb}
 use Rattle.formula.specs.States.{State}
 use Rattle.word_bits.specs.Words.{bit}
 use Rattle.line_lists.specs.Block.{wide, columns, cell}
 use Rattle.line_strips.specs.Strips.{on, entering}
 use Rattle.line_bits.specs.Bits.{none, Inner, Span, Spans, Since, Masked}
 use Rattle.line_strips.specs.Filling.{Apart, WordFlips, Blank, Right, Within, Replayed, Carried, Row, Opened, Opens, Begins}
-use Rattle.word_bits.proofs.Digits.{shift_bit}
-use Rattle.line_bits.proofs.Spans.{one-first}
+use Rattle.line_bits.proofs.Spans.{one_first}
 use Rattle.line_strips.proofs.Stores.{same?, on_word, store_here, store_other, off_word, apart_none, apart_more}
 use Rattle.line_strips.proofs.Lays.{entering-last, entering_more, cell_word, span_column}
 
@@ -135,9 +134,9 @@ module _ (names : ℕ) (flips : ℕ → State) (lasts : List ℕ) (k : ℕ) (ws 
             };
       }
 
-  pub opens-last : (past : ℕ) → Blank names (64 * k) ws → past ≡ get_or lasts (k - 1) 0 → past / 2 ^ 63 % 2 ≡ 1 → Opens names flips (cell lasts) k ws ws
-  opens-last past blank e' h' =
-      let h : get_or lasts (k - 1) 0 / 2 ^ 63 % 2 ≡ 1 = rw e' at h' in
+  pub opens_last : (past : ℕ) (last : Bool) → Blank names (64 * k) ws → past ≡ get_or lasts (k - 1) 0 → last ≡ bit past 63 → last ≡ true → Opens names flips (cell lasts) k ws ws
+  opens_last past last blank e' e'' h' =
+      let h : bit (get_or lasts (k - 1) 0) 63 ≡ true = sym (rw e' at e'') ∙ h' in
       record {
         apart = apart_none names k ws;
         opened = λ first n far right.
@@ -146,16 +145,17 @@ module _ (names : ℕ) (flips : ℕ → State) (lasts : List ℕ) (k : ℕ) (ws 
               ahead = λ s b n l c.
                   let z : 64 * k + 0 ≡ suc (64 * (k - 1) + 63) = omega arith in
                   blank.off s (64 * k + b) n (omega arith) (omega arith)
-                  ∙ rw z (sym (rw (entering-last flips (cell lasts) first (64 * (k - 1) + 63) s (sym past-last ∙ sym (shift_bit (get_or lasts (k - 1) 0) 63) ∙ eq-eqb (get_or lasts (k - 1) 0 / 2 ^ 63 % 2) 1 h)) (and-false (none (cell lasts) (suc (64 * (k - 1) + 63)) (b - 0)))));
+                  ∙ rw z (sym (rw (entering-last flips (cell lasts) first (64 * (k - 1) + 63) s (sym past-last ∙ h)) (and-false (none (cell lasts) (suc (64 * (k - 1) + 63)) (b - 0)))));
             };
       }
 
-  goes_on : (get_or lasts (k - 1) 0 / 2 ^ 63 % 2 ≡ 1 → ⊥) → cell lasts (64 * (k - 1) + 63) ≡ false
-  goes_on h = sym past-last ∙ sym (shift_bit (get_or lasts (k - 1) 0) 63) ∙ ne_eqb (get_or lasts (k - 1) 0 / 2 ^ 63 % 2) 1 h
+  goes_on : bit (get_or lasts (k - 1) 0) 63 ≡ false → cell lasts (64 * (k - 1) + 63) ≡ false
+  goes_on h = sym past-last ∙ h
 
-  pub opens-carried : (w rest m : ℕ) → w ≡ get_or lasts k 0 → (get_or lasts (k - 1) 0 / 2 ^ 63 % 2 ≡ 1 → ⊥) → Inner w rest → Spans rest 1 m → Carried names (k - 1) k m ws ws' → Opens names flips (cell lasts) k ws ws'
-  opens-carried w rest m e'' h f p d =
-      opens_by (record { long = d.long; other = λ s j n c q. d.other s j c q }) m (rw e'' at (p.is w 0 f one-first (omega arith)))
+  pub opens_carried : (past w rest m : ℕ) (last : Bool) → past ≡ get_or lasts (k - 1) 0 → w ≡ get_or lasts k 0 → last ≡ bit past 63 → last ≡ false → Inner w rest → Spans rest 1 m → Carried names (k - 1) k m ws ws' → Opens names flips (cell lasts) k ws ws'
+  opens_carried past w rest m last e' e'' told h' f p d =
+      let h : bit (get_or lasts (k - 1) 0) 63 ≡ false = sym (rw e' at told) ∙ h' in
+      opens_by (record { long = d.long; other = λ s j n c q. d.other s j c q }) m (rw e'' at (p.is w 0 f one_first (omega arith)))
       (λ first n far right s b g c.
       let z : 64 * k ≡ suc (64 * (k - 1) + 63) = omega arith in
       let e : on ws s (64 * (k - 1) + 63) ≡ entering flips (cell lasts) first (64 * k) s = right.is s (64 * (k - 1) + 63) g (omega arith) (omega arith) ∙ rw z (sym (entering_more flips (cell lasts) first (64 * (k - 1) + 63) s (goes_on h))) in
@@ -164,7 +164,7 @@ module _ (names : ℕ) (flips : ℕ → State) (lasts : List ℕ) (k : ℕ) (ws 
   pub opens_replayed : (past w rest m j : ℕ) → past ≡ get_or lasts (k - 1) 0 → w ≡ get_or lasts k 0 → Inner w rest → Spans rest 1 m → Since past j → 0 < j → Replayed names flips k m (64 * (k - 1) + j) (64 * k) ws ws' → Opens names flips (cell lasts) k ws ws'
   opens_replayed past w rest m j e' e'' f p since' some r =
       let since : Since (get_or lasts (k - 1) 0) j = rw e' at since' in
-      opens_by r.apart m (rw e'' at (p.is w 0 f one-first (omega arith)))
+      opens_by r.apart m (rw e'' at (p.is w 0 f one_first (omega arith)))
       (λ first n far right s b g c. r.here (cell lasts) first
       (record {
         begins = λ u h.
@@ -176,27 +176,21 @@ module _ (names : ℕ) (flips : ℕ → State) (lasts : List ℕ) (k : ℕ) (ws 
       }) s b g c)
 
 -- ---- rows cleared
-pub record Cleared (n i : ℕ) (ws ws' : List ℕ) : Type 0 where
-  pub far : i ≤ n * wide
-  pub long : length ws' ≡ length ws
-  pub zeros : (u : ℕ) → u < i → get_or ws' u 0 ≡ 0
+module _ (n : ℕ) (ws zs : List ℕ) (zeros : zs ≡ replicate (length (take (n * wide) ws)) 0) (few : n ≤ 256) (room : 256 * wide ≤ length ws) where
+  cleared_words : length zs ≡ n * wide
+  cleared_words = rw zeros (omega (arith, length-replicate {A = ℕ} (length (take (n * wide) ws)) 0, length-take (n * wide) ws))
 
-pub cleared_none : (n : ℕ) (ws : List ℕ) → Cleared n 0 ws ws
-cleared_none n ws = record { far = omega arith; long = refl; zeros = λ u h. absurd (omega arith) }
+  pub cleared_long : length (zs ++ drop (n * wide) ws) ≡ length ws
+  cleared_long = omega (arith, length-append zs (drop (n * wide) ws), cleared_words, length-drop (n * wide) ws)
 
-pub cleared_more : (n i : ℕ) (ws ws' : List ℕ) → Cleared n i ws ws' → i < n * wide → n ≤ 256 → 256 * wide ≤ length ws → Cleared n (i + 1) ws (set ws' i 0)
-cleared_more n i ws ws' z h few room =
-    record {
-      far = omega arith;
-      long = length-set ws' i 0 ∙ z.long;
-      zeros = λ u l. same? u i (λ q. rw q (get_or-set_same ws' i 0 0 (omega (arith, z.long)))) (λ q. get_or-set_other ws' i u 0 0 q ∙ z.zeros u (omega arith));
-    }
-
-pub cleared_fits : (n i : ℕ) (ws ws' : List ℕ) → Cleared n i ws ws' → i < n * wide → n ≤ 256 → 256 * wide ≤ length ws → i < length ws'
-cleared_fits n i ws ws' z h few room = omega (arith, z.long)
-
-pub cleared_blank : (n i : ℕ) (ws ws' : List ℕ) → Cleared n i ws ws' → n * wide ≤ i → Blank n 0 ws'
-cleared_blank n i ws ws' z h = record { off = λ s j l m c. off_word ws' s j (z.zeros (s * wide + j / 64) (omega arith)) }
+  pub cleared_blank : Blank n 0 (zs ++ drop (n * wide) ws)
+  cleared_blank =
+      record {
+        off = λ s j l m c.
+            off_word (zs ++ drop (n * wide) ws) s j
+            (get_or-append zs (drop (n * wide) ws) 0 (s * wide + j / 64) (omega (arith, cleared_words))
+            ∙ rw zeros (get_or-replicate (length (take (n * wide) ws)) (s * wide + j / 64) 0 0 (omega (arith, length-take (n * wide) ws))));
+      }
 
 -- ---- rows opened: the words from the third on
 pub record RowTo (s k : ℕ) (ws ws' : List ℕ) : Type 0 where
@@ -205,8 +199,8 @@ pub record RowTo (s k : ℕ) (ws ws' : List ℕ) : Type 0 where
   pub zeros : (i : ℕ) → 2 ≤ i → i < k → get_or ws' (s * wide + i) 0 ≡ 0
   pub other : (i : ℕ) → (s * wide ≤ i → i < s * wide + wide → ⊥) → get_or ws' i 0 ≡ get_or ws i 0
 
-pub row-none : (s : ℕ) (ws : List ℕ) → RowTo s 2 ws ws
-row-none s ws = record { far = omega arith; long = refl; zeros = λ i b h. absurd (omega arith); other = λ i n. refl }
+pub row_none : (s : ℕ) (ws : List ℕ) → RowTo s 2 ws ws
+row_none s ws = record { far = omega arith; long = refl; zeros = λ i b h. absurd (omega arith); other = λ i n. refl }
 
 pub row_more : (s k : ℕ) (ws ws' : List ℕ) → RowTo s k ws ws' → k < wide → s * wide + wide ≤ length ws → RowTo s (k + 1) ws (set ws' (s * wide + k) 0)
 row_more s k ws ws' r h room =
@@ -223,8 +217,8 @@ row_more s k ws ws' r h room =
 pub row_fits : (s k i : ℕ) (ws ws' : List ℕ) → RowTo s k ws ws' → i < s * wide + wide → s * wide + wide ≤ length ws → i < length ws'
 row_fits s k i ws ws' r h room = omega (arith, r.long)
 
-pub row-second : (s k v : ℕ) (ws ws' : List ℕ) → RowTo s k ws ws' → s * wide + wide ≤ length ws → s * wide + 1 < length (set ws' (s * wide) v)
-row-second s k v ws ws' r room = omega (arith, r.long, length-set ws' (s * wide) v)
+pub row_second : (s k v : ℕ) (ws ws' : List ℕ) → RowTo s k ws ws' → s * wide + wide ≤ length ws → s * wide + 1 < length (set ws' (s * wide) v)
+row_second s k v ws ws' r room = omega (arith, r.long, length-set ws' (s * wide) v)
 
 pub row_end : (s v k : ℕ) (ws ws' : List ℕ) → RowTo s k ws ws' → wide ≤ k → s * wide + wide ≤ length ws → Row s v ws (set (set ws' (s * wide) v) (s * wide + 1) 0)
 unfolding on
@@ -256,18 +250,18 @@ pub record Opening (names m s : ℕ) (ws ws' : List ℕ) : Type 0 where
   pub far : s ≤ names
   pub done : Opened s m ws ws'
 
-pub opening-none : (names m : ℕ) (ws : List ℕ) → Opening names m 0 ws ws
-opening-none names m ws =
+pub opening_none : (names m : ℕ) (ws : List ℕ) → Opening names m 0 ws ws
+opening_none names m ws =
     record {
       far = omega arith;
       done = record { long = refl; first = λ s b h l. absurd (omega arith); rest = λ s j h l c. absurd (omega arith); left = λ s j h c. refl };
     }
 
-pub opening-row : (names m s : ℕ) (ws ws' : List ℕ) → Opening names m s ws ws' → s < names → names ≤ 256 → 256 * wide ≤ length ws → s * wide + wide ≤ length ws'
-opening-row names m s ws ws' o h few room = omega (arith, o.done.long)
+pub opening_row : (names m s : ℕ) (ws ws' : List ℕ) → Opening names m s ws ws' → s < names → names ≤ 256 → 256 * wide ≤ length ws → s * wide + wide ≤ length ws'
+opening_row names m s ws ws' o h few room = omega (arith, o.done.long)
 
-pub opening-fits : (names m s : ℕ) (ws ws' : List ℕ) → Opening names m s ws ws' → s < names → names ≤ 256 → 256 * wide ≤ length ws → s * wide + wide - 1 < length ws'
-opening-fits names m s ws ws' o h few room = omega (arith, o.done.long)
+pub opening_fits : (names m s : ℕ) (ws ws' : List ℕ) → Opening names m s ws ws' → s < names → names ≤ 256 → 256 * wide ≤ length ws → s * wide + wide - 1 < length ws'
+opening_fits names m s ws ws' o h few room = omega (arith, o.done.long)
 
 last_word : (ws : List ℕ) (s : ℕ) → on ws s (columns - 1) ≡ bit (get_or ws (s * wide + wide - 1) 0) 63
 unfolding on
@@ -316,6 +310,6 @@ begins_on names lasts going_on rest m ws ws' e f p o =
             done = λ s b n h. absurd (omega arith);
             ahead = λ s b n h c.
                 let z : 64 * 0 + b ≡ b = omega arith in
-                rw z (o.first s b n c ∙ ap (λ (t : Bool). t && bit m b) (entered.kept e s n) ∙ and_swap (first s) (bit m b) ∙ rw (span_column lasts 0 0 m b (p.is (get_or lasts 0 0) 0 f one-first (omega arith)) h c));
+                rw z (o.first s b n c ∙ ap (λ (t : Bool). t && bit m b) (entered.kept e s n) ∙ and_swap (first s) (bit m b) ∙ rw (span_column lasts 0 0 m b (p.is (get_or lasts 0 0) 0 f one_first (omega arith)) h c));
           };
     }

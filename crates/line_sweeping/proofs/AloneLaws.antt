@@ -26,8 +26,8 @@ said_there s t = s.there t
 pub said_fits : {ls cols : List ℕ} {a e : ℕ} {told : Bool} → SaidAlone ls cols a e told → told ≡ true → Fits w64 (length ls) → Fits w64 (a + e)
 said_fits s t l = omega (arith, s.there t)
 
-pub said-fits_word : {ls cols : List ℕ} {a k e : ℕ} {told : Bool} → SaidAlone ls cols a e told → WordPart k e → told ≡ true → Fits w64 (length ls) → Fits w64 (a + 64 * k)
-said-fits_word s p t l = omega (arith, s.there t, p.some)
+pub said_fits_word : {ls cols : List ℕ} {a k e : ℕ} {told : Bool} → SaidAlone ls cols a e told → WordPart k e → told ≡ true → Fits w64 (length ls) → Fits w64 (a + 64 * k)
+said_fits_word s p t l = omega (arith, s.there t, p.some)
 
 pub part_long : {ls : List ℕ} {ps : List ℤ} {a k e : ℕ} {cols row lasts : List ℕ} → Sweepable ls ps a e cols row lasts → WordPart k e → length ps ≡ length ls
 part_long {k = k} b p = (b.there (64 * k) p.some).long
@@ -36,9 +36,9 @@ ends-alone : (ls : List ℕ) (ps : List ℤ) (a : ℕ) (cols : List ℕ) (c : �
 unfolding ends_in
 ends-alone ls ps a cols c is narrow ends = rw (is, lt-leb columns c narrow) ends
 
-pub part-alone : {ls : List ℕ} {ps : List ℤ} {a k e : ℕ} {cols row lasts : List ℕ} {metal told all : Bool} {events events' : List ℕ} {f f' : Found} → WordPart k e → Sweepable ls ps a e cols row lasts → SaidAlone ls cols a e told → told ≡ true → AllHold (group_ends_at ls ps) (a + 64 * k) (a + e) all → all ≡ true → Swept ls ps a cols row lasts metal (64 * k) events f → SweptAlone (get_or row k 0) (get_or lasts k 0) k e events f events' f'
+pub part_alone : {ls : List ℕ} {ps : List ℤ} {a k e : ℕ} {cols row lasts : List ℕ} {metal told all : Bool} {events events' : List ℕ} {f f' : Found} → WordPart k e → Sweepable ls ps a e cols row lasts → SaidAlone ls cols a e told → told ≡ true → AllHold (group_ends_at ls ps) (a + 64 * k) (a + e) all → all ≡ true → Swept ls ps a cols row lasts metal (64 * k) events f → SweptAlone (get_or row k 0) (get_or lasts k 0) k e events f events' f'
     → Swept ls ps a cols row lasts metal e events' f'
-part-alone {ls} {ps} {a} {k} {e} {cols} {row} {lasts} {metal} part block said t ends u old new =
+part_alone {ls} {ps} {a} {k} {e} {cols} {row} {lasts} {metal} part block said t ends u old new =
     new.swept (ends_in ls ps a cols) (cell row) (cell lasts) metal
     (record {
       alone = λ c lo hi. ends-alone ls ps a cols c ((said.are t).are c hi) (block.there c hi).narrow (ends.each u (a + c) (omega arith) (omega arith));

@@ -1,7 +1,6 @@
 -- Where all that stands at a position has acted.
 use Prim.Native.Nat.{ℕ, ◌+◌, ◌≤◌, ◌<◌}
-use native.Mathlib.Omega.{arith}
-use mathlib.Core.Path.{◌≡◌, ap, ◌∙◌}
+use mathlib.Core.Path.{◌≡◌}
 use mathlib.Core.Bool.{Bool, true}
 use mathlib.Core.List.{List}
 use borrow.Author.Tests.{eq-eqb, ne_eqb, le-leb, lt-leb}
@@ -17,26 +16,23 @@ module _ (ls : List ℕ) (ps : List ℤ) (i : ℕ) where
   pub ends_list : i + 1 ≡ length ls → true ≡ group_ends_at ls ps i
   ends_list e = rw (eq-eqb (i + 1) (length ls) e)
 
-  pub ends-line : (i + 1 ≡ length ls → ⊥) → (get_or ls (i + 1) 0 ≡ get_or ls i 0 → ⊥) → true ≡ group_ends_at ls ps i
-  ends-line n h = rw (ne_eqb (i + 1) (length ls) n, ne_eqb (get_or ls (i + 1) 0) (get_or ls i 0) h)
+  pub ends_line : (i + 1 ≡ length ls → ⊥) → (get_or ls (i + 1) 0 ≡ get_or ls i 0 → ⊥) → true ≡ group_ends_at ls ps i
+  ends_line n h = rw (ne_eqb (i + 1) (length ls) n, ne_eqb (get_or ls (i + 1) 0) (get_or ls i 0) h)
 
   pub ends_place : (i + 1 ≡ length ls → ⊥) → get_or ls (i + 1) 0 ≡ get_or ls i 0 → (r : Bool) → r ≡ lt_z (get_or ps i (pos 0)) (get_or ps (i + 1) (pos 0)) → r ≡ group_ends_at ls ps i
   ends_place n e r h = rw (ne_eqb (i + 1) (length ls) n, eq-eqb (get_or ls (i + 1) 0) (get_or ls i 0) e) h
 
 module _ (ls : List ℕ) (ps : List ℤ) (a : ℕ) (cols : List ℕ) (c : ℕ) where
-  pub ends-start : columns ≤ get_or cols c 0 → true ≡ ends_in ls ps a cols c
+  pub ends_start : columns ≤ get_or cols c 0 → true ≡ ends_in ls ps a cols c
   unfolding ends_in
-  ends-start e = rw (le-leb columns (get_or cols c 0) e)
+  ends_start e = rw (le-leb columns (get_or cols c 0) e)
 
-  pub ends_crossing : get_or cols c 0 < columns → (i : ℕ) → i ≡ a + get_or cols c 0 → (r : Bool) → r ≡ group_ends_at ls ps i → r ≡ ends_in ls ps a cols c
+  pub ends_crossing : get_or cols c 0 < columns → (r : Bool) → r ≡ group_ends_at ls ps (a + get_or cols c 0) → r ≡ ends_in ls ps a cols c
   unfolding ends_in
-  ends_crossing n i is r h = rw (lt-leb columns (get_or cols c 0) n) (h ∙ ap (λ (i : ℕ). group_ends_at ls ps i) is)
+  ends_crossing n r h = rw (lt-leb columns (get_or cols c 0) n) h
 
   pub there_crossing : ColumnThere ls ps a cols c → get_or cols c 0 < columns → a + get_or cols c 0 < length ls
   there_crossing t n = t.crossing n
-
-  pub there_index : ColumnThere ls ps a cols c → get_or cols c 0 < columns → (i : ℕ) → i ≡ a + get_or cols c 0 → i < length ls
-  there_index t n i is = omega (arith, t.crossing n)
 
   pub there_long : ColumnThere ls ps a cols c → length ps ≡ length ls
   there_long t = t.long

@@ -1,5 +1,5 @@
 -- The events, one column on; columns that change nothing.
-use Prim.Native.Nat.{ℕ, zero, suc, ◌+◌, ◌-◌, ◌*◌, ◌≤◌, ◌<◌}
+use Prim.Native.Nat.{ℕ, zero, suc, ◌+◌, ◌-◌, ◌*◌, ◌/◌, ◌%◌, ◌≤◌, ◌<◌, min}
 use native.Mathlib.Numerals.{add-one}
 use native.Mathlib.Omega.{arith}
 use mathlib.Core.Path.{◌≡◌, refl, sym, ap, ◌∙◌}
@@ -54,10 +54,14 @@ same-settled : (ends bit metal : Bool) → bit ≡ metal → settled ends bit me
 same-settled true bit metal e = e
 same-settled false bit metal e = refl
 
+not_flip : (a b : Bool) → not a ≡ b → a ≡ not b
+not_flip true b e = ap not e
+not_flip false b e = ap not e
+
 -- a bit that says what was there before
-pub changed-same : (ends bit : Bool) (c : ℕ) (events : List ℕ) (f : Found) → beq bit f.metal ≡ true → Changed ends bit c events f events f
+pub changed-same : (ends bit : Bool) (c : ℕ) (events : List ℕ) (f : Found) → not (beq bit f.metal) ≡ false → Changed ends bit c events f events f
 changed-same ends bit c events f h =
-    let e : bit ≡ f.metal = beq_is bit f.metal h in
+    let e : bit ≡ f.metal = beq_is bit f.metal (not_flip (beq bit f.metal) false h) in
     record { noted = rw (e, beq_same f.metal, and_no ends) (noted_none f.count events); metal = sym (same-settled ends bit f.metal e) }
 
 pub change_room : {c : ℕ} {events : List ℕ} {f : Found} → EventRoom c events f → NoteRoom c f.count events
@@ -66,8 +70,8 @@ change_room room = record { narrow = omega (arith, room.narrow); few = omega (ar
 pub leave_room : {c : ℕ} {events : List ℕ} {f : Found} → EventRoom c events f → NoteRoom (columns + c) f.count events
 leave_room room = record { narrow = omega (arith, room.narrow); few = omega (arith, room.few, room.narrow); sized = room.sized }
 
-pub changed-here : {ends now bit : Bool} {c : ℕ} {events events' : List ℕ} {f f' : Found} → now ≡ ends → now ≡ true → beq bit f.metal ≡ false → EventNoted c bit f.count events events' f' → Changed ends bit c events f events' f'
-changed-here {ends} {now} {bit} {f = f} is yes-now differs n = let e : ends ≡ true = sym is ∙ yes-now in record { noted = rw (e, beq_flip f.metal bit ∙ differs) n.noted; metal = rw e n.metal_after }
+pub changed-here : {ends now bit : Bool} {c : ℕ} {events events' : List ℕ} {f f' : Found} → now ≡ ends → now ≡ true → not (beq bit f.metal) ≡ true → EventNoted c bit f.count events events' f' → Changed ends bit c events f events' f'
+changed-here {ends} {now} {bit} {f = f} is yes-now differs n = let e : ends ≡ true = sym is ∙ yes-now in record { noted = rw (e, beq_flip f.metal bit ∙ not_flip (beq bit f.metal) true differs) n.noted; metal = rw e n.metal_after }
 
 pub changed-later : (ends now bit : Bool) (c : ℕ) (events : List ℕ) (f : Found) → now ≡ ends → now ≡ false → Changed ends bit c events f events f
 changed-later ends now bit c events f is no-now = let e : ends ≡ false = sym is ∙ no-now in record { noted = rw e (noted_none f.count events); metal = rw e }
@@ -84,24 +88,19 @@ left-on last c events f e = record { noted = rw e (noted_none f.count events); m
 pub reached_room : {ls : List ℕ} {ps : List ℤ} {a : ℕ} {cols : List ℕ} {c : ℕ} {events : List ℕ} {f : Found} → Reached ls ps a cols c events f → EventRoom c events f
 reached_room r = record { narrow = r.there.narrow; few = omega (arith, r.few); sized = r.sized }
 
-pub changed-room : {ls : List ℕ} {ps : List ℤ} {a : ℕ} {cols : List ℕ} {ends bit : Bool} {c : ℕ} {events events' : List ℕ} {f f' : Found} → Reached ls ps a cols c events f → Changed ends bit c events f events' f' → EventRoom c events' f'
-changed-room {ends = ends} {bit} {c} {f = f} r a = record { narrow = r.there.narrow; few = omega (arith, r.few, a.noted.count, one (ends && not (beq f.metal bit))); sized = a.noted.sized ∙ r.sized }
+pub changed_room : {ls : List ℕ} {ps : List ℤ} {a : ℕ} {cols : List ℕ} {ends bit : Bool} {c : ℕ} {events events' : List ℕ} {f f' : Found} → Reached ls ps a cols c events f → Changed ends bit c events f events' f' → EventRoom c events' f'
+changed_room {ends = ends} {bit} {c} {f = f} r a = record { narrow = r.there.narrow; few = omega (arith, r.few, a.noted.count, one (ends && not (beq f.metal bit))); sized = a.noted.sized ∙ r.sized }
   where
     one : (b : Bool) → length {A = ℕ} (cond b (c ∷ []) []) ≤ 1
     one true = omega arith
     one false = omega arith
 
-pub stepped_both : {ends : Bool} {c : ℕ} {events events' events'' : List ℕ} {f f' f'' : Found} (bit last bit_is last_is : Bool) → bit_is ≡ bit → last_is ≡ last → Changed ends bit_is c events f events' f' → Left last_is c events' f' events'' f'' → Stepped ends bit last c events f events'' f''
-stepped_both {ends} {c} {events} {events'} {events''} {f} {f'} {f''} bit last bit_is last_is p q a b =
-    rw (p, q) at
-    (stepped a b)
-  where
-    stepped : Changed ends bit_is c events f events' f' → Left last_is c events' f' events'' f'' → Stepped ends bit_is last_is c events f events'' f''
-    stepped a b =
-        record {
-          noted = noted_both a.noted (rw a.metal at b.noted);
-          metal = b.metal ∙ ap (λ (m : Bool). not last_is && m) a.metal;
-        }
+pub stepped_both : {ends : Bool} {c : ℕ} {events events' events'' : List ℕ} {f f' f'' : Found} (bit last : Bool) → Changed ends bit c events f events' f' → Left last c events' f' events'' f'' → Stepped ends bit last c events f events'' f''
+stepped_both bit last a b =
+    record {
+      noted = noted_both a.noted (rw a.metal at b.noted);
+      metal = b.metal ∙ ap (λ (m : Bool). not last && m) a.metal;
+    }
 
 -- ---- columns that change nothing
 
@@ -203,14 +202,14 @@ module _ {ls : List ℕ} {ps : List ℤ} {a : ℕ} {cols row lasts : List ℕ} {
     pub going_reached : 64 * k + b < e → Reached ls ps a cols (64 * k + b) events f
     going_reached h = record { there = g.block.there (64 * k + b) h; few = omega (arith, g.swept.few, next.rises, g.from); sized = g.swept.sized }
 
-    pub going_on : 64 * k + b < e → (events' : List ℕ) (f' : Found) → Stepped (ends_in ls ps a cols (64 * k + b)) (bit w b) (bit y b) (64 * k + b) events f events' f'
+    pub going_on : 64 * k + b < e → (now last : Bool) (events' : List ℕ) (f' : Found) → now ≡ bit w b → last ≡ bit y b → Stepped (ends_in ls ps a cols (64 * k + b)) now last (64 * k + b) events f events' f'
         → Going ls ps a cols row lasts metal k e w y (64 * k + b + 1) events' f'
-    going_on h events' f' s =
+    going_on h now last events' f' p q s =
         let d : ℕ = 64 * k + b in
         let low : b < 64 = going_low h in
         let u : bit w b ≡ cell row d = ap (λ (x : ℕ). bit x b) g.word ∙ cell_word row k b low in
         let v : bit y b ≡ cell lasts d = ap (λ (x : ℕ). bit x b) g.line_ends ∙ cell_word lasts k b low in
-        let s' : Stepped (ends_in ls ps a cols d) (cell row d) (cell lasts d) d events f events' f' = rw (u, v) at s in
+        let s' : Stepped (ends_in ls ps a cols d) (cell row d) (cell lasts d) d events f events' f' = rw (p ∙ u, q ∙ v) at s in
         record {
           block = g.block;
           part = g.part;
@@ -223,44 +222,39 @@ module _ {ls : List ℕ} {ps : List ℤ} {a : ℕ} {cols row lasts : List ℕ} {
 
 -- ---- a block
 
--- the words before the k-th have been gone through, which end at e
-pub record Worded (ls : List ℕ) (ps : List ℤ) (a : ℕ) (cols row lasts : List ℕ) (metal : Bool) (n k e : ℕ) (events : List ℕ) (f : Found) : Type 0 where
+-- the words before the k-th have been gone through
+pub record Worded (ls : List ℕ) (ps : List ℤ) (a : ℕ) (cols row lasts : List ℕ) (metal : Bool) (n k : ℕ) (events : List ℕ) (f : Found) : Type 0 where
   pub block : Sweepable ls ps a n cols row lasts
-  pub narrow : n ≤ columns
-  pub inside : e ≤ n
-  pub done : e ≤ 64 * k
-  pub near : 64 * k < n + 64
-  pub whole : e < n → e ≡ 64 * k
-  pub swept : Swept ls ps a cols row lasts metal e events f
+  pub swept : Swept ls ps a cols row lasts metal (min n (64 * k)) events f
 
 events-none : (ends bits last : ℕ → Bool) (metal : Bool) (events : List ℕ) → length events ≡ 2 * columns → Events ends bits last metal 0 events (record { metal = metal; count = 0 })
 events-none ends bits last metal events h = record { few = omega arith; sized = h; are = sym (events_zero ends bits last metal); left = sym (metal_zero ends bits last metal) }
 
 pub worded_start : (ls : List ℕ) (ps : List ℤ) (a : ℕ) (cols row lasts : List ℕ) (metal : Bool) (n : ℕ) (events : List ℕ) → Sweepable ls ps a n cols row lasts → length events ≡ 2 * columns
-    → Worded ls ps a cols row lasts metal n 0 0 events (record { metal = metal; count = 0 })
+    → Worded ls ps a cols row lasts metal n 0 events (record { metal = metal; count = 0 })
 worded_start ls ps a cols row lasts metal n events b h =
-    record { block = b; narrow = b.narrow; inside = omega arith; done = omega arith; near = omega arith; whole = λ z. omega arith; swept = events-none (ends_in ls ps a cols) (cell row) (cell lasts) metal events h }
+    let z : min n (64 * 0) ≡ 0 = omega arith in
+    record { block = b; swept = rw z (events-none (ends_in ls ps a cols) (cell row) (cell lasts) metal events h) }
 
-pub word_part : (k e : ℕ) → 64 * k < e → e - 64 * k ≤ 64 → WordPart k e
-word_part k e lo h = record { some = lo; inside = omega arith }
+-- word k has columns, if it is not past those that there are
+pub word_some : (n k : ℕ) → k < n / 64 + min 1 (n % 64) → 64 * k < n
+word_some n k h = omega arith
 
-module _ {ls : List ℕ} {ps : List ℤ} {a : ℕ} {cols row lasts : List ℕ} {metal : Bool} {n k e : ℕ} {events : List ℕ} {f : Found} (g : Worded ls ps a cols row lasts metal n k e events f) where
-  pub worded_end : n ≤ e → {r : ℕ} → r ≡ f.count → Listed (ends_in ls ps a cols) (cell row) (cell lasts) metal n events r
+pub word_part : (n k : ℕ) → k < n / 64 + min 1 (n % 64) → WordPart k (min n (64 * (k + 1)))
+word_part n k h = record { some = omega arith; inside = omega arith }
+
+module _ {ls : List ℕ} {ps : List ℤ} {a : ℕ} {cols row lasts : List ℕ} {metal : Bool} {n k : ℕ} {events : List ℕ} {f : Found} (g : Worded ls ps a cols row lasts metal n k events f) where
+  pub worded_end : n / 64 + min 1 (n % 64) ≤ k → {r : ℕ} → r ≡ f.count → Listed (ends_in ls ps a cols) (cell row) (cell lasts) metal n events r
   worded_end h is =
-      let z : e ≡ n = omega (arith, g.inside) in
+      let z : min n (64 * k) ≡ n = omega arith in
       let s : Swept ls ps a cols row lasts metal n events f = rw z at g.swept in
       rw is (record { few = s.few; sized = s.sized; are = s.are })
 
-  pub worded_some : e < n → 64 * k < n
-  worded_some h = omega (arith, g.whole h)
+  pub worded_swept : k < n / 64 + min 1 (n % 64) → Swept ls ps a cols row lasts metal (64 * k) events f
+  worded_swept h = let z : min n (64 * k) ≡ 64 * k = omega arith in rw z at g.swept
 
-  pub worded_swept : e < n → Swept ls ps a cols row lasts metal (64 * k) events f
-  worded_swept h = rw (g.whole h) at g.swept
+  pub worded_sweepable : (e : ℕ) → e ≤ n → Sweepable ls ps a e cols row lasts
+  worded_sweepable e inside = record { narrow = omega (arith, g.block.narrow); there = λ c k. g.block.there c (omega arith); row_sized = g.block.row_sized; lasts_sized = g.block.lasts_sized }
 
-  module _ (e' : ℕ) (inside : e' ≤ n) where
-    pub worded_sweepable : Sweepable ls ps a e' cols row lasts
-    worded_sweepable = record { narrow = omega (arith, g.narrow); there = λ c k. g.block.there c (omega arith); row_sized = g.block.row_sized; lasts_sized = g.block.lasts_sized }
-
-    pub worded_more : 64 * k < e' → e' - 64 * k ≤ 64 → (e' < n → e' - 64 * k ≡ 64) → (events' : List ℕ) (f' : Found) → Swept ls ps a cols row lasts metal e' events' f' → Worded ls ps a cols row lasts metal n (k + 1) e' events' f'
-    worded_more lo few full events' f' s =
-        record { block = g.block; narrow = g.narrow; inside = inside; done = omega arith; near = omega arith; whole = λ z. omega (arith, full z); swept = s }
+  pub worded_more : (events' : List ℕ) (f' : Found) → Swept ls ps a cols row lasts metal (min n (64 * (k + 1))) events' f' → Worded ls ps a cols row lasts metal n (k + 1) events' f'
+  worded_more events' f' s = record { block = g.block; swept = s }

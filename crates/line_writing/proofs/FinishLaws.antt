@@ -3,11 +3,13 @@ use Prim.Native.Nat.{ℕ, suc, ◌+◌, ◌/◌, ◌<◌}
 use native.Mathlib.Numerals.{add-one}
 use native.Mathlib.Omega.{arith}
 use mathlib.Core.Path.{◌≡◌, refl, sym, ap, ◌∙◌}
-use mathlib.Core.Bool.{Bool, true, false, cond}
+use mathlib.Core.Bool.{cond}
 use mathlib.Core.List.{List, [], ◌∷◌, ◌++◌, append_assoc, append-nil}
 use mathlib.Core.Option.{Option, none, some}
 use lib.ListN.{length, take, get_or}
 use lib.Seq.{take-suc}
+use Rattle.std.specs.Option.{is_some}
+use Rattle.std.specs.Prelude as given
 use Rattle.lines.specs.Lines.{Wall, Edge}
 use Rattle.line_writing.specs.Finishing.{ending, beginning, walls_by, open_by, is_open_edge}
 use Rattle.line_writing.specs.Spots.{open_from}
@@ -45,6 +47,6 @@ module _ (edge : ℕ → Edge) (line : ℕ → ℕ) where
 
 -- ---- where there is metal
 
-pub open_metal : (t : Bool) (p : Spot) → is_open_edge (open_from t p) ≡ t
-open_metal true p = refl
-open_metal false p = refl
+pub open_metal : (o : given.Option Spot) → is_open_edge (open_from o) ≡ is_some o
+open_metal (given.Some p) = refl
+open_metal given.None = refl

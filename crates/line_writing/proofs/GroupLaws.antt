@@ -271,7 +271,7 @@ module _ {ls : List ℕ} {ps : List ℤ} {ss : List ℕ} {i g : ℕ} (end : Grou
       by : (j : ℕ) → j < i + 1 - g → get_or group j 0 < 256
       by j h = rw (get_or-take (i + 1 - g) (drop g ss) j 0 h, get_or-drop g ss j 0) (group_few (g + j) (omega (arith, end.inside, begun.within)))
 
-  pub group_many : {odd : List ℕ} {r : ℕ} → Tallied group (length group) (replicate 256 0) odd → Least group (length group) (state_of odd) r → GroupShape ls ps ss i r
+  pub group_many : {odd : List Bool} {r : ℕ} → Tallied group (length group) (replicate 256 false) odd → Least group (length group) (state_of odd) r → GroupShape ls ps ss i r
   group_many {odd} t least = record { is = λ start. sym (group_lowest start ∙ ap (lowest_from 256 0 outside) (sym states) ∙ least_lowest states few_group least) }
     where
       states : state_of odd ≡ after outside group
@@ -279,6 +279,7 @@ module _ {ls : List ℕ} {ps : List ℤ} {ss : List ℕ} {i g : ℕ} (end : Grou
 
 -- ---- back to the first of a group
 
+-- crossings g to i act together
 pub record Back (ls : List ℕ) (ps : List ℤ) (i g : ℕ) : Type 0 where
   pub within : g ≤ i
   pub together : (k : ℕ) → g ≤ k → k ≤ i → aside ls ps k i ≡ false
@@ -286,34 +287,46 @@ pub record Back (ls : List ℕ) (ps : List ℤ) (i g : ℕ) : Type 0 where
 pub back_start : {ls : List ℕ} {ps : List ℤ} {i : ℕ} → Back ls ps i i
 back_start {ls} {ps} {i} = record { within = omega arith; together = λ k lo hi. let z : k ≡ i = omega arith in rw (z, eq-eqb (get_or ls i 0) (get_or ls i 0) refl, lt_z_not (get_or ps i (pos 0)) (get_or ps i (pos 0)), le_z_self (get_or ps i (pos 0))) }
 
-module _ {ls : List ℕ} {ps : List ℤ} {i g : ℕ} (b : Back ls ps i g) where
-  pub back_end : g ≤ 0 → GroupStart ls ps i g
-  back_end h = record { within = b.within; together = b.together; first = λ k. absurd (omega arith) }
+aside_line : (ls : List ℕ) (ps : List ℤ) (k i : ℕ) → (get_or ls k 0 ≡ get_or ls i 0 → ⊥) → aside ls ps k i ≡ true
+aside_line ls ps k i h = rw (ne_eqb _ _ h)
 
-  pub back_line : (get_or ls (g - 1) 0 ≡ get_or ls i 0 → ⊥) → GroupStart ls ps i g
-  back_line h = record { within = b.within; together = b.together; first = λ k. rw (ne_eqb _ _ h) }
+aside_place : (ls : List ℕ) (ps : List ℤ) (k i : ℕ) → get_or ls k 0 ≡ get_or ls i 0 → aside ls ps k i ≡ lt_z (get_or ps k (pos 0)) (get_or ps i (pos 0))
+aside_place ls ps k i same = rw (eq-eqb _ _ same)
 
-  module _ (same : get_or ls (g - 1) 0 ≡ get_or ls i 0) {short : Bool} (is : short ≡ lt_z (get_or ps (g - 1) (pos 0)) (get_or ps i (pos 0))) where
-    pub back_place : short ≡ true → GroupStart ls ps i g
-    back_place h = record { within = b.within; together = b.together; first = λ k. rw (eq-eqb _ _ same) (sym is ∙ h) }
+module _ {ls : List ℕ} {ps : List ℤ} {i : ℕ} where
+  pub back_end : Back ls ps i 0 → GroupStart ls ps i 0
+  back_end b = record { within = b.within; together = b.together; first = λ k. absurd (omega arith) }
 
-    pub back_on : 0 < g → short ≡ false → Back ls ps i (g - 1)
-    back_on some h = record { within = omega (arith, b.within); together = λ k lo hi. by k lo hi (dec_lt k g) }
+  module _ (h : ℕ) (b : Back ls ps i (h + 1)) where
+    before : h + 1 - 1 ≡ h
+    before = omega arith
+
+    pub back_line : (get_or ls h 0 ≡ get_or ls i 0 → ⊥) → GroupStart ls ps i (h + 1)
+    back_line apart = record { within = b.within; together = b.together; first = λ k. rw before (aside_line ls ps h i apart) }
+
+    pub back_place : get_or ls h 0 ≡ get_or ls i 0 → lt_z (get_or ps h (pos 0)) (get_or ps i (pos 0)) ≡ true → GroupStart ls ps i (h + 1)
+    back_place same short = record { within = b.within; together = b.together; first = λ k. rw before (aside_place ls ps h i same ∙ short) }
+
+    pub back_on : get_or ls h 0 ≡ get_or ls i 0 → lt_z (get_or ps h (pos 0)) (get_or ps i (pos 0)) ≡ false → Back ls ps i h
+    back_on same short = record { within = omega (arith, b.within); together = λ k lo hi. by k lo hi (dec_lt h k) }
       where
-        by : (k : ℕ) → g - 1 ≤ k → k ≤ i → Dec (k < g) → aside ls ps k i ≡ false
-        by k lo hi (yes q) = let z : k ≡ g - 1 = omega arith in rw (z, eq-eqb _ _ same) (sym is ∙ h)
-        by k lo hi (no q) = b.together k (omega arith) hi
+        by : (k : ℕ) → h ≤ k → k ≤ i → Dec (h < k) → aside ls ps k i ≡ false
+        by k lo hi (yes q) = b.together k (omega arith) hi
+        by k lo hi (no q) = let z : k ≡ h = omega arith in rw z (aside_place ls ps h i same ∙ short)
 
 -- ---- the first at its position
 
 pub group-alone : {ls : List ℕ} {ps : List ℤ} {ss : List ℕ} {i : ℕ} {r : Bool} → GroupEnd ls ps ss i → FirstThere ls ps i r → r ≡ true → GroupShape ls ps ss i (get_or ss i 0)
 group-alone end there h = group-one end (there.first h) refl
 
+back_here : {ls : List ℕ} {ps : List ℤ} {i : ℕ} → 0 < i → Back ls ps i (i - 1 + 1)
+back_here {ls} {ps} {i} some = let z : i - 1 + 1 ≡ i = omega arith in rw z back_start
+
 pub first_of-all : {ls : List ℕ} {ps : List ℤ} {i : ℕ} → i ≡ 0 → FirstThere ls ps i true
-first_of-all h = record { first = λ z. back_end back_start (omega arith) }
+first_of-all {ls} {ps} h = record { first = λ z. rw h (back_end back_start) }
 
-pub first_of-line : {ls : List ℕ} {ps : List ℤ} {i : ℕ} → (get_or ls (i - 1) 0 ≡ get_or ls i 0 → ⊥) → FirstThere ls ps i true
-first_of-line h = record { first = λ z. back_line back_start h }
+pub first_of-line : {ls : List ℕ} {ps : List ℤ} {i : ℕ} → (i ≡ 0 → ⊥) → (get_or ls (i - 1) 0 ≡ get_or ls i 0 → ⊥) → FirstThere ls ps i true
+first_of-line {ls} {ps} {i} n h = record { first = λ z. let e : i - 1 + 1 ≡ i = omega arith in let b : Back ls ps i (i - 1 + 1) = back_here (omega arith) in rw e at (back_line (i - 1) b h) }
 
-pub first_by_place : {ls : List ℕ} {ps : List ℤ} {i : ℕ} {short : Bool} → get_or ls (i - 1) 0 ≡ get_or ls i 0 → short ≡ lt_z (get_or ps (i - 1) (pos 0)) (get_or ps i (pos 0)) → FirstThere ls ps i short
-first_by_place same is = record { first = λ h. back_place back_start same is h }
+pub first_by_place : {ls : List ℕ} {ps : List ℤ} {i : ℕ} → (i ≡ 0 → ⊥) → get_or ls (i - 1) 0 ≡ get_or ls i 0 → {short : Bool} → short ≡ lt_z (get_or ps (i - 1) (pos 0)) (get_or ps i (pos 0)) → FirstThere ls ps i short
+first_by_place {ls} {ps} {i} n same is = record { first = λ h. let e : i - 1 + 1 ≡ i = omega arith in let b : Back ls ps i (i - 1 + 1) = back_here (omega arith) in rw e at (back_place (i - 1) b same (sym is ∙ h)) }

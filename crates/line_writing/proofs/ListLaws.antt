@@ -7,6 +7,8 @@ use lib.ListN.{length, drop, set, length-map, length-drop, length-append}
 use lib.Seq.{sets, sets-eq, length-sets, drop-drop, take_at, drop_at}
 use Rattle.outcome.specs.Lent.{filled}
 use Rattle.lines.specs.Lines.{AnswerLists, Wall}
+use Rattle.line_writing.specs.declared.lists.WallLists.{WallLists}
+use Rattle.line_writing.specs.Lists.{SameLists}
 use Rattle.line_writing.specs.Writing.{Put, SameLengths, HasRoom, Written}
 
 -- ---- one list
@@ -112,3 +114,10 @@ written_more {done} {new} {k} {k'} w is room p =
       start_shapes = filled_more _ done new k _ _ _ w.count (omega (arith, is, room.start_shapes)) w.start_shapes p.start_shapes;
       end_shapes = filled_more _ done new k _ _ _ w.count (omega (arith, is, room.end_shapes)) w.end_shapes p.end_shapes;
     }
+
+-- the lists that were lent, step by step
+pub lists_none : {w : WallLists} → SameLists w w
+lists_none = record { lines = refl; starts = refl; ends = refl; start_shapes = refl; end_shapes = refl }
+
+pub lists_more : {u v w : WallLists} → SameLists u v → SameLists v w → SameLists u w
+lists_more a b = record { lines = b.lines ∙ a.lines; starts = b.starts ∙ a.starts; ends = b.ends ∙ a.ends; start_shapes = b.start_shapes ∙ a.start_shapes; end_shapes = b.end_shapes ∙ a.end_shapes }

@@ -1,71 +1,57 @@
 -- A byte a shape flipped at each crossing, and the least that is on.
 use Prim.Native.Nat.{ℕ, zero, suc, ◌+◌, ◌≤◌, ◌<◌}
-use native.Mathlib.Decide.{dec_lt}
+use Rattle.std.proofs.Common.{min}
+use native.Mathlib.Decide.{dec_lt, dec_le}
 use native.Mathlib.Numerals.{add-one}
 use native.Mathlib.Omega.{arith}
 use mathlib.Core.Path.{◌≡◌, refl, sym, ap, ◌∙◌, fun_ext, subst}
-use mathlib.Core.Bool.{Bool, true, false, not, cond, ◌&&◌, true≢false, false≢true}
+use mathlib.Core.Bool.{Bool, true, false, not, cond, true≢false, false≢true}
 use mathlib.Core.List.{List, [], ◌∷◌}
 use mathlib.Core.Logic.{◌⊎◌, inl, inr}
-use borrow.Author.Tests.{eq-eqb, ne_eqb, eqb-true, eqb-false, lt-ltb, le-ltb, ltb-true, ltb-false}
-use lib.Dec.{eqb, ltb}
-use lib.ListN.{length, get_or, set, take, replicate, length-set}
+use borrow.Author.Tests.{eqb-true, eqb-false}
+use lib.Dec.{eqb}
+use lib.ListN.{length, get_or, set, take, replicate}
 use lib.Seq.{get_or-set_same, get_or-set_other, take-suc, take_all, take-length}
 use Rattle.formula.specs.States.{State, outside, flipped}
 use Rattle.formula.specs.Flips.{after}
 use Rattle.formula.proofs.States.{flipped-here, flipped-other, after_snoc}
 use Rattle.lines.specs.Lines.{lowest_from}
 use Rattle.lines.proofs.Lowest.{lowest_is, lowest_none}
-use Rattle.line_writing.specs.Groups.{state_of, Flipped, Tallied, FewShapes, Least}
+use Rattle.line_writing.specs.Groups.{state_of, Tallied, FewShapes, Least}
 
 -- ---- the bytes
 
 -- a store of the other state
-flipped-set : (a : List ℕ) (s v : ℕ) → s < length a → not (eqb v 0) ≡ not (state_of a s) → state_of (set a s v) ≡ flipped s (state_of a)
-flipped-set a s v h e = fun_ext (λ t. go t (eqb t s) refl)
+flipped-set : (a : List Bool) (s : ℕ) → s < length a → state_of (set a s (not (get_or a s false))) ≡ flipped s (state_of a)
+flipped-set a s h = fun_ext (λ t. go t (eqb t s) refl)
   where
-    go : (t : ℕ) (b : Bool) → eqb t s ≡ b → state_of (set a s v) t ≡ flipped s (state_of a) t
-    go t true q = subst (λ (u : ℕ). state_of (set a s v) u ≡ flipped s (state_of a) u) (sym (eqb-true t s q)) (rw (get_or-set_same a s v 0 h) (e ∙ sym (flipped-here s (state_of a))))
-    go t false q = rw (get_or-set_other a s t v 0 (eqb-false t s q), q)
+    go : (t : ℕ) (b : Bool) → eqb t s ≡ b → state_of (set a s (not (get_or a s false))) t ≡ flipped s (state_of a) t
+    go t true q = subst (λ (u : ℕ). state_of (set a s (not (get_or a s false))) u ≡ flipped s (state_of a) u) (sym (eqb-true t s q)) (get_or-set_same a s (not (get_or a s false)) false h ∙ sym (flipped-here s (state_of a)))
+    go t false q = rw (get_or-set_other a s t (not (get_or a s false)) false (eqb-false t s q), q)
 
-zero_at : (n s : ℕ) → ◌≡◌ {A = ℕ} (get_or (replicate n 0) s 0) 0
-zero_at zero s = refl
-zero_at (suc n) zero = refl
-zero_at (suc n) (suc s) = zero_at n s
+false_at : (n s : ℕ) → ◌≡◌ {A = Bool} (get_or (replicate n false) s false) false
+false_at zero s = refl
+false_at (suc n) zero = refl
+false_at (suc n) (suc s) = false_at n s
 
-pub none_inside : (n : ℕ) → state_of (replicate n 0) ≡ outside
-none_inside n = fun_ext (λ s. ap (λ (k : ℕ). not (eqb k 0)) (zero_at n s))
+pub none_inside : (n : ℕ) → state_of (replicate n false) ≡ outside
+none_inside n = fun_ext (λ s. false_at n s)
 
-pub flipped-on : {odd : List ℕ} {s : ℕ} → s < 256 → length odd ≡ 256 → get_or odd s 0 ≡ 0 → Flipped s odd (set odd s 1)
-flipped-on {odd} {s} h long off = record { sized = simp length-set long; states = flipped-set odd s 1 (omega arith) (rw (eq-eqb _ _ off)) }
-
-pub flipped-off : {odd : List ℕ} {s : ℕ} → s < 256 → length odd ≡ 256 → (get_or odd s 0 ≡ 0 → ⊥) → Flipped s odd (set odd s 0)
-flipped-off {odd} {s} h long on = record { sized = simp length-set long; states = flipped-set odd s 0 (omega arith) (rw (ne_eqb _ _ on)) }
-
-pub tally_start : {shapes odd : List ℕ} → length odd ≡ 256 → Tallied shapes 0 odd odd
+pub tally_start : {shapes : List ℕ} {odd : List Bool} → Tallied shapes 0 odd odd
 unfolding after
-tally_start long = record { sized = long; states = fun_ext (λ t. refl) }
+tally_start = record { states = fun_ext (λ t. refl) }
 
-pub tally_more : {shapes odd odd' odd'' : List ℕ} {j s : ℕ} → Tallied shapes j odd odd' → j < length shapes → s ≡ get_or shapes j 0 → Flipped s odd' odd'' → Tallied shapes (j + 1) odd odd''
-tally_more {shapes} {odd} {odd'} {odd''} {j} {s} t h is f = record { sized = f.sized; states = f.states ∙ ap (flipped s) t.states ∙ fun_ext (λ u. sym (on u)) }
+pub tally_more : {shapes : List ℕ} {odd odd' : List Bool} {j s : ℕ} → Tallied shapes j odd odd' → length odd' ≡ 256 → s < 256 → j < length shapes → s ≡ get_or shapes j 0
+    → Tallied shapes (j + 1) odd (set odd' s (not (get_or odd' s false)))
+tally_more {shapes} {odd} {odd'} {j} {s} t long few h is = record { states = flipped-set odd' s (omega arith) ∙ ap (flipped s) t.states ∙ fun_ext (λ u. sym (on u)) }
   where
     on : (u : ℕ) → after (state_of odd) (take (j + 1) shapes) u ≡ flipped s (after (state_of odd) (take j shapes)) u
     on u = ap (λ (xs : List ℕ). after (state_of odd) xs u) (ap (λ (n : ℕ). take n shapes) (add-one j) ∙ take-suc shapes j 0 h) ∙ after_snoc (state_of odd) (take j shapes) (get_or shapes j 0) u ∙ rw is
 
-pub tally_end : {shapes odd odd' : List ℕ} {j : ℕ} → Tallied shapes j odd odd' → length shapes ≤ j → Tallied shapes (length shapes) odd odd'
-tally_end {shapes} {j = j} t h = record { sized = t.sized; states = t.states ∙ rw (take_all j shapes h, take-length shapes) }
+pub tally_end : {shapes : List ℕ} {odd odd' : List Bool} {j : ℕ} → Tallied shapes j odd odd' → length shapes ≤ j → Tallied shapes (length shapes) odd odd'
+tally_end {shapes} {j = j} t h = record { states = t.states ∙ rw (take_all j shapes h, take-length shapes) }
 
 -- ---- the least
-
-module _ {k s : ℕ} (is : k ≡ s) (odd : List ℕ) (r : ℕ) where
-  pub lesser-off : get_or odd k 0 ≡ 0 → r ≡ cond (state_of odd s && ltb s r) s r
-  lesser-off off = rw (eq-eqb (get_or odd s 0) 0 (rw is at off))
-
-  pub lesser-this : (get_or odd k 0 ≡ 0 → ⊥) → s < r → s ≡ cond (state_of odd s && ltb s r) s r
-  lesser-this on h = rw (ne_eqb (get_or odd s 0) 0 (rw is at on), lt-ltb s r h)
-
-  pub lesser_that : (get_or odd k 0 ≡ 0 → ⊥) → r ≤ s → r ≡ cond (state_of odd s && ltb s r) s r
-  lesser_that on h = rw (ne_eqb (get_or odd s 0) 0 (rw is at on), le-ltb s r h)
 
 pub few_at : {shapes : List ℕ} {j s : ℕ} → FewShapes shapes → j < length shapes → s ≡ get_or shapes j 0 → s < 256
 few_at {j = j} f h is = omega (arith, is, f.few j h)
@@ -73,8 +59,8 @@ few_at {j = j} f h is = omega (arith, is, f.few j h)
 pub least_start : {shapes : List ℕ} {state : State} → Least shapes 0 state 65535
 least_start = record { among = λ k h. absurd (omega arith); on = inl refl }
 
-pub least_more : {shapes : List ℕ} {state : State} {j r q s : ℕ} → Least shapes j state r → s ≡ get_or shapes j 0 → q ≡ cond (state s && ltb s r) s r → Least shapes (j + 1) state q
-least_more {shapes} {state} {j} {r} {q} {s} l at is = by (state s) refl (ltb s r) refl is
+pub least_more : {shapes : List ℕ} {state : State} {j r q s : ℕ} → Least shapes j state r → s ≡ get_or shapes j 0 → q ≡ cond (state s) (min r s) r → Least shapes (j + 1) state q
+least_more {shapes} {state} {j} {r} {q} {s} l at is = by (state s) refl is
   where
     -- the new one, and those before it
     among : (state s ≡ true → q ≤ s) → q ≤ r → (k : ℕ) → k < j + 1 → state (get_or shapes k 0) ≡ true → q ≤ get_or shapes k 0
@@ -84,10 +70,13 @@ least_more {shapes} {state} {j} {r} {q} {s} l at is = by (state s) refl (ltb s r
         go (yes lt) = omega (arith, l.among k lt on)
         go (no ge) = let z : j ≡ k = omega arith in omega (arith, here (rw (at, z) on), rw z at at)
 
-    by : (a : Bool) → state s ≡ a → (b : Bool) → ltb s r ≡ b → q ≡ cond (a && b) s r → Least shapes (j + 1) state q
-    by true u true v e = record { among = among (λ _. omega arith) (omega (arith, ltb-true s r v)); on = inr (rw e u) }
-    by true u false v e = record { among = among (λ _. omega (arith, ltb-false s r v)) (omega arith); on = rw e l.on }
-    by false u b v e = record { among = among (λ w. absurd (false≢true (sym u ∙ w))) (omega arith); on = rw e l.on }
+    on_least : state s ≡ true → q ≡ min r s → Dec (r ≤ s) → (q ≡ 65535) ⊎ (state q ≡ true)
+    on_least u e (yes h) = let z : q ≡ r = omega arith in rw z l.on
+    on_least u e (no h) = let z : q ≡ s = omega arith in inr (rw z u)
+
+    by : (a : Bool) → state s ≡ a → q ≡ cond a (min r s) r → Least shapes (j + 1) state q
+    by true u e = record { among = among (λ _. omega arith) (omega arith); on = on_least u e (dec_le r s) }
+    by false u e = record { among = among (λ w. absurd (false≢true (sym u ∙ w))) (omega arith); on = rw e l.on }
 
 pub least_end : {shapes : List ℕ} {state : State} {j r : ℕ} → Least shapes j state r → length shapes ≤ j → Least shapes (length shapes) state r
 least_end l h = record { among = λ k lt on. l.among k (omega arith) on; on = l.on }

@@ -4,6 +4,7 @@ use Rattle.std.proofs.Math.Option.{Option, none, some}
 use Rattle.formula.specs.States.{State}
 use Rattle.lines.specs.Lines.{crossings, low, high, shape_at, Wall, Edge, edge_at, open_end, closed}
 use Rattle.line_lists.specs.Block.{columns, is_start, start_line}
+use Rattle.line_lists.specs.declared.Crossings.{Crossings}
 
 -- The crossings, and the columns of a block whose first crossing is `first`.
 pub record Held : Type 0 where
@@ -15,6 +16,9 @@ pub record Held : Type 0 where
 
 abbrev pub held : List ℕ → List ℤ → List ℕ → ℕ → List ℕ → Held
 held ls ps ss a cols = record { lines = ls; positions = ps; shapes = ss; first = a; cols = cols }
+
+abbrev pub held_by : Crossings → ℕ → List ℕ → Held
+held_by x a cols = held x.line.now x.at.now x.shape.now a cols
 
 -- Column j is a line's start; or else this crossing.
 abbrev starting : Held → ℕ → Bool

@@ -1,14 +1,14 @@
 -- The crossings at one position, and what the loops over them keep.
 use Rattle.std.specs.Prelude.{ℕ, ◌-◌, ◌≤◌, ◌<◌, ◌≡◌, Bool, true, false, not, ◌||◌, List, ◌⊎◌, eqb, ℤ, pos, get_or, length, take}
 use Rattle.std.specs.Int.Signed.{lt_z}
-use Rattle.formula.specs.States.{State, flipped}
+use Rattle.formula.specs.States.{State}
 use Rattle.formula.specs.Flips.{after}
 use Rattle.lines.specs.Lines.{line_lists, crossings, shape_at}
 use Rattle.lines.specs.AtIndex.{group_ends_at, Accepted}
 
--- a byte a shape: 0 is outside
-abbrev pub state_of : List ℕ → State
-state_of bytes s = not (eqb (get_or bytes s 0) 0)
+-- a byte a shape: whether it is inside
+abbrev pub state_of : List Bool → State
+state_of odd s = get_or odd s false
 
 -- crossing k is on another line than crossing i, or short of it
 abbrev pub aside : List ℕ → List ℤ → ℕ → ℕ → Bool
@@ -39,14 +39,8 @@ pub record GroupShape (ls : List ℕ) (ps : List ℤ) (ss : List ℕ) (i r : ℕ
 pub record FewShapes (shapes : List ℕ) : Type 0 where
   pub few : (j : ℕ) → j < length shapes → get_or shapes j 0 < 256
 
--- a byte a shape, one of them flipped
-pub record Flipped (s : ℕ) (odd odd' : List ℕ) : Type 0 where
-  pub sized : length odd' ≡ 256
-  pub states : state_of odd' ≡ flipped s (state_of odd)
-
 -- flipped at each of the first j shapes
-pub record Tallied (shapes : List ℕ) (j : ℕ) (odd odd' : List ℕ) : Type 0 where
-  pub sized : length odd' ≡ 256
+pub record Tallied (shapes : List ℕ) (j : ℕ) (odd odd' : List Bool) : Type 0 where
   pub states : state_of odd' ≡ after (state_of odd) (take j shapes)
 
 -- of the first j shapes, r is the least whose state is on, or none is

@@ -1,4 +1,5 @@
 pub mod Groups
 pub mod Finishing
 pub mod Spots
+pub mod Lists
 pub mod Writing

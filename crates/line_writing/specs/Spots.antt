@@ -1,5 +1,6 @@
 -- What stands at a column and at an event, as numbers.
-use Rattle.std.specs.Prelude.{ℕ, ◌*◌, ◌<◌, ◌≡◌, Bool, cond, List, ℤ, pos, length, get_or}
+use Rattle.std.specs.Prelude.{ℕ, ◌*◌, ◌<◌, ◌≡◌, List, ℤ, pos, length, get_or}
+use Rattle.std.specs.Prelude as given
 use Rattle.std.proofs.Math.Option.{Option, none, some}
 use Rattle.formula.specs.States.{State}
 use Rattle.lines.specs.Lines.{Edge}
@@ -12,9 +13,10 @@ use Rattle.line_writing.specs.declared.spots.Bound.{Bound}
 abbrev pub edge_of : Spot → Edge
 edge_of p = record { at = p.at; shape = p.shape }
 
--- where there is metal, a wall is open, and began here
-abbrev pub open_from : Bool → Spot → Option Edge
-open_from metal p = cond metal (some (edge_of p)) none
+-- the open wall, and where it began
+abbrev pub open_from : given.Option Spot → Option Edge
+open_from (given.Some p) = some (edge_of p)
+open_from given.None = none
 
 -- the crossing of column j is there, if it is one, and the line of a start is one of 4294967296
 pub record ColumnHeld (b : Held) (j : ℕ) : Type 0 where

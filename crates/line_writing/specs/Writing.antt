@@ -1,6 +1,7 @@
 -- What writing the walls keeps.
 use Rattle.std.specs.Prelude.{ℕ, ◌+◌, ◌*◌, ◌/◌, ◌≤◌, ◌<◌, ◌≡◌, cond, List, [], ◌∷◌, map, length, get_or, take}
 use Rattle.std.proofs.Math.Option.{Option}
+use Rattle.std.specs.Option.{is_some}
 use Rattle.std.proofs.lemmas.List.Edits.{sets}
 use Rattle.outcome.specs.Lent.{filled}
 use Rattle.formula.specs.States.{State}
@@ -19,10 +20,10 @@ wall_of w = record { line = w.line; start = w.from.at; end = w.to.at; start_shap
 
 -- where the open wall began
 abbrev pub open_of : Course → Option Edge
-open_of r = open_from r.metal r.from
+open_of r = open_from r.from
 
 abbrev pub open_count : Course → ℕ
-open_count r = cond r.metal 1 0
+open_count r = cond (is_some r.from) 1 0
 
 -- ---- the answer lists
 

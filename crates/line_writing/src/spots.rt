@@ -2,11 +2,11 @@
 ghost use Rattle.std.specs.Prelude.{◌≡◌, [], ◌*◌, ◌<◌, length, get_or};
 ghost use Rattle.line_lists.specs.Block.{columns};
 ghost use Rattle.line_writing.specs.Groups.{GroupEnd};
-ghost use Rattle.line_writing.specs.Finishing.{held, column_line};
+ghost use Rattle.line_writing.specs.Finishing.{held, held_by, column_line};
 ghost use Rattle.line_writing.specs.Spots.{ColumnHeld, ChangeHeld, EventHeld, CrossingSpot, CrossingBound, ColumnBound, EventListed, EventBound};
 
-use crate::shapes::group_shape;
-use line_lists::{COLUMNS, EVENTS};
+use crate::shapes::{NO_SHAPE, group_shape};
+use line_lists::{COLUMNS, Crossings, EVENTS};
 
 // Where a wall begins or ends, and the shape there.
 #[derive(Clone, Copy, Drop)]
@@ -22,59 +22,44 @@ pub struct Bound {
     pub here: Spot,
 }
 
-fn event_at(events: &[u16; EVENTS], k: usize) -> usize
-    requires { (k < 2 * columns) × (length events.now ≡ 2 * columns) }
-    ensures { result ≡ get_or events.now k 0 }
+fn crossing_spot(x: Crossings<'_>, i: usize) -> Spot
+    requires { GroupEnd x.line.now x.at.now x.shape.now i }
+    ensures { CrossingSpot x.entry.line.now x.entry.at.now x.entry.shape.now i result }
 {
-    basics::wide(events[k])
-}
-
-fn crossing_spot(line: &[u32], at: &[i32], shape: &[u16], i: usize) -> Spot
-    requires { GroupEnd line.now at.now shape.now i }
-    ensures { CrossingSpot line.now at.now shape.now i result }
-{
-    let s = group_shape(line, at, shape, i);
-    let p = at[i];
-    Spot { at: p, shape: s }
+    Spot {
+        at: x.at[i],
+        shape: group_shape(x, i),
+    }
 }
 
 // What the crossing at i bounds, the last at its position.
-fn crossing_bound(line: &[u32], at: &[i32], shape: &[u16], i: usize) -> Bound
-    requires { GroupEnd line.now at.now shape.now i }
-    ensures { CrossingBound line.now at.now shape.now i result }
+fn crossing_bound(x: Crossings<'_>, i: usize) -> Bound
+    requires { GroupEnd x.line.now x.at.now x.shape.now i }
+    ensures { CrossingBound x.entry.line.now x.entry.at.now x.entry.shape.now i result }
 {
-    let here = crossing_spot(line, at, shape, i);
     Bound {
-        line: line[i],
-        here,
+        line: x.line[i],
+        here: crossing_spot(x, i),
     }
 }
 
 // What column j bounds, in the block whose first crossing is a.
-fn column_bound(
-    line: &[u32],
-    at: &[i32],
-    shape: &[u16],
-    a: usize,
-    cols: &[usize; COLUMNS],
-    j: usize,
-) -> Bound
-    requires { ChangeHeld (held line.now at.now shape.now a cols.now) j }
-    ensures { ColumnBound (held line.now at.now shape.now a cols.now) j result }
+// Kept: a column is one number, a crossing or COLUMNS and a line, and an event a column or COLUMNS and a column: no enum, since a block's arrays are of fixed size and read one load a column.
+fn column_bound(x: Crossings<'_>, a: usize, cols: &[usize; COLUMNS], j: usize) -> Bound
+    requires { ChangeHeld (held_by x a cols.now) j }
+    ensures { ColumnBound (held_by x.entry a cols.now) j result }
 {
     let o = cols[j];
     if COLUMNS <= o {
-        let l = (o - COLUMNS) as u32;
         return Bound {
-            line: l,
+            line: (o - COLUMNS) as u32,
             here: Spot {
-                at: -2147483648,
-                shape: 65535,
+                at: i32::MIN,
+                shape: NO_SHAPE,
             },
         };
     }
-    let i = line_lists::crossing_at(a, o, line.len());
-    crossing_bound(line, at, shape, i)
+    crossing_bound(x, a + o)
 }
 
 fn column_line(line: &[u32], a: usize, cols: &[usize; COLUMNS], j: usize) -> u32
@@ -85,31 +70,22 @@ fn column_line(line: &[u32], a: usize, cols: &[usize; COLUMNS], j: usize) -> u32
     if COLUMNS <= o {
         return (o - COLUMNS) as u32;
     }
-    let i = line_lists::crossing_at(a, o, line.len());
-    line[i]
+    line[a + o]
 }
 
 // What event e bounds: metal changes at its column, or goes on past its line's end.
-fn event_bound(
-    line: &[u32],
-    at: &[i32],
-    shape: &[u16],
-    a: usize,
-    cols: &[usize; COLUMNS],
-    e: usize,
-) -> Bound
-    requires { EventHeld (held line.now at.now shape.now a cols.now) e }
-    ensures { EventBound (held line.now at.now shape.now a cols.now) e result }
+fn event_bound(x: Crossings<'_>, a: usize, cols: &[usize; COLUMNS], e: usize) -> Bound
+    requires { EventHeld (held_by x a cols.now) e }
+    ensures { EventBound (held_by x.entry a cols.now) e result }
 {
     if e < COLUMNS {
-        return column_bound(line, at, shape, a, cols, e);
+        return column_bound(x, a, cols, e);
     }
-    let l = column_line(line, a, cols, e - COLUMNS);
     Bound {
-        line: l,
+        line: column_line(x.line, a, cols, e - COLUMNS),
         here: Spot {
-            at: 2147483647,
-            shape: 65535,
+            at: i32::MAX,
+            shape: NO_SHAPE,
         },
     }
 }
@@ -118,15 +94,12 @@ fn event_bound(
 pub fn bound_at(
     events: &[u16; EVENTS],
     k: usize,
-    line: &[u32],
-    at: &[i32],
-    shape: &[u16],
+    x: Crossings<'_>,
     a: usize,
     cols: &[usize; COLUMNS],
 ) -> Bound
-    requires { EventListed (held line.now at.now shape.now a cols.now) events.now k }
-    ensures { EventBound (held line.now at.now shape.now a cols.now) (get_or events.now k 0) result }
+    requires { EventListed (held_by x a cols.now) events.now k }
+    ensures { EventBound (held_by x.entry a cols.now) (get_or events.now k 0) result }
 {
-    let e = event_at(events, k);
-    event_bound(line, at, shape, a, cols, e)
+    event_bound(x, a, cols, usize::from(events[k]))
 }

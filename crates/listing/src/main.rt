@@ -4,21 +4,18 @@
 
 ghost use Rattle.std.specs.Prelude.{◌≤◌, length, IfOk};
 
-use job_build::BuildAnswer;
+use outcome::Refusal;
 use std::io;
 use std::io::{ErrorKind, Read};
 
 fn records(
     rt: &impl Print,
-    kinds: &[u16; 3072],
-    firsts: &[u16; 3072],
-    seconds: &[u16; 3072],
+    kinds: &[u16],
+    firsts: &[u16],
+    seconds: &[u16],
     nodes: usize,
 ) -> io::Result<()> {
-    for i in 0..nodes.min(3072) {
-        let kind = kinds[i];
-        let first = firsts[i];
-        let second = seconds[i];
+    for ((kind, first), second) in kinds.iter().zip(firsts).zip(seconds).take(nodes) {
         println!(rt; "{kind} {first} {second}")?;
     }
     Ok(())
@@ -29,17 +26,16 @@ fn list(rt: &impl Print, sheet: &[u8]) -> io::Result<()> {
     let mut firsts = [0u16; 3072];
     let mut seconds = [0u16; 3072];
     match job_build::build(false, b"", sheet, &mut kinds, &mut firsts, &mut seconds) {
-        BuildAnswer::Built {
-            leaves,
-            nodes,
-            rounds,
-            height,
-        } => {
-            println!(rt; "{leaves} {nodes} {rounds} {height}")?;
-            records(rt, &kinds, &firsts, &seconds, nodes)
+        Ok(built) => {
+            println!(rt;
+                "{} {} {} {}",
+                built.leaves, built.nodes, built.rounds, built.height
+            )?;
+            records(rt, &kinds, &firsts, &seconds, built.nodes)
         }
-        BuildAnswer::Refused { number, place } => println!(rt; "refused {number} {place}"),
-        BuildAnswer::Unfit { number, place } => println!(rt; "refused {number} {place}"),
+        Err(Refusal::Refused(fault) | Refusal::Unfit(fault)) => {
+            println!(rt; "refused {} {}", fault.reason.number(), fault.place)
+        }
     }
 }
 

@@ -1,14 +1,14 @@
 -- An order gone through turn by turn: the turns of each foundry so far.
-use Prim.Native.Nat.{ℕ, zero, suc, ◌+◌, ◌-◌, ◌<◌, ◌≤◌}
+use Prim.Native.Nat.{ℕ, zero, suc, ◌+◌, ◌<◌, ◌≤◌}
 use native.Mathlib.Numerals.{add-one}
 use native.Mathlib.Omega.{arith}
-use mathlib.Core.Path.{◌≡◌, refl, sym, ◌∙◌}
+use mathlib.Core.Path.{◌≡◌, refl, ◌∙◌}
 use mathlib.Core.Bool.{Bool, true, false, ◌&&◌, false≢true}
 use mathlib.Core.List.{List, [], ◌∷◌, ◌++◌}
 use lib.Dec.{eqb, leb}
-use borrow.Author.Tests.{eq-eqb, ne_eqb, le-leb, lt-leb}
+use borrow.Author.Tests.{le-leb, lt-leb}
 use lib.ListN.{length, get_or, take}
-use lib.Seq.{take-suc, take_all}
+use lib.Seq.{take-suc}
 use Rattle.order_mixing.specs.Order.{named, turns, mixes}
 use Rattle.order_mixing.specs.Turns.{Counting}
 
@@ -69,28 +69,6 @@ counting_more {order} {i} {s} {w} {x} g h e small is =
       first_is = rw more (omega (arith, turns_snoc 0 x (take i order), g.first_is, first_of x small, is));
     }
 
-pub counting_fits : {order : List ℕ} {i s : ℕ} → Counting order i s → s ≤ i
-counting_fits g = omega (arith, g.first_is)
-
 -- an entry that names neither
 pub neither : (order : List ℕ) (first second : ℕ) {i x most : ℕ} → i < length order → x ≡ get_or order i 0 → most < x → 0 < most → false ≡ mixes order first second
 neither order first second {i} {x} h e l some = rw (named_not order i h (omega (arith, e)))
-
-module _ {order : List ℕ} {i s : ℕ} (first second : ℕ) (g : Counting order i s) (past : length order ≤ i) where
-  whole : take i order ≡ order
-  whole = take_all i order past
-
-  all : named order ≡ true
-  all = rw whole at g.all_named
-
-  firsts : turns 0 order ≡ i - s
-  firsts = let a : turns 0 order + s ≡ i = rw whole at g.first_is in omega arith
-
-  seconds : turns 1 order ≡ s
-  seconds = rw whole at g.second_is
-
-  pub mixed : i - s ≡ first → eqb s second ≡ mixes order first second
-  mixed e = rw (all, eq-eqb (turns 0 order) first (firsts ∙ e), seconds)
-
-  pub first_differs : (i - s ≡ first → ⊥) → false ≡ mixes order first second
-  first_differs n = rw (all, ne_eqb (turns 0 order) first (λ z. n (sym firsts ∙ z)))

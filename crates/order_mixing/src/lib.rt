@@ -4,29 +4,16 @@
 ghost use Rattle.std.specs.Prelude.{◌≡◌};
 ghost use Rattle.order_mixing.specs.Order.{mixes as mixes_of};
 
-// A turn as a number.
-fn wide(turn: u8) -> usize
-    ensures { result ≡ turn }
-{
-    turn as usize
-}
-
 // Whether an order mixes lists of these lengths.
 pub fn mixes(order: &[u8], first: usize, second: usize) -> bool
     ensures { result ≡ mixes_of order.now first second }
 {
-    let mut i = 0;
     let mut seconds = 0;
-    while i < order.len() {
-        let turn = order[i];
+    for &turn in order {
         if 1 < turn {
             return false;
         }
-        seconds += wide(turn);
-        i += 1;
+        seconds += usize::from(turn);
     }
-    if i - seconds == first {
-        return seconds == second;
-    }
-    false
+    order.len() - seconds == first && seconds == second
 }

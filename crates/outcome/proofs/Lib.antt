@@ -3,3 +3,4 @@ pub mod LentLaws
 pub mod NumberedLaws
 pub mod Settling
 pub mod Refusals
+pub mod Judging

@@ -18,3 +18,7 @@ module _ {O A L : Type 0} (Meets : O → L → A → L → Type 0) where
 -- A promise on three lists that are lent one by one.
 abbrev pub Three : {O A B C D : Type 0} → (O → B → C → D → A → B → C → D → Type 0) → O → (B × C × D) → A → (B × C × D) → Type 0
 Three Meets o lent r after = Meets o lent.0 lent.1 lent.2 r after.0 after.1 after.2
+
+-- A promise on answers that say something, as a promise on what they say.
+abbrev pub Said : {O A V L : Type 0} → (A → V) → (O → L → A → L → Type 0) → O → L → V → L → Type 0
+Said {A = A} says Meets o lent v after = (r : A) × ((says r ≡ v) × Meets o lent r after)

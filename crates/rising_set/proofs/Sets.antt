@@ -111,9 +111,6 @@ module _ {ws : List ℕ} {m : RisingSet} (g : Rising ws m) where
   pub opened-here : (m.word ≡ 0 → ⊥) → Opened ws m ws m
   opened-here n = record { rising = g; same = record { so = λ i. refl }; empty = λ z. absurd (n z) }
 
-  pub held_word : {w : ℕ} → LowestBit m.held w → w < 48
-  held_word {w} d = (g.later w (lowest_digit d)).1
-
   -- the lowest word held is taken in hand
   pub opened-next : {w : ℕ} → m.word ≡ 0 → LowestBit m.held w → Opened ws m (set ws w 0) (in_hand w (get_or ws w 0) (bit_xor m.held (one w)))
   opened-next {w} e d =

@@ -4,22 +4,23 @@
 ghost use Rattle.std.specs.Prelude.{◌≡◌, ◌+◌, ◌≤◌, ◌<◌, length};
 ghost use Rattle.sheet.specs.Sheet.{two_bytes_at, past_at};
 
-// A byte as a number.
-pub fn as_number(x: u8) -> usize
-    ensures { (result ≡ x) × (result < 256) }
-{
-    x as usize
-}
+// Two sheets together have at most so many names, a name at most so many bytes, and so has a formula.
+pub const NAMES: usize = 256;
+
+pub const NAME_BYTES: usize = 32;
+
+pub const FORMULA_BYTES: usize = 4094;
 
 // Two bytes, high byte first.
 pub fn two(s: &[u8], at: usize) -> usize
     requires { at + 1 < length s.now }
     ensures { (result ≡ two_bytes_at s.now at) × (result < 65536) }
 {
-    as_number(s[at]) * 256 + as_number(s[at + 1])
+    usize::from(u16::from_be_bytes([s[at], s[at + 1]]))
 }
 
 // The offset past the field whose tag is at `at`, which is all there.
+#[tactic(auto, unfolding(crate::specs::Sheet::past_at, crate::specs::Sheet::length_at))]
 pub fn past(s: &[u8], at: usize) -> usize
     requires { past_at s.now at ≤ length s.now }
     ensures { (result ≡ past_at s.now at) × (at + 3 ≤ result) × (result ≤ length s.now) }

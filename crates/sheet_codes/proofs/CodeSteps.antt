@@ -1,20 +1,19 @@
 -- What one code more adds to the judgement of a formula's codes.
-use Prim.Native.Nat.{ℕ, suc, ◌+◌, ◌-◌, ◌%◌, ◌≤◌, ◌<◌}
+use Prim.Native.Nat.{ℕ, suc, ◌+◌, ◌-◌, ◌*◌, ◌/◌, ◌%◌, ◌≤◌, ◌<◌}
 use native.Mathlib.Omega.{arith}
 use native.Mathlib.Numerals.{add-one, add-two}
 use native.Mathlib.Nat.{add_assoc, add-zero}
 use mathlib.Core.Path.{◌≡◌, refl, sym, ap, ◌∙◌}
-use mathlib.Core.Bool.{Bool, true, false, cond, ◌&&◌, and-false}
+use mathlib.Core.Bool.{Bool, true, false, cond, ◌&&◌}
 use mathlib.Core.List.{List, [], ◌∷◌}
 use mathlib.Core.Option.{none, some}
 use lib.ListN.{length, drop, drop_of_length-le}
 use lib.Seq.{drop-cons}
-use lib.Dec.{ltb, leb}
-use borrow.Author.Tests.{lt-ltb, le-ltb, le-leb, lt-leb, ne_eqb}
-use Rattle.outcome.specs.Outcome.{Outcome, given, refused, ◌>>=◌, part}
+use lib.Dec.{ltb, leb, eqb}
+use borrow.Author.Tests.{lt-ltb, le-ltb, le-leb, ne_eqb}
+use Rattle.outcome.specs.Outcome.{Outcome, given, refused, need, ◌>>=◌, ◌>>◌, part}
 use Rattle.formula.specs.Formula.{Op, Formula, leaf, node, leaves}
 use Rattle.formula.specs.Codes.{is_operation, op_of, operation}
-use Rattle.formula.proofs.Codes.{operation-low, operation-high, operation_yes}
 use Rattle.sheet.specs.Sheet.{two_bytes_at, codes_of, joined, all_codes, only_one, formula_of}
 use Rattle.sheet_codes.specs.Operands.{counted_leaves}
 
@@ -69,37 +68,29 @@ codes_more p i h =
     let l : suc i < length p = omega arith in
     rw (add-two i, add-one i, drop-cons p i 0 k, drop-cons p (suc i) 0 l)
 
--- ---- judge: the code c stands at offset i of the formula's bytes p, with w operands waiting and l leaves passed
+asked_both : (a b : Bool) (place : ℕ) (rest : Outcome ℕ) → cond (a && b) rest (refused 7 place) ≡ (need a 7 place >> (need b 7 place >> rest))
+asked_both true true place rest = refl
+asked_both true false place rest = refl
+asked_both false b place rest = refl
 
-module _ (n tag first : ℕ) (p : List ℕ) (i w l : ℕ) (all : Outcome ℕ) (inv : all ≡ counted_leaves n tag (first + i) (codes_of (drop i p)) w l) where
-  module _ (even : length p % 2 ≡ 0) (here : i % 2 ≡ 0) (more : i < length p) (c : ℕ) (is : c ≡ two_bytes_at p i) where
-    count_more : all ≡ cond (ltb c n) (counted_leaves n tag (first + (i + 2)) (codes_of (drop (i + 2) p)) (w + 1) (l + 1))
-        (cond (is_operation c && leb 2 w) (counted_leaves n tag (first + (i + 2)) (codes_of (drop (i + 2) p)) (w - 1) l) (refused 7 (first + i)))
+-- ---- judge: the code c is the one after i of the formula's bytes p, with w operands waiting and l leaves passed
+
+module _ (n tag first : ℕ) (p : List ℕ) (i w l : ℕ) (all : Outcome ℕ) (inv : all ≡ counted_leaves n tag (first + 2 * i) (codes_of (drop (2 * i) p)) w l) where
+  module _ (more : i < length p / 2) (c : ℕ) (is : c ≡ two_bytes_at p (2 * i)) where
+    count_more : all ≡ cond (ltb c n) (counted_leaves n tag (first + 2 * (i + 1)) (codes_of (drop (2 * (i + 1)) p)) (w + 1) (l + 1))
+        (cond (is_operation c && leb 2 w) (counted_leaves n tag (first + 2 * (i + 1)) (codes_of (drop (2 * (i + 1)) p)) (w - 1) l) (refused 7 (first + 2 * i)))
     unfolding counted_leaves
     count_more =
-        let h : i + 1 < length p = omega arith in
-        inv ∙ rw (codes_more p i h, ← is, ← add_assoc first i 2)
+        let h : 2 * i + 1 < length p = omega arith in
+        let next : 2 * (i + 1) ≡ 2 * i + 2 = omega arith in
+        inv ∙ rw (codes_more p (2 * i) h, ← is, next, ← add_assoc first (2 * i) 2)
 
-    pub count-leaf : c < n → all ≡ counted_leaves n tag (first + (i + 2)) (codes_of (drop (i + 2) p)) (w + 1) (l + 1)
+    pub count-leaf : c < n → all ≡ counted_leaves n tag (first + 2 * (i + 1)) (codes_of (drop (2 * (i + 1)) p)) (w + 1) (l + 1)
     count-leaf h = count_more ∙ rw (lt-ltb c n h)
 
-    pub count-operation : n ≤ c → 0xFFF0 ≤ c → c ≤ 0xFFF3 → 2 ≤ w → all ≡ counted_leaves n tag (first + (i + 2)) (codes_of (drop (i + 2) p)) (w - 1) l
-    count-operation h low high k = count_more ∙ rw (le-ltb c n h, operation_yes c low high, le-leb 2 w k)
+    pub count-operation : n ≤ c → all ≡ (need (is_operation c) 7 (first + 2 * i) >> (need (leb 2 w) 7 (first + 2 * i) >> counted_leaves n tag (first + 2 * (i + 1)) (codes_of (drop (2 * (i + 1)) p)) (w - 1) l))
+    count-operation h = count_more ∙ rw (le-ltb c n h) (asked_both (is_operation c) (leb 2 w) (first + 2 * i) _)
 
-    pub count_low : n ≤ c → c < 0xFFF0 → refused 7 (first + i) ≡ all
-    count_low h low = sym (count_more ∙ rw (le-ltb c n h, operation-low c low))
-
-    pub count-high : n ≤ c → 0xFFF3 < c → refused 7 (first + i) ≡ all
-    count-high h high = sym (count_more ∙ rw (le-ltb c n h, operation-high c high))
-
-    pub count_few : n ≤ c → w < 2 → refused 7 (first + i) ≡ all
-    count_few h k = sym (count_more ∙ rw (le-ltb c n h, lt-leb 2 w k, and-false))
-
-  module _ (done : length p ≤ i) where
-    pub count-one : w ≡ 1 → given l ≡ all
-    unfolding counted_leaves codes_of
-    count-one h = sym (inv ∙ rw (drop_of_length-le p done, h))
-
-    pub count-other : (w ≡ 1 → ⊥) → refused 7 tag ≡ all
-    unfolding counted_leaves codes_of
-    count-other h = sym (inv ∙ rw (drop_of_length-le p done, ne_eqb w 1 h))
+  pub count_end : length p / 2 ≤ i → length p % 2 ≡ 0 → all ≡ (need (eqb w 1) 7 tag >> given l)
+  unfolding counted_leaves codes_of
+  count_end done even = let h : length p ≤ 2 * i = omega arith in inv ∙ rw (drop_of_length-le p h)

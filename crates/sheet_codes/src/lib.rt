@@ -3,62 +3,52 @@
 
 ghost use Rattle.std.specs.Prelude.{◌≡◌, ◌+◌, ◌<◌, ◌%◌, ◌^◌, length};
 ghost use Rattle.outcome.specs.Outcome.{part};
+ghost use Rattle.outcome.specs.Refusing.{judged};
 ghost use Rattle.formula.specs.Formula.{leaves as leaves_of};
+ghost use Rattle.formula.specs.Codes.{is_operation};
 ghost use Rattle.sheet.specs.Sheet.{codes_of, formula_of};
-ghost use Rattle.sheet_codes.specs.Codes.{formed_of, CodesFit, CodesStand};
+ghost use Rattle.sheet_codes.specs.Codes.{CodesFit, CodesStand};
 
-// What judging a formula's codes gives: how many leaves it has, or the offset of what is wrong.
-#[derive(Drop)]
-pub enum Formed {
-    Good(usize),
-    Wrong(usize),
+use contraction::CODES;
+use outcome::{Fault, Reason, need};
+
+// Is a code an operation's?
+pub fn is_operation(code: usize) -> bool
+    ensures { result ≡ is_operation code }
+{
+    0xFFF0 <= code && code <= 0xFFF3
 }
 
-// Judges a formula's codes, the first of which stands at offset `first` of the sheet and its tag at `tag`.
-pub fn judge(codes: &[u8], names: usize, tag: usize, first: usize) -> Formed
+// Judges a formula's codes, the first of which stands at offset `first` of the sheet and its tag at `tag`, and answers how many leaves it has.
+pub fn judge(codes: &[u8], names: usize, tag: usize, first: usize) -> Result<usize, Fault>
     requires { (length codes.now % 2 ≡ 0) × (first + length codes.now < 2 ^ 64) }
-    ensures { formed_of result ≡ part leaves_of (formula_of names tag first (codes_of codes.now)) }
+    ensures { judged result ≡ part leaves_of (formula_of names tag first (codes_of codes.now)) }
 {
     let mut waiting: usize = 0;
     let mut leaves: usize = 0;
-    let mut i: usize = 0;
-    while i < codes.len() {
-        let code = sheet::two(codes, i);
+    for i in 0..codes.len() / 2 {
+        let code = sheet::two(codes, 2 * i);
         if code < names {
             waiting += 1;
             leaves += 1;
-            i += 2;
             continue;
         }
-        if code < 0xFFF0 {
-            return Formed::Wrong(first + i);
-        }
-        if 0xFFF3 < code {
-            return Formed::Wrong(first + i);
-        }
-        if waiting < 2 {
-            return Formed::Wrong(first + i);
-        }
+        need(is_operation(code), Reason::FormulaWrong, first + 2 * i)?;
+        need(2 <= waiting, Reason::FormulaWrong, first + 2 * i)?;
         waiting -= 1;
-        i += 2;
     }
-    if waiting == 1 {
-        Formed::Good(leaves)
-    } else {
-        Formed::Wrong(tag)
-    }
+    need(waiting == 1, Reason::FormulaWrong, tag)?;
+    Ok(leaves)
 }
 
 // Puts the codes of a formula's bytes into an array, and answers how many they are.
-pub fn fill_codes(formula: &[u8], codes: &mut [u16; 2048]) -> usize
+pub fn fill_codes(formula: &[u8], codes: &mut [u16; CODES]) -> usize
     requires { CodesFit formula.now codes.old }
     ensures { CodesStand (codes_of formula.now) codes.new result }
 {
     let n = formula.len() / 2;
-    let mut i: usize = 0;
-    while i < n {
+    for i in 0..n {
         codes[i] = sheet::two(formula, 2 * i) as u16;
-        i += 1;
     }
     n
 }

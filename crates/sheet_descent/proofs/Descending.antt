@@ -1,62 +1,42 @@
 -- The descent over the codes, operation first: what one code more, and one operand more, adds.
-use Prim.Native.Nat.{ℕ, suc, ◌+◌, ◌-◌, ◌*◌, ◌/◌, ◌%◌, ◌^◌, ◌≤◌, ◌<◌}
+use Prim.Native.Nat.{ℕ, suc, ◌+◌, ◌-◌, ◌*◌, ◌/◌, ◌^◌, ◌≤◌, ◌<◌}
 use native.Mathlib.Omega.{arith}
 use native.Mathlib.Numerals.{add-one}
 use native.Mathlib.Nat.{add_assoc}
 use mathlib.Core.Path.{◌≡◌, refl, sym, ap, ◌∙◌}
+use mathlib.Core.Bool.{true, false}
 use mathlib.Core.List.{List, [], ◌∷◌, ◌++◌, append_assoc}
-use mathlib.Core.Option.{none, some}
+use mathlib.Core.Option.{some}
 use lib.ListN.{length, take, drop, set, length-set, length-append}
 use lib.Seq.{take-suc-set}
 use Rattle.outcome.specs.Outcome.{◌>>=◌, part}
 use Rattle.formula.specs.Formula.{Op, code, leaf, node, postfix, prefix}
 use Rattle.formula.proofs.Laws.{length-prefix}
-use Rattle.formula.specs.Codes.{operation}
+use Rattle.formula.specs.Codes.{is_operation, operation}
 use Rattle.formula.proofs.Codes.{operation_which, operation-code}
 use Rattle.sheet.specs.Sheet.{two_bytes_at, codes_of, joined_first, all_first}
 use Rattle.sheet.proofs.CodesFirst.{first-operation, first_unknown, first-prefix}
 use Rattle.sheet_codes.proofs.CodeSteps.{codes_more}
-use Rattle.sheet_descent.specs.Descent.{Room, IsWhole, IsWrong, IsShort, short_at, Descended, whole, wrong, short}
-use Rattle.sheet_descent.proofs.Short.{none-low, none-high, some_between, short-operation, short-prefix, few_bytes}
+use Rattle.sheet_descent.specs.Descent.{Room, IsWhole, IsWrong, IsShort, short_at, Descended}
+use Rattle.sheet_descent.specs.declared.Stop.{Stop}
+use Rattle.sheet_descent.specs.declared.Stop.TheVariants.{Wrong, Short}
+use Rattle.std.specs.Prelude.{Err}
+use Rattle.sheet_descent.proofs.Short.{none_other, some_operation, short-operation, short-prefix, few_bytes}
 
 pub right-falls : (p : List ℕ) (at past mid t : ℕ) → length p - at ≡ t → at < past → past ≤ length p → at + 2 ≤ mid → length p - mid < t
 right-falls p at past mid t e more within after = omega arith
 
--- ---- what an answer says by its parity
-
-module _ (n : ℕ) (p : List ℕ) (at past : ℕ) (old new : List ℕ) (count r : ℕ) where
-  pub even_whole : Descended n p at past old new count r → (r % 2 ≡ 1 → ⊥) → IsWhole n p at past old new count r
-  even_whole (whole e w) h = w
-  even_whole (wrong e l w) h = absurd (h e)
-  even_whole (short e l w) h = absurd (h e)
-
-  pub odd-wrong : Descended n p at past old new count r → r % 2 ≡ 1 → r ≤ length p → IsWrong n p at (r - 1)
-  odd-wrong (whole e w) odd h = absurd (omega (arith, e, odd))
-  odd-wrong (wrong e l w) odd h = w
-  odd-wrong (short e l w) odd h = absurd (omega (arith, l, h))
-
-  pub odd-short : Descended n p at past old new count r → r % 2 ≡ 1 → length p < r → IsShort n p at past
-  odd-short (whole e w) odd h = absurd (omega (arith, e, odd))
-  odd-short (wrong e l w) odd h = absurd (omega (arith, l, h))
-  odd-short (short e l w) odd h = w
-
 -- ---- one code
 
 module _ (n : ℕ) (p old : List ℕ) (at past count : ℕ) (room : Room n p old at past count) where
-  pub ends-short : past ≤ at → Descended n p at past old old count (length p + 1)
-  ends-short h = short (omega (arith, room.even)) (omega arith) (record { is = λ tag first k few. few_bytes p n tag (first + at) at k (omega (arith, h, few)) })
+  pub ends-short : past ≤ at → IsShort n p at past
+  ends-short h = record { is = λ tag first k few. few_bytes p n tag (first + at) at k (omega (arith, h, few)) }
 
   pub room-two : at < past → at + 1 < length p
   room-two more = omega (arith, room.there, room.here, room.within)
 
   pub room-code : at < past → count < 2048
   room-code more = let few : length p ≤ 4094 = room.few in omega (arith, room.behind, room.within)
-
-  pub length-fits : length p + 1 < 2 ^ 64
-  length-fits = let few : length p ≤ 4094 = room.few in omega arith
-
-  pub here-fits : at ≤ length p + 1
-  here-fits = omega (arith, room.near)
 
   pub past_two : at < past → 2 ≤ past
   past_two more = omega (arith, room.there)
@@ -65,10 +45,9 @@ module _ (n : ℕ) (p old : List ℕ) (at past count : ℕ) (room : Room n p old
     codes-here : codes_of (drop at p) ≡ c ∷ codes_of (drop (at + 2) p)
     codes-here = codes_more p at (room-two more) ∙ ap (λ (x : ℕ). x ∷ codes_of (drop (at + 2) p)) (sym is)
 
-    pub leaf-whole : c < n → Descended n p at past old (set old count c) count (at + 2)
+    pub leaf-whole : c < n → IsWhole n p at past old (set old count c) count (at + 2)
     leaf-whole h =
         let there : count < length old = omega (arith, room-code more, room.sized) in
-        whole (omega (arith, room.here))
         (record {
           formula = leaf c;
           over = h;
@@ -79,17 +58,8 @@ module _ (n : ℕ) (p old : List ℕ) (at past count : ℕ) (room : Room n p old
           sized = length-set old count c ∙ room.sized;
         })
 
-    unknown : n ≤ c → operation c ≡ none → Descended n p at past old old count (at + 1)
-    unknown h e =
-        let z : at + 1 - 1 ≡ at = omega arith in
-        let w : IsWrong n p at at = record { within = omega (arith, more, room.within); is = λ tag first k. rw codes-here (first_unknown n tag (first + at) c (codes_of (drop (at + 2) p)) k h e) } in
-        wrong (omega (arith, room.here)) (omega (arith, more, room.within)) (rw z w)
-
-    pub wrong-low : n ≤ c → c < 0xFFF0 → Descended n p at past old old count (at + 1)
-    wrong-low h l = unknown h (none-low c l)
-
-    pub wrong-high : n ≤ c → 0xFFF3 < c → Descended n p at past old old count (at + 1)
-    wrong-high h l = unknown h (none-high c l)
+    pub wrong_here : n ≤ c → is_operation c ≡ false → IsWrong n p at at
+    wrong_here h e = record { within = omega (arith, more, room.within); is = λ tag first k. rw codes-here (first_unknown n tag (first + at) c (codes_of (drop (at + 2) p)) k h (none_other c e)) }
 
     -- ---- an operation, and its left operand
 
@@ -107,15 +77,12 @@ module _ (n : ℕ) (p old : List ℕ) (at past count : ℕ) (room : Room n p old
           behind = omega (arith, room.behind);
         }
 
-    module _ (low : 0xFFF0 ≤ c) (high : c ≤ 0xFFF3) where
+    module _ (above : n ≤ c) (operates : is_operation c ≡ true) where
       abbrev op : Op
-      op = (some_between c low high).0
+      op = (some_operation c operates).0
 
       op_is : operation c ≡ some op
-      op_is = (some_between c low high).1
-
-      above : n ≤ c
-      above = omega (arith, room.few_names, low)
+      op_is = (some_operation c operates).1
 
       on : (tag first k : ℕ) → all_first n tag (first + at) (codes_of (drop at p)) (suc k) ≡ (all_first n tag (first + (at + 2)) (codes_of (drop (at + 2) p)) (suc (suc k)) >>= joined_first (first + at) op)
       on tag first k = rw (codes-here, ← add_assoc first at 2) (first-operation n tag (first + at) c (codes_of (drop (at + 2) p)) k op above op_is)
@@ -129,15 +96,11 @@ module _ (n : ℕ) (p old : List ℕ) (at past count : ℕ) (room : Room n p old
       left-short : IsShort n p (at + 2) (past - 2) → IsShort n p at past
       left-short w = record { is = λ tag first k few. on tag first k ∙ rw (w.is tag first (suc k) (omega (arith, few)), short_on tag first) }
 
-      pub left_fails : (mids : List ℕ) (mid : ℕ) → Descended n p (at + 2) (past - 2) old mids count mid → mid % 2 ≡ 1 → Descended n p at past old mids count mid
-      left_fails mids mid (whole e w) odd = absurd (omega (arith, e, odd))
-      left_fails mids mid (wrong e l w) odd = wrong e l (left-wrong (mid - 1) w)
-      left_fails mids mid (short e l w) odd = short e l (left-short w)
+      pub left_fails : (mids : List ℕ) (e : Stop) → Descended n p (at + 2) (past - 2) old mids count (Err e) → Descended n p at past old mids count (Err e)
+      left_fails mids (Wrong q) w = left-wrong q w
+      left_fails mids Short w = left-short w
 
-      module _ (mids : List ℕ) (mid : ℕ) (said : Descended n p (at + 2) (past - 2) old mids count mid) (even : mid % 2 ≡ 1 → ⊥) where
-        left : IsWhole n p (at + 2) (past - 2) old mids count mid
-        left = even_whole n p (at + 2) (past - 2) old mids count mid said even
-
+      module _ (mids : List ℕ) (mid : ℕ) (left : IsWhole n p (at + 2) (past - 2) old mids count mid) where
         mid_at : (first : ℕ) → first + (at + 2) + 2 * length (prefix left.formula) ≡ first + mid
         mid_at first = omega (arith, left.next_is, length-prefix left.formula)
 
@@ -180,15 +143,11 @@ module _ (n : ℕ) (p old : List ℕ) (at past count : ℕ) (room : Room n p old
                 behind = omega (arith, room.behind, left.next_is, lefts_are);
               }
 
-          pub right_fails : (news : List ℕ) (next : ℕ) → Descended n p mid past mids news lefts next → next % 2 ≡ 1 → Descended n p at past old news count next
-          right_fails news next (whole e w) odd = absurd (omega (arith, e, odd))
-          right_fails news next (wrong e l w) odd = wrong e l (right-wrong (next - 1) w)
-          right_fails news next (short e l w) odd = short e l (right-short w)
+          pub right_fails : (news : List ℕ) (e : Stop) → Descended n p mid past mids news lefts (Err e) → Descended n p at past old news count (Err e)
+          right_fails news (Wrong q) w = right-wrong q w
+          right_fails news Short w = right-short w
 
-          module _ (news : List ℕ) (next : ℕ) (then : Descended n p mid past mids news lefts next) (done : next % 2 ≡ 1 → ⊥) where
-            right : IsWhole n p mid past mids news lefts next
-            right = even_whole n p mid past mids news lefts next then done
-
+          module _ (news : List ℕ) (next : ℕ) (right : IsWhole n p mid past mids news lefts next) where
             module _ (both : ℕ) (both_is : both ≡ lefts + (next - mid) / 2) where
               both_are : both ≡ lefts + length (postfix right.formula)
               both_are = omega (arith, both_is, right.next_is)
@@ -206,7 +165,7 @@ module _ (n : ℕ) (p old : List ℕ) (at past count : ℕ) (room : Room n p old
                   ∙ ap (λ (k : ℕ). take k mids ++ postfix right.formula) lefts_are
                   ∙ ap (λ (xs : List ℕ). xs ++ postfix right.formula) left.written
 
-              pub both_whole : Descended n p at past old (set news both c) count next
+              pub both_whole : IsWhole n p at past old (set news both c) count next
               both_whole =
                   let l = left.formula in
                   let r = right.formula in
@@ -214,7 +173,6 @@ module _ (n : ℕ) (p old : List ℕ) (at past count : ℕ) (room : Room n p old
                   let there : both < length news = omega (arith, both_room, right.sized) in
                   let many : length (postfix (node op l r)) ≡ length (postfix l) + (length (postfix r) + 1) = simp length-append refl in
                   let all : count + length (postfix (node op l r)) ≡ suc both = omega (arith, many, both_are, lefts_are) in
-                  whole (omega (arith, room.here, left.next_is, right.next_is))
                   (record {
                     formula = node op l r;
                     over = (left.over, right.over);

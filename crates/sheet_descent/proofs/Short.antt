@@ -1,9 +1,8 @@
 -- Codes that are too few for the formulas to come.
-use Prim.Native.Nat.{ℕ, zero, suc, ◌+◌, ◌*◌, ◌%◌, ◌≤◌, ◌<◌}
+use Prim.Native.Nat.{ℕ, zero, suc, ◌+◌, ◌*◌, ◌/◌, ◌%◌, ◌≤◌, ◌<◌}
 use native.Mathlib.Omega.{arith}
-use native.Mathlib.Nat.{add_assoc}
 use mathlib.Core.Path.{◌≡◌, refl, sym, ap, ◌∙◌}
-use mathlib.Core.Bool.{Bool, true, false}
+use mathlib.Core.Bool.{Bool, true, false, ◌||◌}
 use mathlib.Core.List.{List, [], ◌∷◌, ◌++◌, append_assoc}
 use mathlib.Core.Option.{Option, none, some}
 use lib.ListN.{length, drop, length-append, length-drop, drop_of_length-le}
@@ -11,8 +10,8 @@ use lib.Dec.{ltb}
 use borrow.Author.Tests.{ltb-true, ltb-false, lt-ltb, le-ltb}
 use Rattle.outcome.specs.Outcome.{refused}
 use Rattle.formula.specs.Formula.{Op, first_operation, code, Formula, leaf, node, prefix, Over}
-use Rattle.formula.specs.Codes.{op_of, operation}
-use Rattle.formula.proofs.Codes.{operation-low, operation-high, operation_yes, code-operation}
+use Rattle.formula.specs.Codes.{is_operation, op_of, operation}
+use Rattle.formula.proofs.Codes.{code-operation}
 use Rattle.sheet.specs.Sheet.{two_bytes_at, codes_of, all_first}
 use Rattle.sheet.proofs.CodesFirst.{first_leaf, first-operation, first_unknown}
 use Rattle.sheet_codes.proofs.CodeSteps.{codes_more}
@@ -20,14 +19,11 @@ use Rattle.sheet_descent.specs.Descent.{short_at}
 
 -- ---- a code's operation
 
-pub none-low : (c : ℕ) → c < 0xFFF0 → operation c ≡ none
-none-low c h = rw (operation-low c h)
+pub none_other : (c : ℕ) → is_operation c ≡ false → operation c ≡ none
+none_other c h = rw h
 
-pub none-high : (c : ℕ) → 0xFFF3 < c → operation c ≡ none
-none-high c h = rw (operation-high c h)
-
-pub some_between : (c : ℕ) → 0xFFF0 ≤ c → c ≤ 0xFFF3 → (o : Op) × (operation c ≡ some o)
-some_between c l h = (op_of c, rw (operation_yes c l h))
+pub some_operation : (c : ℕ) → is_operation c ≡ true → (o : Op) × (operation c ≡ some o)
+some_operation c h = (op_of c, rw h)
 
 -- ---- short_at: one code more
 
@@ -83,31 +79,36 @@ codes_half (h ∷ l ∷ p) = omega (arith, codes_half p)
 pub few_bytes : (p : List ℕ) (n tag i at k : ℕ) → length p ≤ at + 2 * k → all_first n tag i (codes_of (drop at p)) (suc k) ≡ refused 7 (short_at n tag i (codes_of (drop at p)))
 few_bytes p n tag i at k h = few_codes (codes_of (drop at p)) n tag i k (omega (arith, codes_half (drop at p), length-drop at p))
 
--- ---- short_at: the codes from i on decide
+-- ---- short_at: the codes after i of them decide
 
 module _ (n tag first : ℕ) (p : List ℕ) where
-  pub short_begins : short_at n tag first (codes_of p) ≡ short_at n tag (first + 0) (codes_of (drop 0 p))
-  short_begins = let e : first + 0 ≡ first = omega arith in rw e
+  module _ (i : ℕ) (inv : short_at n tag first (codes_of p) ≡ short_at n tag (first + 2 * i) (codes_of (drop (2 * i) p))) where
+    module _ (more : i < length p / 2) (c : ℕ) (is : c ≡ two_bytes_at p (2 * i)) (r : Bool) (known : r ≡ (ltb c n || is_operation c)) where
+      codes-on : short_at n tag first (codes_of p) ≡ short_at n tag (first + 2 * i) (c ∷ codes_of (drop (2 * (i + 1)) p))
+      codes-on =
+          let h : 2 * i + 1 < length p = omega arith in
+          let next : 2 * (i + 1) ≡ 2 * i + 2 = omega arith in
+          inv ∙ rw (codes_more p (2 * i) h, ← is, next)
 
-  module _ (i : ℕ) (inv : short_at n tag first (codes_of p) ≡ short_at n tag (first + i) (codes_of (drop i p))) where
-    module _ (even : length p % 2 ≡ 0) (here : i % 2 ≡ 0) (more : i < length p) (c : ℕ) (is : c ≡ two_bytes_at p i) where
-      codes-on : short_at n tag first (codes_of p) ≡ short_at n tag (first + i) (c ∷ codes_of (drop (i + 2) p))
-      codes-on = let h : i + 1 < length p = omega arith in inv ∙ rw (codes_more p i h, ← is)
+      on-by : (a b : Bool) → ltb c n ≡ a → is_operation c ≡ b → true ≡ (a || b) → short_at n tag (first + 2 * i) (c ∷ codes_of (drop (2 * (i + 1)) p)) ≡ short_at n tag (first + 2 * (i + 1)) (codes_of (drop (2 * (i + 1)) p))
+      on-by true b q e h = let next : first + 2 * (i + 1) ≡ first + 2 * i + 2 = omega arith in rw next (short-leaf n tag (first + 2 * i) c _ (ltb-true c n q))
+      on-by false true q e h =
+          let next : first + 2 * (i + 1) ≡ first + 2 * i + 2 = omega arith in
+          let o = some_operation c e in
+          rw next (short-operation n tag (first + 2 * i) c _ o.0 (ltb-false c n q) o.1)
+      on-by false false q e h = let z : ◌≡◌ {A = ℕ} 0 1 = cc in absurd (omega arith)
 
-      pub short-on-leaf : c < n → short_at n tag first (codes_of p) ≡ short_at n tag (first + (i + 2)) (codes_of (drop (i + 2) p))
-      short-on-leaf h = codes-on ∙ rw (← add_assoc first i 2) (short-leaf n tag (first + i) c (codes_of (drop (i + 2) p)) h)
+      pub short-on : r ≡ true → short_at n tag first (codes_of p) ≡ short_at n tag (first + 2 * (i + 1)) (codes_of (drop (2 * (i + 1)) p))
+      short-on h = codes-on ∙ on-by (ltb c n) (is_operation c) refl refl (sym h ∙ known)
 
-      pub short-on-operation : n ≤ c → 0xFFF0 ≤ c → c ≤ 0xFFF3 → short_at n tag first (codes_of p) ≡ short_at n tag (first + (i + 2)) (codes_of (drop (i + 2) p))
-      short-on-operation h low high =
-          let o = some_between c low high in
-          codes-on ∙ rw (← add_assoc first i 2) (short-operation n tag (first + i) c (codes_of (drop (i + 2) p)) o.0 h o.1)
+      unknown_by : (a b : Bool) → ltb c n ≡ a → is_operation c ≡ b → false ≡ (a || b) → short_at n tag (first + 2 * i) (c ∷ codes_of (drop (2 * (i + 1)) p)) ≡ first + 2 * i
+      unknown_by true b q e h = let z : ◌≡◌ {A = ℕ} 0 1 = cc in absurd (omega arith)
+      unknown_by false true q e h = let z : ◌≡◌ {A = ℕ} 0 1 = cc in absurd (omega arith)
+      unknown_by false false q e h = short_unknown n tag (first + 2 * i) c _ (ltb-false c n q) (none_other c e)
 
-      pub short-low : n ≤ c → c < 0xFFF0 → first + i ≡ short_at n tag first (codes_of p)
-      short-low h low = sym (codes-on ∙ short_unknown n tag (first + i) c (codes_of (drop (i + 2) p)) h (none-low c low))
+      pub short-unknown : r ≡ false → first + 2 * i ≡ short_at n tag first (codes_of p)
+      short-unknown h = sym (codes-on ∙ unknown_by (ltb c n) (is_operation c) refl refl (sym h ∙ known))
 
-      pub short-high : n ≤ c → 0xFFF3 < c → first + i ≡ short_at n tag first (codes_of p)
-      short-high h high = sym (codes-on ∙ short_unknown n tag (first + i) c (codes_of (drop (i + 2) p)) h (none-high c high))
-
-    pub short-ends : length p ≤ i → tag ≡ short_at n tag first (codes_of p)
+    pub short-ends : length p % 2 ≡ 0 → length p / 2 ≤ i → tag ≡ short_at n tag first (codes_of p)
     unfolding short_at codes_of
-    short-ends h = sym (inv ∙ rw (drop_of_length-le p h))
+    short-ends even h = let k : length p ≤ 2 * i = omega arith in sym (inv ∙ rw (drop_of_length-le p k))

@@ -1,11 +1,13 @@
 -- What the descent over a formula's codes, operation first, has found, and what is asked of codes that are judged or put into an array.
-use Rattle.std.specs.Prelude.{ℕ, suc, ◌+◌, ◌-◌, ◌*◌, ◌%◌, ◌^◌, ◌≤◌, ◌<◌, ◌≡◌, true, false, List, [], ◌∷◌, ◌++◌, length, take, drop, ltb}
+use Rattle.std.specs.Prelude.{Result, Ok, Err, ℕ, suc, ◌+◌, ◌*◌, ◌%◌, ◌^◌, ◌≤◌, ◌<◌, ◌≡◌, true, false, List, [], ◌∷◌, ◌++◌, length, take, drop, ltb}
 use Rattle.std.proofs.Math.Option.{Option, none, some}
 use Rattle.outcome.specs.Outcome.{Outcome, given, refused, unfit}
 use Rattle.formula.specs.Formula.{Op, first_operation, Formula, postfix, prefix, Over}
 use Rattle.formula.specs.Codes.{operation}
 use Rattle.sheet.specs.Sheet.{longest_formula, codes_of, all_first, formula_first, formula_in}
 use Rattle.sheet_codes.specs.Codes.{CodesFit}
+use Rattle.sheet_descent.specs.declared.Stop.{Stop}
+use Rattle.sheet_descent.specs.declared.Stop.TheVariants.{Wrong, Short}
 
 -- A formula's bytes over n names, of which the formula at offset `at` has those up to `past`, and an array with room for its codes after so
 -- many that stand in it.
@@ -49,12 +51,11 @@ short_at n tag at (c ∷ cs) = elim (ltb c n) [ true ↦ short_at n tag (at + 2)
 pub record IsShort (n : ℕ) (bytes : List ℕ) (at past : ℕ) : Type 0 where
   pub is : (tag first k : ℕ) → length bytes ≤ past + 2 * k → all_first n tag (first + at) (codes_of (drop at bytes)) (suc k) ≡ refused 7 (short_at n tag (first + at) (codes_of (drop at bytes)))
 
--- An even answer is the offset past a whole formula; an odd one is one more than the offset of a wrong code, or than the length where the
--- codes are too few.
-pub data Descended (n : ℕ) (bytes : List ℕ) (at past : ℕ) (old new : List ℕ) (count r : ℕ) : Type 0 where
-  whole : r % 2 ≡ 0 → IsWhole n bytes at past old new count r → Descended n bytes at past old new count r
-  wrong : r % 2 ≡ 1 → r ≤ length bytes → IsWrong n bytes at (r - 1) → Descended n bytes at past old new count r
-  short : r % 2 ≡ 1 → length bytes < r → IsShort n bytes at past → Descended n bytes at past old new count r
+-- By cases of the answer: the offset past a whole formula, a wrong code, or codes too few.
+abbrev pub Descended : ℕ → List ℕ → ℕ → ℕ → List ℕ → List ℕ → ℕ → Result ℕ Stop → Type 0
+Descended n bytes at past old new count (Ok next) = IsWhole n bytes at past old new count next
+Descended n bytes at past old new count (Err (Wrong place)) = IsWrong n bytes at place
+Descended n bytes at past old new count (Err Short) = IsShort n bytes at past
 
 -- ---- the codes judged, and put into an array
 

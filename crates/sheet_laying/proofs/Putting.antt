@@ -5,7 +5,7 @@ use native.Mathlib.Numerals.{add-one}
 use mathlib.Core.Path.{◌≡◌, refl, sym, ap, ◌∙◌}
 use mathlib.Core.List.{List, [], ◌∷◌, ◌++◌}
 use lib.ListN.{length, get_or, take, set, length-set}
-use lib.Seq.{sets, length-sets, take-suc, length-take-le}
+use lib.Seq.{sets, length-sets, take-suc, take_all, length-take-le}
 use Rattle.sheet_laying.specs.Bytes.{code_bytes}
 use Rattle.sheet_laying.proofs.Stores.{sets_append}
 
@@ -31,7 +31,7 @@ module _ (codes old new : List ℕ) (at i : ℕ) (p : Putting codes old new at i
   pub putting_long : length new ≡ length old
   putting_long = ap length p.are ∙ length-sets old at (code_bytes (take i codes))
 
-  module _ (n : ℕ) (more : i < n) (fits : at + 2 * n ≤ length old) where
+  module _ (more : i < length codes) (fits : at + 2 * length codes ≤ length old) where
     pub high_there : at + 2 * i < length new
     high_there = omega (arith, putting_long)
 
@@ -53,9 +53,12 @@ module _ (codes old new : List ℕ) (at i : ℕ) (p : Putting codes old new at i
             ∙ ap (λ (cs : List ℕ). sets old at (code_bytes cs)) (sym t);
       }
 
-  pub putting_more : (high low n : ℕ) → high ≡ get_or codes i 0 / 256 → low ≡ get_or codes i 0 % 256 → i < n → n ≤ 2048 → length codes ≡ 2048
-      → Putting codes old (set (set new (at + 2 * i) high) (at + 2 * i + 1) low) at (i + 1)
-  putting_more high low n h l more few sized = rw (h, l) (more_by (get_or codes i 0) refl (omega arith))
+  pub putting_more : (two : List ℕ) → get_or codes i 0 < 65536 → two ≡ get_or codes i 0 / 256 % 256 ∷ get_or codes i 0 % 256 ∷ [] → i < length codes
+      → Putting codes old (set (set new (at + 2 * i) (get_or two 0 0)) (at + 2 * i + 1) (get_or two 1 0)) at (i + 1)
+  putting_more two small are more =
+      let high : get_or two 0 0 ≡ get_or codes i 0 / 256 = ap (λ (b : List ℕ). get_or b 0 0) are ∙ omega (arith, small) in
+      let low : get_or two 1 0 ≡ get_or codes i 0 % 256 = ap (λ (b : List ℕ). get_or b 1 0) are in
+      rw (high, low) (more_by (get_or codes i 0) refl more)
 
-pub putting_all : (codes old new : List ℕ) (at i n : ℕ) → Putting codes old new at i → i ≤ n → n ≤ i → new ≡ sets old at (code_bytes (take n codes))
-putting_all codes old new at i n p l h = let e : i ≡ n = omega arith in rw (← e) p.are
+pub putting_all : (codes old new : List ℕ) (at i : ℕ) → Putting codes old new at i → length codes ≤ i → new ≡ sets old at (code_bytes codes)
+putting_all codes old new at i p h = p.are ∙ ap (λ (cs : List ℕ). sets old at (code_bytes cs)) (take_all i codes h)

@@ -3,64 +3,33 @@ use Prim.Native.Nat.{ℕ, zero, suc, ◌+◌, ◌-◌, ◌≤◌, ◌<◌}
 use native.Mathlib.Omega.{arith}
 use native.Mathlib.Numerals.{add-one}
 use mathlib.Core.Path.{◌≡◌, refl, sym, ap, ap₂, ◌∙◌}
-use mathlib.Core.Bool.{Bool, true, false, not, ◌&&◌, ◌||◌, and-false}
+use mathlib.Core.Bool.{Bool, true, false, ◌&&◌, ◌||◌}
 use mathlib.Core.List.{List, [], ◌∷◌, ◌++◌, map}
+use Rattle.std.specs.Str.{bytes_eq}
+use Rattle.std.specs.List.{list_all}
 use lib.ListN.{length, get_or, take, drop, drop_of_length-le, length-append}
-use lib.Seq.{drop-cons, get_or-take, length-take-le}
+use lib.Seq.{drop-cons}
 use lib.Dec.{leb, eqb}
-use borrow.Author.Tests.{le-leb, lt-leb, eq-eqb, not-true, not-false}
-use Rattle.sheet.specs.Sheet.{most_names, between, past_at, bytes_at, all_good, same, taken}
+use borrow.Author.Tests.{eq-eqb}
+use Rattle.sheet.specs.Sheet.{between, past_at, bytes_at, all_good, same, taken}
 use Rattle.sheet.specs.Walk.{walk_end, walk_names}
 use Rattle.sheet_names.specs.Keys.{mixed, key_from, key_of, has, Walkable, NamesRead, whose_is}
 use Rattle.sheet_names.specs.declared.Whose.TheVariants.{Customers, Fittings, Nobodys}
 use Rattle.sheet.proofs.Names.{or-false, or_assoc, same_equal, taken-append, bytes-between, walk_length, walk_on}
 
--- ---- allGood
+-- ---- the tests of a byte and of two names
 
-module _ (b : List ℕ) (i : ℕ) (inv : all_good b ≡ all_good (drop i b)) where
-  good_more : i < length b → all_good b ≡ ((leb 0x21 (get_or b i 0) && leb (get_or b i 0) 0x7E) && all_good (drop (i + 1) b))
-  unfolding all_good
-  good_more h = inv ∙ rw (add-one i, drop-cons b i 0)
+pub good_all : (b : List ℕ) → list_all (λ x. leb 0x21 x && leb x 0x7E) b ≡ all_good b
+unfolding all_good
+good_all [] = refl
+good_all (x ∷ b) = rw (good_all b)
 
-  pub good_low : i < length b → get_or b i 0 < 0x21 → false ≡ all_good b
-  good_low h l = sym (good_more h ∙ rw (lt-leb 0x21 (get_or b i 0) l))
-
-  pub good_high : i < length b → 0x7E < get_or b i 0 → false ≡ all_good b
-  good_high h k = sym (good_more h ∙ rw (lt-leb (get_or b i 0) 0x7E k, and-false))
-
-  pub good_on : i < length b → 0x21 ≤ get_or b i 0 → get_or b i 0 ≤ 0x7E → all_good b ≡ all_good (drop (i + 1) b)
-  good_on h l k = good_more h ∙ rw (le-leb 0x21 (get_or b i 0) l, le-leb (get_or b i 0) 0x7E k)
-
-  pub good_all : length b ≤ i → true ≡ all_good b
-  unfolding all_good
-  good_all h = sym (inv ∙ rw (drop_of_length-le b h))
-
--- ---- same
-
-module _ (a b : List ℕ) (i : ℕ) (inv : same a b ≡ same (drop i a) (drop i b)) where
-  same_more : i < length a → i < length b → same a b ≡ (eqb (get_or a i 0) (get_or b i 0) && same (drop (i + 1) a) (drop (i + 1) b))
-  unfolding same
-  same_more h k = inv ∙ rw (add-one i, drop-cons a i 0 h, drop-cons b i 0 k)
-
-  pub same-short : i < length a → length b ≤ i → false ≡ same a b
-  unfolding same
-  same-short h k = sym (inv ∙ rw (drop-cons a i 0 h, drop_of_length-le b k))
-
-  -- r says whether their bytes at i are unlike
-  module _ (r : Bool) (is : r ≡ not (eqb (get_or a i 0) (get_or b i 0))) (h : i < length a) (k : i < length b) where
-    pub same-off : r ≡ true → false ≡ same a b
-    same-off e = sym (same_more h k ∙ rw (not-true (eqb (get_or a i 0) (get_or b i 0)) (sym is ∙ e)))
-
-    pub same-on : r ≡ false → same a b ≡ same (drop (i + 1) a) (drop (i + 1) b)
-    same-on e = same_more h k ∙ rw (not-false (eqb (get_or a i 0) (get_or b i 0)) (sym is ∙ e))
-
-  pub same-all : length a ≤ i → length b ≤ i → true ≡ same a b
-  unfolding same
-  same-all h k = sym (inv ∙ rw (drop_of_length-le a h, drop_of_length-le b k))
-
-  pub same_long : length a ≤ i → i < length b → false ≡ same a b
-  unfolding same
-  same_long h k = sym (inv ∙ rw (drop_of_length-le a h, drop-cons b i 0 k))
+pub same_bytes : (a b : List ℕ) → bytes_eq a b ≡ same a b
+unfolding same
+same_bytes [] [] = refl
+same_bytes [] (y ∷ b) = refl
+same_bytes (x ∷ a) [] = refl
+same_bytes (x ∷ a) (y ∷ b) = rw (same_bytes a b)
 
 -- ---- walkEnd, walkNames, taken: n names are left to walk, from offset at on
 
@@ -81,10 +50,10 @@ walk_first s at (suc n) h = let m : suc n - 1 ≡ n = omega arith in rw m
 
 -- the first of them is x, or is not: e is the offset past it, and r what comparing it gave
 module _ (s x : List ℕ) (at n e : ℕ) (r : Bool) (all : List (List ℕ)) (inv : taken all x ≡ taken (walk_names s at n) x) (p : 0 < n) (q : e ≡ past_at s at)
-    (t : r ≡ same (between s (at + 3) e) x) where
+    (t : r ≡ bytes_eq (between s (at + 3) e) x) where
   taken_more : taken all x ≡ (r || taken (walk_names s e (n - 1)) x)
   unfolding taken
-  taken_more = inv ∙ rw (walk_first s at n p, t, bytes-between s at e q, q)
+  taken_more = inv ∙ rw (walk_first s at n p, t, same_bytes (between s (at + 3) e) x, bytes-between s at e q, q)
 
   pub taken_here : r ≡ true → true ≡ taken all x
   taken_here y = sym (taken_more ∙ rw y)
@@ -108,25 +77,20 @@ module _ (x : List ℕ) (key i : ℕ) (inv : key_of x ≡ key_from key (drop i x
   unfolding key_from
   key_all h = sym (inv ∙ rw (drop_of_length-le x h))
 
--- ---- has: the first n of the keys ks, of which i were looked at
+-- ---- has: the keys ks, of which i were looked at
 
 or_no : (a : Bool) → (a || false) ≡ a
 or_no true = refl
 or_no false = refl
 
-module _ (ks : List ℕ) (n key i : ℕ) (found : Bool) (inv : has (take n ks) key ≡ (found || has (drop i (take n ks)) key)) (few : n ≤ most_names) (sized : length ks ≡ most_names) where
-  first_keys : length (take n ks) ≡ n
-  first_keys = length-take-le n ks (omega arith)
-
-  pub has_on : i < n → (next : Bool) → next ≡ (found || eqb (get_or ks i 0) key) → has (take n ks) key ≡ (next || has (drop (i + 1) (take n ks)) key)
+module _ (ks : List ℕ) (key i : ℕ) (found : Bool) (inv : has ks key ≡ (found || has (drop i ks) key)) where
+  pub has_on : i < length ks → has ks key ≡ ((found || eqb (get_or ks i 0) key) || has (drop (i + 1) ks) key)
   unfolding has
-  has_on more next is =
-      let h : i < length (take n ks) = rw first_keys more in
-      inv ∙ rw (add-one i, drop-cons (take n ks) i 0 h, get_or-take n ks i 0 more, is) (or_assoc found _ _)
+  has_on h = inv ∙ rw (add-one i, drop-cons ks i 0 h) (or_assoc found _ _)
 
-  pub has_all : n ≤ i → found ≡ has (take n ks) key
+  pub has_all : length ks ≤ i → found ≡ has ks key
   unfolding has
-  has_all h = let l : length (take n ks) ≤ i = rw first_keys h in sym (inv ∙ rw (drop_of_length-le (take n ks) l) (or_no found))
+  has_all h = sym (inv ∙ rw (drop_of_length-le ks h) (or_no found))
 
 -- ---- a name whose key is unlike all others is not taken
 

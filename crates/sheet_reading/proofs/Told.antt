@@ -1,7 +1,7 @@
 -- What an answer tells of the reading itself, for the rooms above: its sheet, and that the formula's codes can be put into an array.
 use Prim.Native.Nat.{ℕ, ◌-◌, ◌≤◌, ◌<◌}
 use native.Mathlib.Omega.{arith}
-use mathlib.Core.Path.{◌≡◌}
+use mathlib.Core.Path.{◌≡◌, sym, ap}
 use mathlib.Core.List.{List}
 use lib.ListN.{length, get_or, length-take, length-drop}
 use Rattle.outcome.specs.Outcome.{given}
@@ -11,10 +11,9 @@ use Rattle.sheet.specs.Guaranteed.{Guaranteed}
 use Rattle.sheet.proofs.CodesFirst.{codes_in-formula}
 use Rattle.sheet.proofs.Names.{walk_on}
 use Rattle.sheet.proofs.Guaranteed.{guaranteed}
-use Rattle.sheet_reading.specs.Reading.{numbers, numbers_of, told, answer_of}
+use Rattle.sheet_reading.specs.Reading.{numbers_of, told}
 use Rattle.sheet_codes.specs.Codes.{CodesFit}
-use Rattle.sheet_reading.specs.declared.ReadAnswer.{ReadAnswer}
-use Rattle.sheet_reading.specs.declared.ReadAnswer.TheVariants.{Read}
+use Rattle.sheet_reading.specs.declared.Read.{Read}
 use Rattle.outcome.proofs.Questions.{part-given}
 
 pub record Known (c : Sheets) (n l a e : ℕ) : Type 0 where
@@ -25,13 +24,12 @@ pub record Known (c : Sheets) (n l a e : ℕ) : Type 0 where
   pub first_is : a ≡ sheet.first
   pub past_is : e ≡ sheet.past
 
-module _ (c : Sheets) (r : ReadAnswer) (said : answer_of r ≡ told c) where
-  pub read_known : (n l a e : ℕ) → r ≡ Read n l a e → Known c n l a e
-  unfolding told
-  read_known n l a e is =
-      let g = part-given numbers_of (reading c) (numbers n l a e) (rw is at said) in
-      let h = g.2 in
-      record { sheet = g.0; read = g.1; names_are = cc h; leaves_are = cc h; first_is = cc h; past_is = cc h }
+pub read_known : (c : Sheets) (r : Read) → given r ≡ told c → Known c r.names r.leaves r.first r.past
+unfolding told
+read_known c r said =
+    let g = part-given numbers_of (reading c) r said in
+    let h = g.2 in
+    record { sheet = g.0; read = g.1; names_are = ap (λ (x : Read). x.names) (sym h); leaves_are = ap (λ (x : Read). x.leaves) (sym h); first_is = ap (λ (x : Read). x.first) (sym h); past_is = ap (λ (x : Read). x.past) (sym h) }
 
 -- ---- the formula's bytes
 

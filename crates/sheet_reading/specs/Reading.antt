@@ -1,22 +1,16 @@
 -- What reading the sheets of a call answers: document 01, 'The library does four jobs', and document 02, K7 and K10.
 use Rattle.std.specs.Prelude.{ℕ, length}
-use Rattle.outcome.specs.Outcome.{Outcome, given, refused, unfit, part}
+use Rattle.outcome.specs.Outcome.{Outcome, part}
 use Rattle.formula.specs.Formula.{leaves}
 use Rattle.sheet.specs.Sheet.{Sheets, Sheet, reading}
-use Rattle.sheet_reading.specs.declared.ReadAnswer.{ReadAnswer}
-use Rattle.sheet_reading.specs.declared.ReadAnswer.TheVariants as answer
+use Rattle.sheet_reading.specs.declared.Read.{Read}
 
 -- The number of names, the number of leaves, the formula's first offset and the one past its end.
-pub data Numbers : Type 0 where
-  numbers : ℕ → ℕ → ℕ → ℕ → Numbers
+abbrev pub numbers : ℕ → ℕ → ℕ → ℕ → Read
+numbers names leaves first past = record { names = names; leaves = leaves; first = first; past = past }
 
-abbrev pub numbers_of : Sheet → Numbers
+abbrev pub numbers_of : Sheet → Read
 numbers_of r = numbers (length r.names) (leaves r.formula) r.first r.past
 
-unfoldable pub told : Sheets → Outcome Numbers
+unfoldable pub told : Sheets → Outcome Read
 told c = part numbers_of (reading c)
-
-abbrev pub answer_of : ReadAnswer → Outcome Numbers
-answer_of (answer.Read names leaves first past) = given (numbers names leaves first past)
-answer_of (answer.Refused number place) = refused number place
-answer_of (answer.Unfit number place) = unfit number place

@@ -1,23 +1,21 @@
 -- What is told from a field on, and what is read of a fittings sheet: what the reader's functions promise each other.
-use Rattle.std.specs.Prelude.{ℕ, ◌+◌, ◌≤◌, ◌≡◌, Bool, true, false, List, [], length}
-use Rattle.outcome.specs.Outcome.{Outcome, given, refused, ◌>>◌, part}
-use Rattle.sheet.specs.Sheet.{Setting, most_names, field_at, fields, own, fitting_names}
+use Rattle.std.specs.Prelude.{Result, Ok, Err, ℕ, ◌≤◌, ◌≡◌, Bool, true, false, List, []}
+use Rattle.outcome.specs.Outcome.{Outcome, given, refused, part}
+use Rattle.sheet.specs.Sheet.{Setting, most_names, fields, own, fitting_names}
 use Rattle.sheet.specs.Walk.{walk_names}
 use Rattle.sheet_names.specs.Keys.{Keyed, Walkable}
-use Rattle.sheet_reading.specs.Reading.{Numbers, numbers, numbers_of}
-use Rattle.sheet_reading.specs.declared.Fittings.{Fittings}
-use Rattle.sheet_reading.specs.declared.Fittings.TheVariants.{Names, Refused}
+use Rattle.sheet_reading.specs.Reading.{numbers_of}
+use Rattle.sheet_reading.specs.declared.Read.{Read}
+use Rattle.outcome.specs.Refusing.{number_of}
+use Rattle.outcome.specs.declared.Fault.{Fault}
 
--- ---- The customer's sheet: as a whole, from an offset on after the names ns, and after the formula
+-- ---- The customer's sheet: as a whole, and from an offset on after the names ns
 
-unfoldable pub told_own : List (List ℕ) → List ℕ → Outcome Numbers
+unfoldable pub told_own : List (List ℕ) → List ℕ → Outcome Read
 told_own fittings s = part numbers_of (own fittings s)
 
-unfoldable pub told_from : Setting → ℕ → List ℕ → ℕ → List (List ℕ) → Outcome Numbers
+unfoldable pub told_from : Setting → ℕ → List ℕ → ℕ → List (List ℕ) → Outcome Read
 told_from w k s at ns = part numbers_of (fields w k s at ns)
-
-unfoldable pub told_end : Setting → List ℕ → List (List ℕ) → ℕ → ℕ → ℕ → Outcome Numbers
-told_end w s ns leaves first past = field_at w s past ns true >> given (numbers (length w.fittings + length ns) leaves first past)
 
 -- ---- The fittings sheet
 
@@ -38,6 +36,6 @@ pub record FittingsGiven (f : List ℕ) (o : Outcome (List (List ℕ))) (array :
   pub known : FittingsRead f m array
 
 -- By cases of the answer on the fittings sheet f, whose outcome is o.
-abbrev pub FittingsAre : List ℕ → Outcome (List (List ℕ)) → List ℕ → Fittings → Type 0
-FittingsAre f o array (Names m) = FittingsGiven f o array m
-FittingsAre f o array (Refused number place) = o ≡ refused number place
+abbrev pub FittingsAre : List ℕ → Outcome (List (List ℕ)) → List ℕ → Result ℕ Fault → Type 0
+FittingsAre f o array (Ok m) = FittingsGiven f o array m
+FittingsAre f o array (Err e) = o ≡ refused (number_of e.reason) e.place

@@ -2,103 +2,84 @@
 #![tactic(auto)]
 
 ghost use Rattle.std.specs.Prelude.{◌≡◌, [], ◌≤◌, length};
+ghost use Rattle.outcome.specs.Refusing.{judged, answered};
 ghost use Rattle.sheet.specs.Sheet.{sheets_of, fitting_fields, fitting_names};
 ghost use Rattle.sheet.specs.Walk.{walk_names, fitted_by};
 ghost use Rattle.sheet_names.specs.Keys.{NamesRead};
-ghost use Rattle.sheet_reading.specs.Reading.{told, answer_of};
-ghost use Rattle.sheet_reading.specs.Told.{told_own, told_from, told_end, fittings_of, FittingsRead, FittingsAre};
+ghost use Rattle.sheet_reading.specs.Reading.{told};
+ghost use Rattle.sheet_reading.specs.Told.{told_own, told_from, fittings_of, FittingsRead, FittingsAre};
 
-use sheet_fields::{Field, Head};
+use outcome::{Fault, Reason, Refusal};
+use sheet::NAMES;
+use sheet_fields::Field;
 
-// What reading the sheets answers; `Unfit` is a refusal of the fittings sheet.
-#[derive(Drop)]
-pub enum ReadAnswer {
-    Read {
-        names: usize,
-        leaves: usize,
-        first: usize,
-        past: usize,
-    },
-    Refused {
-        number: u8,
-        place: usize,
-    },
-    Unfit {
-        number: u8,
-        place: usize,
-    },
-}
-
-// What a fittings sheet is: its number of names, or a refusal.
-#[derive(Drop)]
-enum Fittings {
-    Names(usize),
-    Refused(u8, usize),
+// What the sheets hold: how many names, and how many leaves the formula has, which stands from offset `first` up to `past`.
+#[derive(Clone, Copy, Debug, PartialEq, Eq)]
+pub struct Read {
+    pub names: usize,
+    pub leaves: usize,
+    pub first: usize,
+    pub past: usize,
 }
 
 // Reads the sheets of a call: the customer's, beside a fittings sheet where there is one.
-pub fn read_sheets(fitted: bool, fittings: &[u8], sheet: &[u8]) -> ReadAnswer
-    ensures { answer_of result ≡ told (sheets_of fitted fittings.now sheet.now) }
+pub fn read_sheets(fitted: bool, fittings: &[u8], sheet: &[u8]) -> Result<Read, Refusal>
+    ensures { answered result ≡ told (sheets_of fitted fittings.now sheet.now) }
 {
-    let mut keys: [u32; 256] = [0; 256];
+    let mut keys = [0; NAMES];
     match fit_first(fitted, fittings, &mut keys) {
-        Fittings::Names(count) => read_own(fittings, count, sheet, &mut keys),
-        Fittings::Refused(number, place) => ReadAnswer::Unfit { number, place },
+        Ok(count) => Ok(read_own(fittings, count, sheet, &mut keys)?),
+        Err(fault) => Err(Refusal::Unfit(fault)),
     }
 }
 
-// Reads the fittings sheet where there is one; where there is none it has no names.
-fn fit_first(fitted: bool, fittings: &[u8], keys: &mut [u32; 256]) -> Fittings
-    requires { length keys.old ≡ 256 }
+// Reads the fittings sheet where there is one, and answers how many names it has; where there is none it has no names.
+fn fit_first(fitted: bool, fittings: &[u8], keys: &mut [u32; NAMES]) -> Result<usize, Fault>
     ensures { FittingsAre fittings.now (fittings_of fitted fittings.now) keys.new result }
 {
-    if fitted {
-        return fit(fittings, keys);
-    }
-    Fittings::Names(0)
+    if fitted { fit(fittings, keys) } else { Ok(0) }
 }
 
 // Reads a fittings sheet; the array then has the keys of its names.
-fn fit(sheet: &[u8], keys: &mut [u32; 256]) -> Fittings
-    requires { length keys.old ≡ 256 }
+fn fit(sheet: &[u8], keys: &mut [u32; NAMES]) -> Result<usize, Fault>
     ensures { FittingsAre sheet.now (fitting_names sheet.now) keys.new result }
 {
-    match sheet_fields::header(1, sheet) {
-        Head::Good(_) => fit_fields(sheet, keys),
-        Head::Refused(number, place) => Fittings::Refused(number, place),
-    }
+    sheet_fields::header(1, sheet)?;
+    fit_fields(sheet, keys)
 }
 
 // Reads the fields of a fittings sheet with a good header.
-fn fit_fields(sheet: &[u8], keys: &mut [u32; 256]) -> Fittings
-    requires { (5 ≤ length sheet.now) × (length keys.old ≡ 256) }
+fn fit_fields(sheet: &[u8], keys: &mut [u32; NAMES]) -> Result<usize, Fault>
+    requires { 5 ≤ length sheet.now }
     ensures { FittingsAre sheet.now (fitting_fields 257 sheet.now 5 []) keys.new result }
 {
     let mut at: usize = 5;
     let mut names: usize = 0;
     loop {
-        match sheet_fields::one_fitting(sheet, at, names, keys) {
+        match sheet_fields::one_fitting(sheet, at, names, keys)? {
             Field::Name { past, key, .. } => {
                 keys[names] = key;
                 at = past;
                 names += 1;
             }
-            Field::Formula { .. } => return Fittings::Refused(2, at),
-            Field::End => return Fittings::Names(names),
-            Field::Refused(number, place) => return Fittings::Refused(number, place),
+            Field::Formula { .. } => return Err(Reason::TagOutOfPlace.at(at)),
+            Field::End => return Ok(names),
         }
     }
 }
 
 // Reads the customer's sheet, after the names of a fittings sheet.
-fn read_own(fittings: &[u8], fitted: usize, sheet: &[u8], keys: &mut [u32; 256]) -> ReadAnswer
+fn read_own(
+    fittings: &[u8],
+    fitted: usize,
+    sheet: &[u8],
+    keys: &mut [u32; NAMES],
+) -> Result<Read, Fault>
     requires { FittingsRead fittings.now fitted keys.old }
-    ensures { answer_of result ≡ told_own (walk_names fittings.now 5 fitted) sheet.now }
+    ensures { judged result ≡ told_own (walk_names fittings.now 5 fitted) sheet.now }
 {
-    match sheet_fields::header(2, sheet) {
-        Head::Good(edition) => read_fields(edition, fittings, fitted, sheet, keys),
-        Head::Refused(number, place) => ReadAnswer::Refused { number, place },
-    }
+    let edition = sheet_fields::header(2, sheet)?;
+    read_fields(edition, fittings, fitted, sheet, keys)
 }
 
 // Reads the fields of a customer's sheet with a good header of this edition.
@@ -107,15 +88,15 @@ fn read_fields(
     fittings: &[u8],
     fitted: usize,
     sheet: &[u8],
-    keys: &mut [u32; 256],
-) -> ReadAnswer
+    keys: &mut [u32; NAMES],
+) -> Result<Read, Fault>
     requires { NamesRead fittings.now fitted sheet.now 0 keys.old × (edition ≤ 2) }
-    ensures { answer_of result ≡ told_from (fitted_by edition fittings.now fitted) 257 sheet.now 5 [] }
+    ensures { judged result ≡ told_from (fitted_by edition fittings.now fitted) 257 sheet.now 5 [] }
 {
     let mut at: usize = 5;
     let mut names: usize = 0;
     loop {
-        match sheet_fields::one_field(edition, fittings, fitted, sheet, at, names, keys, false) {
+        match sheet_fields::one_field(edition, fittings, fitted, sheet, at, names, keys)? {
             Field::Name { past, key, .. } => {
                 keys[fitted + names] = key;
                 at = past;
@@ -125,48 +106,16 @@ fn read_fields(
                 first,
                 past,
                 leaves,
-            } => return closed(
-                edition, fittings, fitted, sheet, names, keys, leaves, first, past,
-            ),
-            Field::End => return ReadAnswer::Refused {
-                number: 1,
-                place: sheet.len(),
-            },
-            Field::Refused(number, place) => return ReadAnswer::Refused { number, place },
+            } => {
+                sheet_fields::ended(sheet, past)?;
+                return Ok(Read {
+                    names: fitted + names,
+                    leaves,
+                    first,
+                    past,
+                });
+            }
+            Field::End => return Err(Reason::EndsTooSoon.at(sheet.len())),
         }
-    }
-}
-
-// The answer after the formula.
-fn closed(
-    edition: usize,
-    fittings: &[u8],
-    fitted: usize,
-    sheet: &[u8],
-    names: usize,
-    keys: &[u32; 256],
-    leaves: usize,
-    first: usize,
-    past: usize,
-) -> ReadAnswer
-    requires { NamesRead fittings.now fitted sheet.now names keys.now × (edition ≤ 2) }
-    ensures { answer_of result ≡ told_end (fitted_by edition fittings.now fitted) sheet.now (walk_names sheet.now 5 names) leaves first past }
-{
-    match sheet_fields::one_field(edition, fittings, fitted, sheet, past, names, keys, true) {
-        Field::End => ReadAnswer::Read {
-            names: fitted + names,
-            leaves,
-            first,
-            past,
-        },
-        Field::Refused(number, place) => ReadAnswer::Refused { number, place },
-        Field::Name { .. } => ReadAnswer::Refused {
-            number: 2,
-            place: past,
-        },
-        Field::Formula { .. } => ReadAnswer::Refused {
-            number: 2,
-            place: past,
-        },
     }
 }

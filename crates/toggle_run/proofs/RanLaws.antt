@@ -3,13 +3,17 @@ use Prim.Native.Nat.{ℕ, zero, suc, ◌+◌, ◌<◌, ◌≤◌}
 use native.Mathlib.Numerals.{add-one}
 use native.Mathlib.Omega.{arith}
 use mathlib.Core.Path.{◌≡◌, refl, ap, ◌∙◌}
-use mathlib.Core.Bool.{Bool, true, false}
+use mathlib.Core.Bool.{Bool, true, false, cond}
 use mathlib.Core.List.{List, [], ◌∷◌}
-use lib.Dec.{ltb}
-use borrow.Author.Tests.{lt-ltb, le-ltb, ltb-true}
+use Rattle.std.proofs.Common.{Option, Some, None, leb, position}
+use Rattle.std.specs.List.{position_or_len}
+use Rattle.std.proofs.lemmas.List.Recursion.{is_position_or_len}
+use lib.Dec.{eqb, ltb}
+use borrow.Author.Tests.{le-leb, lt-leb, eq-eqb, ne_eqb, ltb-true, ltb-false}
 use lib.ListN.{length, get_or, take, drop, drop_of_length-le}
 use lib.Seq.{drop-cons}
 use Rattle.outcome.specs.Lent.{filled}
+use Rattle.outcome.specs.Outcome.{given, refused, need}
 use Rattle.formula.specs.Formula.{Formula}
 use Rattle.formula.specs.States.{outside}
 use Rattle.labels.specs.Labels.{labels}
@@ -23,27 +27,50 @@ use Rattle.toggles.proofs.Runs.{run_roots, run_labels}
 use Rattle.toggle_run.specs.Ran.{RunRoom, TreeRun}
 use Rattle.toggle_run.specs.Tables.{Tables, RunDone}
 
--- the first i shape numbers are below the number of names
-pub data Seeking (names : ℕ) (ss : List ℕ) (i : ℕ) : Type 0 where
-  seeking : first_wrong names ss ≡ i + first_wrong names (drop i ss) → Seeking names ss i
+-- the first shape number that is wrong, as `position` finds it
+by_position : (names : ℕ) (ss : List ℕ) → first_wrong names ss ≡ position_or_len (λ s. leb names s) ss
+by_position names ss = is_position_or_len (first_wrong names) (λ s. leb names s) refl step ss
+  where
+    step : (s : ℕ) (ss : List ℕ) → first_wrong names (s ∷ ss) ≡ cond (leb names s) 0 (1 + first_wrong names ss)
+    step s ss = by (ltb s names) refl
+      where
+        by : (b : Bool) → ltb s names ≡ b → first_wrong names (s ∷ ss) ≡ cond (leb names s) 0 (1 + first_wrong names ss)
+        by true q = rw (q, first_wrong, lt-leb names s (ltb-true s names q)) (omega arith)
+        by false q = rw (q, first_wrong, le-leb names s (ltb-false s names q))
 
-pub seeking_start : (names : ℕ) (ss : List ℕ) → Seeking names ss 0
-seeking_start names ss = seeking (omega arith)
+within_list : (names : ℕ) (ss : List ℕ) → first_wrong names ss ≤ length ss
+within_list names [] = omega arith
+within_list names (s ∷ ss) = by (ltb s names) refl (within_list names ss)
+  where
+    by : (b : Bool) → ltb s names ≡ b → first_wrong names ss ≤ length ss → first_wrong names (s ∷ ss) ≤ length (s ∷ ss)
+    by true q ih = rw (q, first_wrong) (omega arith)
+    by false q ih = rw (q, first_wrong) (omega arith)
 
-module _ {names : ℕ} {ss : List ℕ} {i : ℕ} where
-  pub seeking_here : {s : ℕ} → Seeking names ss i → names ≤ s → s ≡ get_or ss i 0 → i < length ss → i ≡ first_wrong names ss
-  seeking_here (seeking so) l e h =
-      let here : first_wrong names (drop i ss) ≡ 0 = rw (drop-cons ss i 0 h, first_wrong, le-ltb (get_or ss i 0) names (omega arith)) in
-      omega arith
+module _ (names : ℕ) (ss : List ℕ) where
+  found : (o : Option ℕ) → o ≡ position (λ s. leb names s) ss → o ≡ cond (ltb (first_wrong names ss) (length ss)) (Some (first_wrong names ss)) None
+  found o e = e ∙ rw (← (by_position names ss))
 
-  pub seeking_on : {s : ℕ} → Seeking names ss i → s < names → s ≡ get_or ss i 0 → i < length ss → Seeking names ss (i + 1)
-  seeking_on (seeking so) l e h =
-      let past : first_wrong names (drop i ss) ≡ suc (first_wrong names (drop (i + 1) ss)) =
-      rw (add-one i, drop-cons ss i 0 h, first_wrong, lt-ltb (get_or ss i 0) names (omega arith)) in
-      seeking (omega arith)
+  pub wrong_there : {place : ℕ} → Some place ≡ position (λ s. leb names s) ss
+      → refused 10 place ≡ need (eqb (first_wrong names ss) (length ss)) 10 (first_wrong names ss)
+  wrong_there {place} e = by (ltb (first_wrong names ss) (length ss)) refl (found (Some place) e)
+    where
+      by : (b : Bool) → ltb (first_wrong names ss) (length ss) ≡ b → Some place ≡ cond b (Some (first_wrong names ss)) None
+          → refused 10 place ≡ need (eqb (first_wrong names ss) (length ss)) 10 (first_wrong names ss)
+      by true q z =
+          let l : first_wrong names ss < length ss = ltb-true _ _ q in
+          let same : place ≡ first_wrong names ss = cc in
+          rw (ne_eqb (first_wrong names ss) (length ss) (λ y. omega arith)) (ap (refused 10) same)
+      by false q z = absurd cc
 
-  pub seeking_end : Seeking names ss i → length ss ≤ i → i ≡ first_wrong names ss
-  seeking_end (seeking so) h = let none : first_wrong names (drop i ss) ≡ 0 = rw (drop_of_length-le ss h) in omega arith
+  pub none_there : None ≡ position (λ s. leb names s) ss → first_wrong names ss ≡ length ss
+  none_there e = by (ltb (first_wrong names ss) (length ss)) refl (found None e)
+    where
+      by : (b : Bool) → ltb (first_wrong names ss) (length ss) ≡ b → None ≡ cond b (Some (first_wrong names ss)) None → first_wrong names ss ≡ length ss
+      by true q z = absurd cc
+      by false q z = omega (arith, ltb-false _ _ q, within_list names ss)
+
+  pub all_there : None ≡ position (λ s. leb names s) ss → given tt ≡ need (eqb (first_wrong names ss) (length ss)) 10 (first_wrong names ss)
+  all_there e = rw (eq-eqb (first_wrong names ss) (length ss) (none_there e))
 
 -- where none is wrong, all are below
 pub none-wrong : (names : ℕ) (ss : List ℕ) → first_wrong names ss ≡ length ss → (i : ℕ) → i < length ss → get_or ss i 0 < names
@@ -63,24 +90,13 @@ module _ {ks fs xs : List ℕ} {leaves nodes : ℕ} where
   tree_room : Tree ks fs xs leaves nodes → nodes ≤ 3072
   tree_room t = (tree_shaped t).room
 
-  pub tree_fits : Tree ks fs xs leaves nodes → nodes < 65536
-  tree_fits t = omega (arith, tree_room t)
-
-  -- the same numbers as entries of a list
-  module _ {m n : ℕ} where
-    pub narrow_shaped : Tree ks fs xs leaves nodes → m ≡ leaves → n ≡ nodes → Shaped ks fs xs m n
-    narrow_shaped t d e = rw (d, e) (tree_shaped t)
-
-    narrow_ready : {links : List ℕ} → Tree ks fs xs leaves nodes → m ≡ leaves → n ≡ nodes → Parents ks fs xs n links → Chains ks fs xs m n links
-        → Ready ks fs xs leaves nodes links
-    narrow_ready t d e p q = record { linked = record { shaped = tree_shaped t; ups = rw e at p }; chains = rw (d, e) at q }
-
   pub run_list : {toggles roots counts labels : List ℕ} → RunRoom ks fs xs leaves nodes toggles roots counts labels → nodes ≤ length labels
   run_list r = r.for_labels
 
-  pub tables : {m n : ℕ} {rules ls links : List ℕ} → Rules rules → Tree ks fs xs leaves nodes → m ≡ leaves → n ≡ nodes → length ls ≡ 3072
-      → take nodes ls ≡ labels outside (recs ks fs xs 0 nodes) → Parents ks fs xs n links → Chains ks fs xs m n links → Tables rules ks fs xs leaves nodes ls links
-  tables r t d e long is p q = record { ruled = r; ready = narrow_ready t d e p q; long = long; room = tree_room t; labels_are = is }
+  pub tables : {rules ls links : List ℕ} → Rules rules → Tree ks fs xs leaves nodes → length ls ≡ 3072
+      → take nodes ls ≡ labels outside (recs ks fs xs 0 nodes) → Parents ks fs xs nodes links → Chains ks fs xs leaves nodes links → Tables rules ks fs xs leaves nodes ls links
+  tables r t long is p q =
+      record { ruled = r; ready = record { linked = record { shaped = tree_shaped t; ups = p }; chains = q }; long = long; room = tree_room t; labels_are = is }
 
   pub ran : (ss roots counts list l₀ l₁ : List ℕ) {roots' counts' list' : List ℕ} → take nodes l₀ ≡ labels outside (recs ks fs xs 0 nodes)
       → RunDone (recs ks fs xs 0 nodes) (take nodes l₀) ss roots counts (take nodes l₁) roots' counts' → list' ≡ filled (take nodes l₁) list

@@ -1,156 +1,116 @@
 // A run on lent lists: the toggles one after the other on a dwarf tree, with a root and a count for each, and the last labels.
 #![tactic(auto)]
 
-ghost use Rattle.std.specs.Prelude.{◌≡◌, ◌<◌, ◌≤◌, length, take};
+ghost use Rattle.std.specs.Prelude.{◌≡◌, ◌<◌, ◌≤◌, length, take, eqb, leb, position, IsOk};
 ghost use Rattle.formula.specs.Formula.{Formula};
 ghost use Rattle.contraction.specs.Height.{last};
 ghost use Rattle.contraction.specs.Entries.{recs};
 ghost use Rattle.outcome.specs.Lent.{filled};
+ghost use Rattle.outcome.specs.Outcome.{need};
+ghost use Rattle.outcome.specs.Refusing.{judged};
 ghost use Rattle.labels.specs.Arrays.{Holds, Tree};
 ghost use Rattle.labels.specs.Linked.{Rules, Ready};
-ghost use Rattle.toggles.specs.Named.{first_wrong};
+ghost use Rattle.toggles.specs.Named.{first_wrong as wrong_at};
 ghost use Rattle.toggle_run.specs.Tables.{Tables, RunDone};
 ghost use Rattle.toggle_run.specs.Ran.{ToggleRoom, RunRoom, TreeRun};
 
-use labels::Size;
+use contraction::{NODES, Records};
+use labels::{DwarfTree, LINKS, RULES, Size};
+use outcome::{Fault, Reason};
 
 // The label of the root, which is the last node.
-pub fn root(labels: &[u8; 3072], nodes: usize) -> u8
-    requires { (0 < nodes) × (nodes ≤ 3072) }
+pub fn root(labels: &[u8; NODES], nodes: usize) -> u8
+    requires { (0 < nodes) × (nodes ≤ NODES) }
     ensures { result ≡ last (take nodes labels.now) }
 {
-    let s: &[u8] = labels;
-    s[nodes - 1]
+    labels[nodes - 1]
 }
 
 // The toggles one after the other, with a root and a count for each.
 fn toggle_each(
-    rules: &[u8; 256],
-    kinds: &[u16; 3072],
-    firsts: &[u16; 3072],
-    seconds: &[u16; 3072],
-    size: Size,
-    links: &[u16; 4352],
-    labels: &mut [u8; 3072],
+    tree: DwarfTree<'_>,
+    labels: &mut [u8; NODES],
     toggles: &[u16],
     roots: &mut [u8],
     counts: &mut [u32],
 )
-    requires rules { Rules rules.now × Ready kinds.now firsts.now seconds.now size.leaves size.nodes links.now × (length labels.old ≡ 3072) }
+    requires rules { let r = tree.records.now in Rules tree.rules.now × Ready r.kinds r.firsts r.seconds tree.size.leaves tree.size.nodes tree.links.now }
     requires toggle_room { ToggleRoom toggles.now roots.old counts.old }
-    ensures { RunDone (recs kinds.now firsts.now seconds.now 0 size.nodes) (take size.nodes labels.old) toggles.now
-        roots.old counts.old (take size.nodes labels.new) roots.new counts.new }
+    ensures { let r = tree.entry.records.now in let nodes = tree.entry.size.nodes in
+        RunDone (recs r.kinds r.firsts r.seconds 0 nodes) (take nodes labels.old) toggles.now
+        roots.old counts.old (take nodes labels.new) roots.new counts.new }
 {
-    let mut i = 0;
-    while i < toggles.len() {
-        let s = labels::wide(toggles[i]);
-        counts[i] = toggles::toggle(rules, kinds, firsts, seconds, size, links, labels, s);
-        roots[i] = root(labels, size.nodes);
-        i += 1;
+    for (i, &s) in toggles.iter().enumerate() {
+        counts[i] = toggles::toggle(tree, labels, usize::from(s));
+        roots[i] = root(labels, tree.size.nodes);
     }
 }
 
 // The first labels, given in a lent list.
-pub fn copy_labels(labels: &[u8; 3072], nodes: usize, list: &mut [u8])
-    requires { (nodes ≤ 3072) × (nodes ≤ length list.old) }
+pub fn copy_labels(labels: &[u8; NODES], nodes: usize, list: &mut [u8])
+    requires { (nodes ≤ NODES) × (nodes ≤ length list.old) }
     ensures { list.new ≡ filled (take nodes labels.now) list.old }
 {
-    let from: &[u8] = labels;
-    let mut i = 0;
-    while i < nodes {
-        list[i] = from[i];
-        i += 1;
-    }
+    list[..nodes].copy_from_slice(&labels[..nodes]);
 }
 
-// The index of the first shape number not below the number of names; the list's length where there is none.
-pub fn first_wrong(toggles: &[u16], names: usize) -> usize
-    ensures { result ≡ first_wrong names toggles.now }
+// The index of the first shape number not below the number of names.
+fn first_wrong(toggles: &[u16], names: usize) -> Option<usize>
+    ensures { result ≡ position (λ s. leb names s) toggles.now }
 {
-    let mut i = 0;
-    while i < toggles.len() {
-        if names <= labels::wide(toggles[i]) {
-            return i;
-        }
-        i += 1;
-    }
-    i
+    toggles.iter().position(|&s| names <= usize::from(s))
 }
 
-// A number of nodes as an entry of a list.
-fn narrow(x: usize) -> u16
-    requires { x < 65536 }
-    ensures { result ≡ x }
+// 10 at the first shape number not below the number of names.
+pub fn all_named(toggles: &[u16], names: usize) -> Result<(), Fault>
+    ensures asked { judged result ≡ need (eqb (wrong_at names toggles.now) (length toggles.now)) 10 (wrong_at names toggles.now) }
+    ensures so { IsOk result → wrong_at names toggles.now ≡ length toggles.now }
 {
-    x as u16
+    match first_wrong(toggles, names) {
+        Some(place) => Err(Reason::NoSuchShape.at(place)),
+        None => Ok(()),
+    }
 }
 
 // The labels with every shape outside, and the links of the nodes.
 pub fn fill_tables(
-    rules: &[u8; 256],
-    kinds: &[u16; 3072],
-    firsts: &[u16; 3072],
-    seconds: &[u16; 3072],
+    rules: &[u8; RULES],
+    records: &Records,
     size: Size,
-    labels: &mut [u8; 3072],
-    links: &mut [u16; 4352],
+    labels: &mut [u8; NODES],
+    links: &mut [u16; LINKS],
 )
-    requires { Rules rules.now × Tree kinds.now firsts.now seconds.now size.leaves size.nodes }
-    ensures { Tables rules.now kinds.now firsts.now seconds.now size.leaves size.nodes labels.new links.new }
+    requires { Rules rules.now × Tree records.now.kinds records.now.firsts records.now.seconds size.leaves size.nodes }
+    ensures { let r = records.now in Tables rules.now r.kinds r.firsts r.seconds size.leaves size.nodes labels.new links.new }
 {
-    let few = narrow(size.leaves);
-    let all = narrow(size.nodes);
-    labels::fill_labels(
-        rules,
-        kinds,
-        firsts,
-        seconds,
-        size.leaves,
-        size.nodes,
-        labels,
-    );
-    labels::fill_links(kinds, firsts, seconds, few, all, links);
+    labels::fill_labels(rules, records, size, labels);
+    labels::fill_links(records, size, links);
 }
 
 // A toggle run on a dwarf tree, with every shape outside at first.
 pub fn run_tree(
-    kinds: &[u16; 3072],
-    firsts: &[u16; 3072],
-    seconds: &[u16; 3072],
+    records: &Records,
     size: Size,
     toggles: &[u16],
     roots: &mut [u8],
     counts: &mut [u32],
     labels: &mut [u8],
 )
-    requires { RunRoom kinds.now firsts.now seconds.now size.leaves size.nodes toggles.now roots.old counts.old labels.old }
-    ensures { (f : Formula) → Holds kinds.now firsts.now seconds.now size.leaves size.nodes f
+    requires { let r = records.now in RunRoom r.kinds r.firsts r.seconds size.leaves size.nodes toggles.now roots.old counts.old labels.old }
+    ensures { let r = records.now in (f : Formula) → Holds r.kinds r.firsts r.seconds size.leaves size.nodes f
         → TreeRun f toggles.now roots.old counts.old labels.old roots.new counts.new labels.new }
 {
-    let mut rules = [0u8; 256];
-    let mut current = [0u8; 3072];
-    let mut links = [0u16; 4352];
+    let mut rules = [0u8; RULES];
+    let mut current = [0u8; NODES];
+    let mut links = [0u16; LINKS];
     labels::fill_rules(&mut rules);
-    fill_tables(
-        &rules,
-        kinds,
-        firsts,
-        seconds,
+    fill_tables(&rules, records, size, &mut current, &mut links);
+    let tree = DwarfTree {
+        rules: &rules,
+        records,
         size,
-        &mut current,
-        &mut links,
-    );
-    toggle_each(
-        &rules,
-        kinds,
-        firsts,
-        seconds,
-        size,
-        &links,
-        &mut current,
-        toggles,
-        roots,
-        counts,
-    );
+        links: &links,
+    };
+    toggle_each(tree, &mut current, toggles, roots, counts);
     copy_labels(&current, size.nodes, labels);
 }

@@ -1,7 +1,7 @@
 // One toggle: all leaves of a shape flipped, then the nodes above them reworked in rising number.
 #![tactic(auto)]
 
-ghost use Rattle.std.specs.Prelude.{◌≡◌, ◌<◌, ◌≤◌, length, take};
+ghost use Rattle.std.specs.Prelude.{◌≡◌, ◌<◌, ◌≤◌, take};
 ghost use Rattle.contraction.specs.Entries.{recs};
 ghost use Rattle.rising_set.specs.Members.{Rising};
 ghost use Rattle.labels.specs.Linked.{Ready};
@@ -9,102 +9,75 @@ ghost use Rattle.toggle_passes.specs.Reworking.{steps};
 ghost use Rattle.toggles.specs.Toggles.{flip as flip_of, toggle as toggle_of};
 ghost use Rattle.toggles.specs.Flipping.{Bare, AddedNode, Toggles, Flipped};
 
-use labels::Size;
-use rising_set::RisingSet;
+use contraction::NODES;
+use labels::{DwarfTree, HEADS, NEXTS};
+use rising_set::{RisingSet, WORDS};
 
 // The other bit.
 fn flip(v: u8) -> u8
     ensures { result ≡ flip_of v }
 {
-    if v == 0 { 1 } else { 0 }
+    u8::from(v == 0)
 }
 
 // Puts node p into the set, where there is such a node.
-fn put_node(words: &mut [u64; 48], m: RisingSet, p: usize, nodes: usize) -> RisingSet
-    requires { Rising words.old m × (m.at ≡ 0) × (nodes ≤ 3072) }
+fn put_node(words: &mut [u64; WORDS], m: RisingSet, p: usize, nodes: usize) -> RisingSet
+    requires { Rising words.old m × (m.at ≡ 0) × (nodes ≤ NODES) }
     ensures { AddedNode nodes p words.old m words.new result }
 {
-    if p < nodes {
-        return rising_set::put_in(words, m, p);
-    }
-    m
+    if p < nodes { m.put_in(words, p) } else { m }
 }
 
-// The leaves of a shape flipped, from its first leaf on, and the nodes above them put into a set.
+// The leaves of a shape flipped, from its first leaf on, and the nodes above them put into an empty set.
 fn flip_leaves(
-    kinds: &[u16; 3072],
-    firsts: &[u16; 3072],
-    seconds: &[u16; 3072],
-    size: Size,
-    links: &[u16; 4352],
-    labels: &mut [u8; 3072],
-    words: &mut [u64; 48],
-    none: RisingSet,
+    tree: DwarfTree<'_>,
+    labels: &mut [u8; NODES],
+    words: &mut [u64; WORDS],
     s: usize,
 ) -> RisingSet
-    requires { Ready kinds.now firsts.now seconds.now size.leaves size.nodes links.now × (length labels.old ≡ 3072) × (s < 256) × Bare words.old none }
-    ensures { Flipped kinds.now firsts.now seconds.now size.leaves size.nodes s labels.old labels.new words.new result }
+    requires { let r = tree.records.now in
+        Ready r.kinds r.firsts r.seconds tree.size.leaves tree.size.nodes tree.links.now × (s < 256) × Bare words.old RisingSet.EMPTY }
+    ensures { let r = tree.entry.records.now in
+        Flipped r.kinds r.firsts r.seconds tree.entry.size.leaves tree.entry.size.nodes s labels.old labels.new words.new result }
 {
-    let mut a = labels::wide(links[3072 + s]);
-    let mut m = none;
-    while a < size.leaves {
+    let mut a = usize::from(tree.links[HEADS + s]);
+    let mut m = RisingSet::EMPTY;
+    // Kept: along the links, which no iterator of the library follows.
+    while a < tree.size.leaves {
         labels[a] = flip(labels[a]);
-        m = put_node(words, m, labels::wide(links[a]), size.nodes);
-        a = labels::wide(links[3328 + a]);
+        m = put_node(words, m, usize::from(tree.links[a]), tree.size.nodes);
+        a = usize::from(tree.links[NEXTS + a]);
     }
     m
 }
 
 // A toggle of shape s, which stands at several leaves. The number of nodes reworked.
-fn toggle_many(
-    rules: &[u8; 256],
-    kinds: &[u16; 3072],
-    firsts: &[u16; 3072],
-    seconds: &[u16; 3072],
-    size: Size,
-    links: &[u16; 4352],
-    labels: &mut [u8; 3072],
-    s: usize,
-) -> u32
-    requires { Toggles rules.now kinds.now firsts.now seconds.now size.leaves size.nodes links.now labels.old s }
-    ensures labels_len { length labels.new ≡ 3072 }
-    ensures result_after { steps (take size.nodes labels.new) result
-        ≡ toggle_of (recs kinds.now firsts.now seconds.now 0 size.nodes) s (take size.nodes labels.old) }
+fn toggle_many(tree: DwarfTree<'_>, labels: &mut [u8; NODES], s: usize) -> u32
+    requires { let r = tree.records.now in
+        Toggles tree.rules.now r.kinds r.firsts r.seconds tree.size.leaves tree.size.nodes tree.links.now labels.old s }
+    ensures { let r = tree.entry.records.now in let nodes = tree.entry.size.nodes in
+        steps (take nodes labels.new) result ≡ toggle_of (recs r.kinds r.firsts r.seconds 0 nodes) s (take nodes labels.old) }
 {
-    let mut words = [0u64; 48];
-    let none = rising_set::none();
-    let m = flip_leaves(
-        kinds, firsts, seconds, size, links, labels, &mut words, none, s,
-    );
-    toggle_passes::settle(
-        rules, kinds, firsts, seconds, size, links, labels, &mut words, m,
-    )
+    let mut words = [0u64; WORDS];
+    let members = flip_leaves(tree, labels, &mut words, s);
+    toggle_passes::settle(tree, labels, &mut words, members)
 }
 
 // A toggle of shape s. The number of nodes reworked. Above a single leaf one node at a time is due, and no set is needed.
-pub fn toggle(
-    rules: &[u8; 256],
-    kinds: &[u16; 3072],
-    firsts: &[u16; 3072],
-    seconds: &[u16; 3072],
-    size: Size,
-    links: &[u16; 4352],
-    labels: &mut [u8; 3072],
-    s: usize,
-) -> u32
-    requires { Toggles rules.now kinds.now firsts.now seconds.now size.leaves size.nodes links.now labels.old s }
-    ensures labels_len { length labels.new ≡ 3072 }
-    ensures result_after { steps (take size.nodes labels.new) result
-        ≡ toggle_of (recs kinds.now firsts.now seconds.now 0 size.nodes) s (take size.nodes labels.old) }
+pub fn toggle(tree: DwarfTree<'_>, labels: &mut [u8; NODES], s: usize) -> u32
+    requires { let r = tree.records.now in
+        Toggles tree.rules.now r.kinds r.firsts r.seconds tree.size.leaves tree.size.nodes tree.links.now labels.old s }
+    ensures { let r = tree.entry.records.now in let nodes = tree.entry.size.nodes in
+        steps (take nodes labels.new) result ≡ toggle_of (recs r.kinds r.firsts r.seconds 0 nodes) s (take nodes labels.old) }
 {
-    let a = labels::wide(links[3072 + s]);
-    if size.leaves <= a {
+    let a = usize::from(tree.links[HEADS + s]);
+    if tree.size.leaves <= a {
         return 0;
     }
-    let b = labels::wide(links[3328 + a]);
-    if b < size.leaves {
-        return toggle_many(rules, kinds, firsts, seconds, size, links, labels, s);
+    let b = usize::from(tree.links[NEXTS + a]);
+    if b < tree.size.leaves {
+        return toggle_many(tree, labels, s);
     }
     labels[a] = flip(labels[a]);
-    toggle_passes::walk(rules, kinds, firsts, seconds, size, links, labels, a)
+    toggle_passes::walk(tree, labels, a)
 }

@@ -4,7 +4,7 @@ use native.Mathlib.Nat.{add-zero}
 use native.Mathlib.Omega.{arith}
 use mathlib.Core.Path.{◌≡◌, refl, sym, ap, ◌∙◌}
 use mathlib.Core.List.{List, [], ◌∷◌, ◌++◌, map, append-nil, append_assoc}
-use mathlib.Core.Option.{none}
+use Rattle.std.specs.Prelude.{None}
 use borrow.Author.Tests.{eq-eqb, ne_eqb}
 use lib.ListN.{length, length-append}
 use Rattle.formula.specs.Formula.{Op, index}
@@ -37,7 +37,7 @@ first (two o l r) ts = ap chain_length (ungroup (flat l) (flat r) (double (index
 
 -- nothing is held
 abbrev at : List Token → List Entry → ℕ → Pairing
-at o rs n = record { held = none; out = o; made = rs; next = n }
+at o rs n = record { held = None; out = o; made = rs; next = n }
 
 -- before an even number of its own nodes, one more of a chain waits, and two more are a pair
 waits : (u : ℕ) (o : List Token) (rs : List Entry) (n : ℕ) (ts : List Token) → chain_length ts % 2 ≡ 0
@@ -94,7 +94,7 @@ pair_tree (two p l r) o rs n ts e =
     (pair_tree r (o ++ flat (compressed l n)) (rs ++ map entry_of (compresses l)) (n + length (compresses l)) (double (index p) ∷ ts) (even r (double (index p) ∷ ts) refl))
 
 -- the whole pass
-module _ (w : Work) (rs : List Entry) (n : ℕ) {ts : List Token} {σ : Pairing} (e : ts ≡ flat w) (ran : σ ≡ pair_tokens (record { held = none; out = []; made = rs; next = n }) ts) where
+module _ (w : Work) (rs : List Entry) (n : ℕ) {ts : List Token} {σ : Pairing} (e : ts ≡ flat w) (ran : σ ≡ pair_tokens (record { held = None; out = []; made = rs; next = n }) ts) where
   ran_done : σ ≡ at (flat (compressed w n)) (rs ++ map entry_of (compresses w)) (n + length (compresses w))
   ran_done = (rw e at ran) ∙ ap (pair_tokens (at [] rs n)) (sym (append-nil (flat w))) ∙ pair_tree w [] rs n [] (even w [] refl)
 

@@ -6,24 +6,25 @@ use mathlib.Core.Path.{◌≡◌, refl, sym, ap, ◌∙◌}
 use mathlib.Core.List.{List, [], ◌∷◌, ◌++◌, map, foldl, foldl-append, append_assoc}
 use borrow.Author.Tests.{lt-ltb, le-ltb}
 use lib.ListN.{length, get_or, take}
-use lib.Seq.{take-suc}
+use lib.Seq.{take-suc, take-length}
 use Rattle.formula.specs.Formula.{Op, union, intersection, difference, exclusive, index, code, Formula, leaf, node, leaves, postfix, Over}
 use Rattle.contraction.specs.Rounds.{planted, leaf_recs}
 use Rattle.contraction.specs.Entries.{Entry, entry, entries, entry_of}
+use Rattle.contraction.specs.declared.Records.{Records}
 use Rattle.contraction.proofs.EntryLaws.{entries-append}
-use Rattle.tree_tokens.specs.Tokens.{Token, double, flat, decode, toks, Sized}
+use Rattle.tree_tokens.specs.Tokens.{Token, double, flat, decode, toks, entries_in}
 use Rattle.tree_tokens.proofs.TokensLaws.{decode-bare, decode-double}
 use Rattle.tree_dwarf.specs.Building.{Planting, copied, plant_code, planting_in, planting_start, PlantedTo}
 
 -- ---- one code
-pub plant_leaf : (ts ts' ks fs ss ks' fs' ss' : List ℕ) (i c next : ℕ) → toks ts' (i + 1) ≡ toks ts i ++ (decode next ∷ [])
-    → entries ks' fs' ss' 0 (next + 1) ≡ entries ks fs ss 0 next ++ (entry 0 c 65535 ∷ []) → c < 0xFFF0 → next < 3072
-    → planting_in ts' (i + 1) ks' fs' ss' (next + 1) ≡ plant_code (planting_in ts i ks fs ss next) c
-plant_leaf ts ts' ks fs ss ks' fs' ss' i c next e q h b = rw (e, q, lt-ltb c 0xFFF0 h, decode-bare next (omega arith))
+pub plant_leaf : (ts ts' : List ℕ) (rs rs' : Records) (i c next : ℕ) → toks ts' (i + 1) ≡ toks ts i ++ (decode next ∷ [])
+    → entries_in rs' (next + 1) ≡ entries_in rs next ++ (entry 0 c 65535 ∷ []) → c < 0xFFF0 → next < 3072
+    → planting_in ts' (i + 1) rs' (next + 1) ≡ plant_code (planting_in ts i rs next) c
+plant_leaf ts ts' rs rs' i c next e q h b = rw (e, q, lt-ltb c 0xFFF0 h, decode-bare next (omega arith))
 
-pub plant_operation : (ts ts' ks fs ss : List ℕ) (i c next : ℕ) → toks ts' (i + 1) ≡ toks ts i ++ (decode c ∷ []) → 0xFFF0 ≤ c
-    → planting_in ts' (i + 1) ks fs ss next ≡ plant_code (planting_in ts i ks fs ss next) c
-plant_operation ts ts' ks fs ss i c next e h = rw (e, decode-double c h, le-ltb c 0xFFF0 h)
+pub plant_operation : (ts ts' : List ℕ) (rs : Records) (i c next : ℕ) → toks ts' (i + 1) ≡ toks ts i ++ (decode c ∷ []) → 0xFFF0 ≤ c
+    → planting_in ts' (i + 1) rs next ≡ plant_code (planting_in ts i rs next) c
+plant_operation ts ts' rs i c next e h = rw (e, decode-double c h, le-ltb c 0xFFF0 h)
 
 -- ---- a formula
 same : {a b : List Token} {c d : List Entry} {n m : ℕ} → a ≡ b → c ≡ d → n ≡ m
@@ -61,28 +62,26 @@ module _ (f : Formula) (over : Over 256 f) {cs : List ℕ} {σ : Planting} (e : 
   planted_records = ap (λ (s : Planting). s.made) ran_done
 
 -- ---- the loop: the first i codes are planted
-pub record PlantingAt (codes : List ℕ) (n : ℕ) (a ks fs ss : List ℕ) (next i : ℕ) : Type 0 where
-  pub passed : i ≤ n
+pub record PlantingAt (codes a : List ℕ) (rs : Records) (next i : ℕ) : Type 0 where
   pub most : next ≤ i
-  pub sized : Sized a ks fs ss
-  pub is : planting_in a i ks fs ss next ≡ foldl plant_code planting_start (take i codes)
+  pub is : planting_in a i rs next ≡ foldl plant_code planting_start (take i codes)
 
 plant_next : (σ₀ : Planting) (l : List ℕ) (i : ℕ) {σ r : Planting} → r ≡ plant_code σ (get_or l i 0) → σ ≡ foldl plant_code σ₀ (take i l) → i < length l → r ≡ foldl plant_code σ₀ (take (i + 1) l)
 plant_next σ₀ l i q e h = q ∙ ap (λ (s : Planting). plant_code s (get_or l i 0)) e ∙ rw (add-one i, take-suc l i 0 h) (sym (foldl-append plant_code σ₀ (take i l) (get_or l i 0 ∷ [])))
 
-module _ {codes : List ℕ} {n : ℕ} {a ks fs ss : List ℕ} where
-  pub planting_start_lem : Sized a ks fs ss → PlantingAt codes n a ks fs ss 0 0
+module _ {codes a : List ℕ} {rs : Records} where
+  pub planting_start_lem : PlantingAt codes a rs 0 0
   unfolding entries
-  planting_start_lem sized = record { passed = omega arith; most = omega arith; sized = sized; is = refl }
+  planting_start_lem = record { most = omega arith; is = refl }
 
-  module _ {next i : ℕ} (now : PlantingAt codes n a ks fs ss next i) where
-    pub planting_more : {a' ks' fs' ss' : List ℕ} {r : ℕ} → i < n → n ≤ 2048 → length codes ≡ 2048 → Sized a' ks' fs' ss'
-        → planting_in a' (i + 1) ks' fs' ss' r ≡ plant_code (planting_in a i ks fs ss next) (get_or codes i 0) → r ≤ next + 1 → PlantingAt codes n a' ks' fs' ss' r (i + 1)
-    planting_more h few full sized step one =
-        record { passed = omega arith; most = omega (arith, now.most); sized = sized; is = plant_next planting_start codes i step now.is (omega arith) }
+  module _ {next i : ℕ} (now : PlantingAt codes a rs next i) where
+    pub planting_more : {a' : List ℕ} {rs' : Records} {r : ℕ} → i < length codes
+        → planting_in a' (i + 1) rs' r ≡ plant_code (planting_in a i rs next) (get_or codes i 0) → r ≤ next + 1 → PlantingAt codes a' rs' r (i + 1)
+    planting_more h step one = record { most = omega (arith, now.most); is = plant_next planting_start codes i step now.is h }
 
-    pub planting_end : n ≤ i → PlantedTo codes n a ks fs ss next
-    planting_end h =
-        let end : i ≡ n = omega (arith, now.passed) in
-        let ran = rw end at now.is in
+    pub planting_end : length codes ≤ i → i ≤ length codes → PlantedTo codes a rs next
+    planting_end h few =
+        let end : i ≡ length codes = omega arith in
+        let all : take (length codes) codes ≡ codes = take-length codes in
+        let ran = rw (end, all) at now.is in
         record { leaves = λ f p. record { tree = planted_tree f p.over p.codes_are ran; records = planted_records f p.over p.codes_are ran } }

@@ -5,19 +5,21 @@ use mathlib.Core.Path.{◌≡◌, refl, sym, ap, ◌∙◌}
 use mathlib.Core.Bool.{false}
 use mathlib.Core.List.{List, [], ◌++◌, map, append-nil}
 use mathlib.Core.Option.{Option, none, some}
-use lib.ListN.{length, length-append, length-map}
+use lib.ListN.{length, take, length-append, length-map}
 use Rattle.formula.specs.Formula.{Op}
 use Rattle.contraction.specs.Records.{Rec}
 use Rattle.contraction.specs.Rounds.{Work, tip, one, two, nodes, tip_of, one_remains, rake_one, rake_two, rakes, left_one, left_two, raked}
 use Rattle.contraction.specs.Rounds.{compresses, compressed, round_makes, round_leaves, made, rounds}
 use Rattle.contraction.proofs.Counts.{compressed-nodes, nodes_pos}
 use Rattle.contraction.proofs.Rounds.{fewer}
-use Rattle.contraction.specs.Entries.{Entry, entries, entry_of}
-use Rattle.tree_tokens.specs.Tokens.{flat, toks, Sized, Leaves}
+use Rattle.contraction.specs.Entries.{Entry, entry_of}
+use Rattle.contraction.specs.declared.Records.{Records}
+use Rattle.contraction.specs.declared.TheConstants.{CODES, NODES}
+use Rattle.tree_tokens.specs.Tokens.{flat, toks, entries_in, Leaves}
 use Rattle.tree_tokens.specs.declared.Extent.{Extent}
 use Rattle.contraction.proofs.EntryLaws.{entries-append, length-entries}
 use Rattle.tree_tokens.proofs.TokensLaws.{toks-nodes}
-use Rattle.tree_rake.specs.Raking.{Lengths, RakedTo}
+use Rattle.tree_rake.specs.Raking.{RakedTo}
 use Rattle.tree_compress.specs.Pairing.{CompressedTo}
 use Rattle.tree_dwarf.specs.Building.{Rooted, RoundTo, Contracted, ContractedTo}
 
@@ -76,9 +78,9 @@ end_rounds (suc k) (one d c) n h = absurd (omega (arith, nodes_pos c))
 end_rounds (suc k) (two o l r) n h = absurd (omega (arith, nodes_pos l, nodes_pos r))
 
 -- ---- what a step leaves
-module _ {w : Work} {found : List Entry} {ms : List Rec} {out ks fs ss : List ℕ} {r : Extent} (left : Leaves w found ms out ks fs ss r) where
+module _ {w : Work} {found : List Entry} {ms : List Rec} {out : List ℕ} {rs : Records} {r : Extent} (left : Leaves w found ms out rs r) where
   pub leaves-next : r.next ≡ length found + length ms
-  leaves-next = sym (length-entries ks fs ss r.next 0) ∙ ap length left.records ∙ length-append found (map entry_of ms) ∙ ap (λ k. length found + k) (length-map ms entry_of)
+  leaves-next = sym (length-entries rs.kinds rs.firsts rs.seconds r.next 0) ∙ ap length left.records ∙ length-append found (map entry_of ms) ∙ ap (λ k. length found + k) (length-map ms entry_of)
 
   leaves-nodes : r.at ≤ length out → nodes w ≡ r.at
   leaves-nodes h = toks-nodes w out r.at left.tree h
@@ -87,14 +89,14 @@ module _ {w : Work} {found : List Entry} {ms : List Rec} {out ks fs ss : List �
 round_fewer : (w : Work) (n : ℕ) → 1 < nodes w → nodes (round_leaves w n) < nodes w
 round_fewer w n h = omega (arith, fewer w n (nodes w - 2) (omega arith))
 
-module _ (w : Work) (n : ℕ) {found : List Entry} (known : length found ≡ n) {b ks fs ss : List ℕ} {m : Extent}
-    (after-rake : Leaves (raked w n) found (rakes w) b ks fs ss m) where
+module _ (w : Work) (n : ℕ) {found : List Entry} (known : length found ≡ n) {b : List ℕ} {rs : Records} {m : Extent}
+    (after-rake : Leaves (raked w n) found (rakes w) b rs m) where
   rake_room : m.at ≤ length b → m.next + m.at ≤ n + nodes w
   rake_room h = omega (arith, leaves-next after-rake, leaves-nodes after-rake h, raked-room w n)
 
-  module _ {a' ks' fs' ss' : List ℕ} {r : Extent}
-      (after : Leaves (compressed (raked w n) m.next) (entries ks fs ss 0 m.next) (compresses (raked w n)) a' ks' fs' ss' r) where
-    after_round : Leaves (round_leaves w n) found (round_makes w n) a' ks' fs' ss' r
+  module _ {a' : List ℕ} {rs' : Records} {r : Extent}
+      (after : Leaves (compressed (raked w n) m.next) (entries_in rs m.next) (compresses (raked w n)) a' rs' r) where
+    after_round : Leaves (round_leaves w n) found (round_makes w n) a' rs' r
     after_round = record {
       tree = after.tree ∙ ap (λ z. flat (compressed (raked w n) z)) (omega (arith, leaves-next after-rake));
       records = after.records ∙ ap (λ z. z ++ map entry_of (compresses (raked w n))) after-rake.records ∙ entries-append found (rakes w) _;
@@ -107,35 +109,35 @@ module _ (w : Work) (n : ℕ) {found : List Entry} (known : length found ≡ n) 
     after_fewer h many = omega (arith, leaves-nodes after_round h, round_fewer w n many)
 
 -- ---- what rake and compress leave is a round's
-module _ {a : List ℕ} {n next : ℕ} {ks₀ fs₀ ss₀ b ks fs ss : List ℕ} {m : Extent} (by-rake : RakedTo a n next ks₀ fs₀ ss₀ b ks fs ss m) (given : Rooted a n next) (many : 1 < n)
-    (full : length a ≡ 2048) (long : length b ≡ 2048) (least : m.at ≤ n) where
-  nodes_are : (w : Work) → toks a n ≡ flat w → nodes w ≡ n
-  nodes_are w e = toks-nodes w a n e (omega (arith, given.few))
+module _ {a : List ℕ} {m : Extent} {found : Records} {b : List ℕ} {rs : Records} {q : Extent} (by-rake : RakedTo (take m.at a) m.next found b rs q) (given : Rooted a m) (many : 1 < m.at)
+    (full : length a ≡ 2048) (long : length b ≡ 2048) (least : q.at ≤ m.at) where
+  nodes_are : (w : Work) → toks a m.at ≡ flat w → nodes w ≡ m.at
+  nodes_are w e = toks-nodes w a m.at e (omega (arith, given.few))
 
-  left_by_rake : (w : Work) → toks a n ≡ flat w → Leaves (raked w next) (entries ks₀ fs₀ ss₀ 0 next) (rakes w) b ks fs ss m
+  left_by_rake : (w : Work) → toks a m.at ≡ flat w → Leaves (raked w m.next) (entries_in found m.next) (rakes w) b rs q
   left_by_rake w e = by-rake.leaves w e (more_remain w (omega (arith, nodes_are w e)))
 
-  known : length (entries ks₀ fs₀ ss₀ 0 next) ≡ next
-  known = length-entries ks₀ fs₀ ss₀ next 0
+  known : length (entries_in found m.next) ≡ m.next
+  known = length-entries found.kinds found.firsts found.seconds m.next 0
 
-  pub compress_room : m.next + m.at ≤ 3072
+  pub compress_room : q.next + q.at ≤ 3072
   compress_room =
       let w = given.tree in
-      omega (arith, nodes_are w given.is, rake_room w next known (left_by_rake w given.is) (omega (arith, given.few)), given.room)
+      omega (arith, nodes_are w given.is, rake_room w m.next known (left_by_rake w given.is) (omega (arith, given.few)), given.room)
 
-  pub round_to : {a' ks' fs' ss' : List ℕ} {r : Extent} → CompressedTo b m.at m.next ks fs ss a' ks' fs' ss' r → length a' ≡ 2048 → r.at ≤ m.at
-      → RoundTo a n next ks₀ fs₀ ss₀ a' ks' fs' ss' r
+  pub round_to : {a' : List ℕ} {rs' : Records} {r : Extent} → CompressedTo (take q.at b) q.next rs a' rs' r → length a' ≡ 2048 → r.at ≤ q.at
+      → RoundTo a m found a' rs' r
   round_to {r = r} by-compress full' less =
       let w = given.tree in
       let l = left_by_rake w given.is in
-      let k = by-compress.leaves (raked w next) l.tree in
+      let k = by-compress.leaves (raked w m.next) l.tree in
       let n-is = nodes_are w given.is in
       let inside : r.at ≤ 2048 = omega (arith, given.few) in
       record {
         many = many;
-        fewer = omega (arith, after_fewer w next known l k (omega arith) (omega arith));
-        room = omega (arith, after-room w next known l k (omega arith));
-        leaves = λ v e. let h = left_by_rake v e in after_round v next known h (by-compress.leaves (raked v next) h.tree);
+        fewer = omega (arith, after_fewer w m.next known l k (omega arith) (omega arith));
+        room = omega (arith, after-room w m.next known l k (omega arith));
+        leaves = λ v e. let h = left_by_rake v e in after_round v m.next known h (by-compress.leaves (raked v m.next) h.tree);
       }
 
 -- ---- where the rounds have come to, of a tree w₀: what is left to do comes to the whole
@@ -148,9 +150,9 @@ pub record Along (w₀ : Work) (n₀ : ℕ) (found : List Entry) (a : List ℕ) 
   pub all_rounds : many + rounds most tree count ≡ rounds (nodes w₀) w₀ n₀
 
 module _ {w₀ : Work} {n₀ : ℕ} {found : List Entry} (a : List ℕ) (left : ℕ) (sofar : List Entry) (count many : ℕ) (t : Along w₀ n₀ found a left sofar count many) (h : left ≤ length a) where
-  along_round : (a' ks fs ss : List ℕ) (r : Extent) → Leaves (round_leaves t.tree count) sofar (round_makes t.tree count) a' ks fs ss r → length sofar ≡ count
-      → 1 < left → r.at < left → Along w₀ n₀ found a' r.at (entries ks fs ss 0 r.next) r.next (many + 1)
-  along_round a' ks fs ss r l c big less = go t.most refl
+  along_round : (a' : List ℕ) (rs : Records) (r : Extent) → Leaves (round_leaves t.tree count) sofar (round_makes t.tree count) a' rs r → length sofar ≡ count
+      → 1 < left → r.at < left → Along w₀ n₀ found a' r.at (entries_in rs r.next) r.next (many + 1)
+  along_round a' rs r l c big less = go t.most refl
     where
       remain : one_remains t.tree ≡ false
       remain = more_remain t.tree (omega (arith, toks-nodes t.tree a left t.tokens h))
@@ -158,7 +160,7 @@ module _ {w₀ : Work} {n₀ : ℕ} {found : List Entry} (a : List ℕ) (left : 
       next_is : r.next ≡ count + length (round_makes t.tree count)
       next_is = omega (arith, leaves-next l)
 
-      go : (k : ℕ) → t.most ≡ k → Along w₀ n₀ found a' r.at (entries ks fs ss 0 r.next) r.next (many + 1)
+      go : (k : ℕ) → t.most ≡ k → Along w₀ n₀ found a' r.at (entries_in rs r.next) r.next (many + 1)
       go zero q = absurd (omega (arith, t.enough))
       go (suc k) q = record {
         tree = round_leaves t.tree count;
@@ -186,56 +188,50 @@ module _ {w₀ : Work} {n₀ : ℕ} {found : List Entry} (a : List ℕ) (left : 
       }
 
 -- ---- the loop: of any tree that the tokens are of, what is left to do comes to the whole
-pub record Contracting (a₀ : List ℕ) (n next : ℕ) (ks₀ fs₀ ss₀ a ks fs ss b st : List ℕ) (left count many : ℕ) : Type 0 where
-  pub few : left ≤ 2048
-  pub room : count + left ≤ 3072
-  pub rounds_few : many + left ≤ 2048
-  pub full : length a ≡ 2048
-  pub lengths : Lengths b st ks fs ss
-  pub along : (w : Work) → toks a₀ n ≡ flat w → Along w next (entries ks₀ fs₀ ss₀ 0 next) a left (entries ks fs ss 0 count) count many
+pub record Contracting (a₀ : List ℕ) (m₀ : Extent) (found : Records) (a : List ℕ) (rs : Records) (m : Extent) (many : ℕ) : Type 0 where
+  pub few : m.at ≤ CODES
+  pub room : m.next + m.at ≤ NODES
+  pub rounds_few : many + m.at ≤ CODES
+  pub full : length a ≡ CODES
+  pub along : (w : Work) → toks a₀ m₀.at ≡ flat w → Along w m₀.next (entries_in found m₀.next) a m.at (entries_in rs m.next) m.next many
 
-pub contracting_start : {a ks fs ss b st : List ℕ} {n next : ℕ} → length b ≡ 2048 → length st ≡ 2048 → Sized a ks fs ss → Rooted a n next
-    → Contracting a n next ks fs ss a ks fs ss b st n next 0
-contracting_start {a} {n = n} long deep sized given =
+pub contracting_start : {a : List ℕ} {rs : Records} {m : Extent} → length a ≡ 2048 → Rooted a m → Contracting a m rs a rs m 0
+contracting_start {a} {m = m} full given =
     record {
       few = given.few;
       room = given.room;
       rounds_few = omega (arith, given.few);
-      full = sized.out_length;
-      lengths = record { st_length = deep; sized = record { out_length = long; shelves = sized.shelves } };
+      full = full;
       along = λ w e.
           record {
             tree = w;
             most = nodes w;
-            enough = omega (arith, toks-nodes w a n e (omega (arith, given.few, sized.out_length)));
+            enough = omega (arith, toks-nodes w a m.at e (omega (arith, given.few)));
             tokens = e;
             all_made = refl;
             all_rounds = omega arith;
           };
     }
 
-module _ {a₀ : List ℕ} {n next : ℕ} {ks₀ fs₀ ss₀ a ks fs ss b st : List ℕ} {left count many : ℕ} (now : Contracting a₀ n next ks₀ fs₀ ss₀ a ks fs ss b st left count many) where
-  pub contracting_rooted : Rooted a₀ n next → Rooted a left count
+module _ {a₀ : List ℕ} {m₀ : Extent} {found : Records} {a : List ℕ} {rs : Records} {m : Extent} {many : ℕ} (now : Contracting a₀ m₀ found a rs m many) where
+  pub contracting_rooted : Rooted a₀ m₀ → Rooted a m
   contracting_rooted given = let t = now.along given.tree given.is in record { few = now.few; room = now.room; tree = t.tree; is = t.tokens }
 
-  pub contracting_more : {a' ks' fs' ss' b' st' : List ℕ} {r : Extent} → length a' ≡ 2048 → Lengths b' st' ks' fs' ss' → RoundTo a left count ks fs ss a' ks' fs' ss' r
-      → Contracting a₀ n next ks₀ fs₀ ss₀ a' ks' fs' ss' b' st' r.at r.next (many + 1)
-  contracting_more {a'} {ks'} {fs'} {ss'} {r = r} full lengths to =
+  pub contracting_more : {a' : List ℕ} {rs' : Records} {r : Extent} → length a' ≡ CODES → RoundTo a m rs a' rs' r → Contracting a₀ m₀ found a' rs' r (many + 1)
+  contracting_more {a'} {rs'} {r} full to =
       record {
         few = omega (arith, to.fewer, now.few);
         room = omega (arith, to.room, now.room);
         rounds_few = omega (arith, to.fewer, now.rounds_few);
         full = full;
-        lengths = lengths;
         along = λ w e.
             let t = now.along w e in
-            along_round a left _ count many t (omega (arith, now.few, now.full)) a' ks' fs' ss' r (to.leaves t.tree t.tokens) (length-entries ks fs ss count 0) to.many to.fewer;
+            along_round a m.at _ m.next many t (omega (arith, now.few, now.full)) a' rs' r (to.leaves t.tree t.tokens) (length-entries rs.kinds rs.firsts rs.seconds m.next 0) to.many to.fewer;
       }
 
-  pub contracting_end : left ≤ 1 → ContractedTo a₀ n next ks₀ fs₀ ss₀ ks fs ss count many
+  pub contracting_end : m.at ≤ 1 → ContractedTo a₀ m₀ found rs m.next many
   contracting_end h =
       record {
         few = omega (arith, now.room);
-        shelves = now.lengths.sized.shelves;
-        contracted = λ w e. along_end a left _ count many (now.along w e) (omega (arith, now.few, now.full)) h;
+        contracted = λ w e. along_end a m.at _ m.next many (now.along w e) (omega (arith, now.few, now.full)) h;
       }

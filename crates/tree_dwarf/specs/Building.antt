@@ -1,10 +1,12 @@
 -- What the passes of building keep: the leaves numbered code by code, and the rounds one by one.
-use Rattle.std.specs.Prelude.{ℕ, ◌+◌, ◌-◌, ◌≤◌, ◌<◌, ◌≡◌, cond, List, [], ◌∷◌, ◌++◌, map, ltb}
+use Rattle.std.specs.Prelude.{ℕ, ◌+◌, ◌-◌, ◌≤◌, ◌<◌, ◌≡◌, cond, List, [], ◌∷◌, ◌++◌, map, ltb, length}
 use Rattle.formula.specs.Formula.{Formula, first_operation}
 use Rattle.contraction.specs.Records.{leaf_rec}
 use Rattle.contraction.specs.Rounds.{Work, nodes, made, rounds, planted, leaf_recs, round_makes, round_leaves}
-use Rattle.contraction.specs.Entries.{Entry, entries, entry_of}
-use Rattle.tree_tokens.specs.Tokens.{Token, bare, double, flat, toks, Shelves, Leaves}
+use Rattle.contraction.specs.Entries.{Entry, entry_of}
+use Rattle.contraction.specs.declared.Records.{Records}
+use Rattle.contraction.specs.declared.TheConstants.{CODES, NODES}
+use Rattle.tree_tokens.specs.Tokens.{Token, bare, double, flat, toks, entries_in, Leaves}
 use Rattle.tree_tokens.specs.declared.Extent.{Extent}
 use Rattle.tree_dwarf.specs.Dwarfed.{Plans}
 use Rattle.tree_dwarf.specs.declared.Figures.{Figures}
@@ -26,45 +28,44 @@ copied o σ = record { out = σ.out ++ (double o ∷ []); made = σ.made; next =
 abbrev pub plant_code : Planting → ℕ → Planting
 plant_code σ c = cond (ltb c first_operation) (numbered c σ) (copied (c - first_operation) σ)
 
-abbrev pub planting_in : List ℕ → ℕ → List ℕ → List ℕ → List ℕ → ℕ → Planting
-planting_in ts i ks fs ss next = record { out = toks ts i; made = entries ks fs ss 0 next; next = next }
+abbrev pub planting_in : List ℕ → ℕ → Records → ℕ → Planting
+planting_in ts i rs next = record { out = toks ts i; made = entries_in rs next; next = next }
 
 abbrev pub planting_start : Planting
 planting_start = record { out = []; made = []; next = 0 }
 
--- What planting leaves of any formula whose postfix order the first n codes are.
-pub record PlantedTo (codes : List ℕ) (n : ℕ) (a ks fs ss : List ℕ) (next : ℕ) : Type 0 where
-  pub leaves : (f : Formula) → Plans f codes n → Leaves (planted f 0) [] (leaf_recs f) a ks fs ss (record { at = n; next = next })
+-- What planting leaves of any formula whose postfix order the codes are.
+pub record PlantedTo (codes a : List ℕ) (rs : Records) (next : ℕ) : Type 0 where
+  pub leaves : (f : Formula) → Plans f codes → Leaves (planted f 0) [] (leaf_recs f) a rs (record { at = length codes; next = next })
 
 -- ---- Rounds
 
--- The first n tokens are those of some tree, and the records made of it from `next` on have room.
-pub record Rooted (a : List ℕ) (n next : ℕ) : Type 0 where
-  pub few : n ≤ 2048
-  pub room : next + n ≤ 3072
+-- The tokens are those of some tree, and the records made of it have room.
+pub record Rooted (a : List ℕ) (m : Extent) : Type 0 where
+  pub few : m.at ≤ CODES
+  pub room : m.next + m.at ≤ NODES
   pub tree : Work
-  pub is : toks a n ≡ flat tree
+  pub is : toks a m.at ≡ flat tree
 
--- What a round leaves of any tree whose tokens are the first n, more than one: fewer nodes, and no more records made than nodes taken away.
-pub record RoundTo (a : List ℕ) (n next : ℕ) (ks fs ss a' ks' fs' ss' : List ℕ) (r : Extent) : Type 0 where
-  pub many : 1 < n
-  pub fewer : r.at < n
-  pub room : r.next + r.at ≤ next + n
-  pub leaves : (w : Work) → toks a n ≡ flat w → Leaves (round_leaves w next) (entries ks fs ss 0 next) (round_makes w next) a' ks' fs' ss' r
+-- What a round leaves of any tree that the tokens are of, more than one: fewer nodes, and no more records made than nodes taken away.
+pub record RoundTo (a : List ℕ) (m : Extent) (found : Records) (a' : List ℕ) (rs : Records) (r : Extent) : Type 0 where
+  pub many : 1 < m.at
+  pub fewer : r.at < m.at
+  pub room : r.next + r.at ≤ m.next + m.at
+  pub leaves : (w : Work) → toks a m.at ≡ flat w → Leaves (round_leaves w m.next) (entries_in found m.next) (round_makes w m.next) a' rs r
 
 -- All rounds are done, from the tree w and the next number n on.
 pub record Contracted (w : Work) (n : ℕ) (found all : List Entry) (many : ℕ) : Type 0 where
   pub records : all ≡ found ++ map entry_of (made (nodes w) w n)
   pub rounds_are : many ≡ rounds (nodes w) w n
 
--- They are done of any tree whose tokens are the first n, and all records have room.
-pub record ContractedTo (a : List ℕ) (n next : ℕ) (ks fs ss ks' fs' ss' : List ℕ) (total many : ℕ) : Type 0 where
-  pub few : total ≤ 3072
-  pub shelves : Shelves ks' fs' ss'
-  pub contracted : (w : Work) → toks a n ≡ flat w → Contracted w next (entries ks fs ss 0 next) (entries ks' fs' ss' 0 total) many
+-- They are done of any tree that the tokens are of, and all records have room.
+pub record ContractedTo (a : List ℕ) (m : Extent) (found rs : Records) (total many : ℕ) : Type 0 where
+  pub few : total ≤ NODES
+  pub contracted : (w : Work) → toks a m.at ≡ flat w → Contracted w m.next (entries_in found m.next) (entries_in rs total) many
 
 -- The numbers built stay within the arrays.
 pub record Bounded (b : Figures) : Type 0 where
   pub leaves_few : b.leaves ≤ 1024
   pub leaves_first : b.leaves ≤ b.nodes
-  pub nodes_few : b.nodes ≤ 3072
+  pub nodes_few : b.nodes ≤ NODES

@@ -3,12 +3,11 @@
 
 ghost use Rattle.std.specs.Prelude.{◌≡◌, ◌+◌, ◌≤◌, ◌<◌, length};
 ghost use Rattle.formula.specs.Formula.{Formula};
-ghost use Rattle.tree_tokens.specs.Tokens.{Shelves, Sized};
-ghost use Rattle.tree_rake.specs.Raking.{Lengths};
 ghost use Rattle.tree_dwarf.specs.Dwarfed.{Plans, Planned, Dwarfed};
 ghost use Rattle.tree_dwarf.specs.Building.{plant_code, planting_in, PlantedTo, Rooted, RoundTo, ContractedTo, Bounded};
 
-use tree_tokens::Extent;
+use contraction::{CODES, NODES, Records};
+use tree_tokens::{ABSENT, Extent, FIRST_OPERATION, LEAF, Record};
 
 // What a dwarf tree is told by, besides its records.
 #[derive(Clone, Copy, Drop)]
@@ -27,24 +26,19 @@ struct Done {
 }
 
 // One code: a leaf gets the next dwarf node, an operation stays as it is.
-fn plant_one(
-    c: u16,
-    i: usize,
-    next: u16,
-    a: &mut [u16; 2048],
-    kinds: &mut [u16; 3072],
-    firsts: &mut [u16; 3072],
-    seconds: &mut [u16; 3072],
-) -> u16
-    requires sized { Sized a.old kinds.old firsts.old seconds.old }
-    requires i_bound { (i < 2048) × (next < 3072) }
-    ensures sized_2 { Sized a.new kinds.new firsts.new seconds.new }
-    ensures result_after { (planting_in a.new (i + 1) kinds.new firsts.new seconds.new result
-        ≡ plant_code (planting_in a.old i kinds.old firsts.old seconds.old next) c) × (result ≤ next + 1) }
+#[tactic(auto, using(crate::proofs::PlantLaws::plant_leaf, crate::proofs::PlantLaws::plant_operation))]
+fn plant_one(c: u16, i: usize, next: u16, a: &mut [u16; CODES], records: &mut Records) -> u16
+    requires i_bound { (i < CODES) × (next < NODES) }
+    ensures result_after { (planting_in a.new (i + 1) records.new result ≡ plant_code (planting_in a.old i records.old next) c) × (result ≤ next + 1) }
 {
-    if c < 0xFFF0 {
+    if c < FIRST_OPERATION {
+        let leaf = Record {
+            kind: LEAF,
+            first: c,
+            second: ABSENT,
+        };
         tree_tokens::put_token(next, a, i);
-        tree_tokens::put_record(0, c, 65535, kinds, firsts, seconds, next);
+        tree_tokens::put_record(leaf, records, next);
         next + 1
     } else {
         tree_tokens::put_token(c, a, i);
@@ -53,105 +47,70 @@ fn plant_one(
 }
 
 // The formula's tree with its leaves numbered: how many there are.
-fn plant(
-    codes: &[u16; 2048],
-    n: usize,
-    a: &mut [u16; 2048],
-    kinds: &mut [u16; 3072],
-    firsts: &mut [u16; 3072],
-    seconds: &mut [u16; 3072],
-) -> u16
-    requires sized { Sized a.old kinds.old firsts.old seconds.old }
-    requires codes_len { (length codes.now ≡ 2048) × (n ≤ 2048) }
-    ensures sized_2 { Sized a.new kinds.new firsts.new seconds.new }
-    ensures planted_to { PlantedTo codes.now n a.new kinds.new firsts.new seconds.new result }
+fn plant(codes: &[u16], a: &mut [u16; CODES], records: &mut Records) -> u16
+    requires { length codes.now ≤ CODES }
+    ensures { PlantedTo codes.now a.new records.new result }
 {
-    let mut next: u16 = 0;
-    let mut i: usize = 0;
-    while i < n {
-        let c = codes[i];
-        next = plant_one(c, i, next, a, kinds, firsts, seconds);
-        i += 1;
+    let mut next = 0;
+    for (i, &c) in codes.iter().enumerate() {
+        next = plant_one(c, i, next, a, records);
     }
     next
 }
 
-// A round on the tree whose tokens are the first n of `a`: rake, then compress. `b` and `st` are room to work in.
+// A round on the tree whose tokens `a` is filled with: rake, then compress. `b` and `st` are room to work in.
 fn round(
-    a: &mut [u16; 2048],
-    n: usize,
-    b: &mut [u16; 2048],
-    st: &mut [u16; 2048],
-    kinds: &mut [u16; 3072],
-    firsts: &mut [u16; 3072],
-    seconds: &mut [u16; 3072],
-    next: u16,
+    a: &mut [u16; CODES],
+    b: &mut [u16; CODES],
+    st: &mut [u16; CODES],
+    records: &mut Records,
+    m: Extent,
 ) -> Extent
-    requires a_len { (length a.old ≡ 2048) × Lengths b.old st.old kinds.old firsts.old seconds.old }
-    requires lt_n { (1 < n) × Rooted a.old n next }
-    ensures a_len_2 { (length a.new ≡ 2048) × Lengths b.new st.new kinds.new firsts.new seconds.new }
-    ensures round_to { RoundTo a.old n next kinds.old firsts.old seconds.old
-        a.new kinds.new firsts.new seconds.new result }
+    requires lt_n { (1 < m.at) × Rooted a.old m }
+    ensures round_to { RoundTo a.old m records.old a.new records.new result }
 {
-    let m = tree_rake::rake(a, n, b, st, kinds, firsts, seconds, next);
-    let at = m.at;
-    let more = m.next;
-    tree_compress::compress(b, at, a, kinds, firsts, seconds, more)
+    let raked = tree_rake::rake(&a[..m.at], b, st, records, m.next);
+    tree_compress::compress(&b[..raked.at], a, records, raked.next)
 }
 
 // Rounds while more than one node remains.
-fn contract(
-    a: &mut [u16; 2048],
-    n: usize,
-    kinds: &mut [u16; 3072],
-    firsts: &mut [u16; 3072],
-    seconds: &mut [u16; 3072],
-    next: u16,
-) -> Done
-    requires sized { Sized a.old kinds.old firsts.old seconds.old }
-    requires rooted { Rooted a.old n next }
-    ensures { ContractedTo a.old n next kinds.old firsts.old seconds.old
-        kinds.new firsts.new seconds.new result.nodes result.rounds }
+fn contract(a: &mut [u16; CODES], records: &mut Records, planted: Extent) -> Done
+    requires { Rooted a.old planted }
+    ensures { ContractedTo a.old planted records.old records.new result.nodes result.rounds }
 {
-    let mut b = [0u16; 2048];
-    let mut st = [0u16; 2048];
-    let mut left = n;
-    let mut count = next;
-    let mut rounds: usize = 0;
-    while 1 < left {
-        let p = round(a, left, &mut b, &mut st, kinds, firsts, seconds, count);
-        left = p.at;
-        count = p.next;
+    let mut b = [0u16; CODES];
+    let mut st = [0u16; CODES];
+    let mut m = planted;
+    let mut rounds = 0;
+    // Kept: rounds go on until one node remains, and no iterator ends so.
+    while 1 < m.at {
+        m = round(a, &mut b, &mut st, records, m);
         rounds += 1;
     }
     Done {
-        nodes: count,
+        nodes: m.next,
         rounds,
     }
 }
 
-// Builds the dwarf tree of the formula whose postfix order the first n codes are.
-pub fn build_tree(
-    codes: &[u16; 2048],
-    n: usize,
-    kinds: &mut [u16; 3072],
-    firsts: &mut [u16; 3072],
-    seconds: &mut [u16; 3072],
-) -> Figures
-    requires codes_len { (length codes.now ≡ 2048) × Shelves kinds.old firsts.old seconds.old }
-    requires n_bound { (n ≤ 2047) × Planned codes.now n }
-    ensures shelves { Shelves kinds.new firsts.new seconds.new × Bounded result }
-    ensures dwarfed { (f : Formula) → Plans f codes.now n → Dwarfed f kinds.new firsts.new seconds.new result }
+// Builds the dwarf tree of the formula whose postfix order the codes are.
+pub fn build_tree(codes: &[u16], records: &mut Records) -> Figures
+    requires codes_few { (length codes.now < CODES) × Planned codes.now }
+    ensures bounded { Bounded result }
+    ensures dwarfed { (f : Formula) → Plans f codes.now → Dwarfed f records.new result }
 {
-    let mut a = [0u16; 2048];
-    let leaves = plant(codes, n, &mut a, kinds, firsts, seconds);
-    let done = contract(&mut a, n, kinds, firsts, seconds, leaves);
-    let nodes = done.nodes as usize;
-    let tall = tree_height::height(kinds, firsts, seconds, nodes);
+    let mut a = [0u16; CODES];
+    let leaves = plant(codes, &mut a, records);
+    let planted = Extent {
+        at: codes.len(),
+        next: leaves,
+    };
+    let done = contract(&mut a, records, planted);
+    let nodes = usize::from(done.nodes);
     Figures {
-        leaves: leaves as usize,
+        leaves: usize::from(leaves),
         nodes,
         rounds: done.rounds,
-        height: tall as usize,
+        height: usize::from(tree_height::height(records, nodes)),
     }
 }

@@ -3,13 +3,14 @@ use Prim.Native.Nat.{ℕ, zero, suc, ◌+◌, ◌-◌, ◌≤◌, ◌<◌}
 use native.Mathlib.Numerals.{add-one, sub-one}
 use native.Mathlib.Omega.{arith}
 use mathlib.Core.Path.{◌≡◌, refl, sym, ap, ◌∙◌}
-use mathlib.Core.List.{List, [], ◌∷◌, ◌++◌, foldl, foldl-append}
+use mathlib.Core.List.{List, [], ◌∷◌, ◌++◌, map, foldl, foldl-append}
 use lib.ListN.{length, get_or, set}
 use lib.Seq.{get_or-set_same, get_or-set_other}
-use Rattle.contraction.specs.Entries.{Entry, entry, entries}
-use Rattle.tree_tokens.specs.Tokens.{decode, present, toks}
-use Rattle.tree_tokens.proofs.TokensLaws.{toks-next, decode-bare, decode-single, decode-double, decode-new, present-none, present_some}
-use Rattle.tree_rake.specs.Raking.{Raking, kept, makes, rake_token, operands, raking_in, raking_start, Lengths, RakingStep, RakedTo}
+use Rattle.contraction.specs.Entries.{Entry, entry}
+use Rattle.contraction.specs.declared.Records.{Records}
+use Rattle.tree_tokens.specs.Tokens.{decode, present, toks, entries_in}
+use Rattle.tree_tokens.proofs.TokensLaws.{toks-all, toks-next, decode-bare, decode-double, decode-new, present-none, present_some}
+use Rattle.tree_rake.specs.Raking.{Raking, kept, makes, rake_token, operands, raking_in, raking_start, RakingStep, RakedTo}
 use Rattle.tree_rake.specs.declared.RakingFills.{RakingFills}
 use Rattle.tree_rake.proofs.Trees.{raked_tree, raked_records}
 
@@ -30,94 +31,68 @@ operands_pop2 l n z = let e : n - 1 - 1 ≡ n - 2 = omega arith in operands_pop 
 
 -- ---- a token out, and a record besides
 pub view_keep : (out out' st : List ℕ) (m : RakingFills) (t : ℕ) → toks out' (m.at + 1) ≡ toks out m.at ++ (decode t ∷ []) → m.top < length st
-    → (ks fs ss : List ℕ) → raking_in out' (set st m.top 65535) ks fs ss (record { top = m.top + 1; at = m.at + 1; next = m.next }) ≡ kept (decode t) (raking_in out st ks fs ss m)
-view_keep out out' st m t e h ks fs ss = rw (e, operands_push st m.top 65535 h)
+    → (rs : Records) → raking_in out' (set st m.top 65535) rs (record { top = m.top + 1; at = m.at + 1; next = m.next }) ≡ kept (decode t) (raking_in out st rs m)
+view_keep out out' st m t e h rs = rw (e, operands_push st m.top 65535 h)
 
-pub view_make : {σ : Raking} (out st ks fs ss ks' fs' ss' : List ℕ) (m : RakingFills) (t : ℕ) (r : Entry) → entries ks' fs' ss' 0 (m.next + 1) ≡ entries ks fs ss 0 m.next ++ (r ∷ [])
-    → σ ≡ kept (decode t) (raking_in out st ks' fs' ss' (record { top = m.top; at = m.at; next = m.next + 1 })) → σ ≡ makes r (decode t) (raking_in out st ks fs ss m)
-view_make out st ks fs ss ks' fs' ss' m t r e q = q ∙ rw e
+pub view_make : {σ : Raking} (out st : List ℕ) (rs rs' : Records) (m : RakingFills) (t : ℕ) (r : Entry) → entries_in rs' (m.next + 1) ≡ entries_in rs m.next ++ (r ∷ [])
+    → σ ≡ kept (decode t) (raking_in out st rs' (record { top = m.top; at = m.at; next = m.next + 1 })) → σ ≡ makes r (decode t) (raking_in out st rs m)
+view_make out st rs rs' m t r e q = q ∙ rw e
 
--- ---- a step, by what stands on the stack. r is what a callee left, as its contract says it
-two-none-at : (σ : Raking) (st : List ℕ) (n t : ℕ) → σ.stack ≡ operands st n → n < 2 → 0xFFF0 ≤ t → σ ≡ rake_token σ (decode t)
-two-none-at σ st zero t e z h = rw (decode-double t h, e)
-two-none-at σ st (suc zero) t e z h = rw (decode-double t h, e)
-two-none-at σ st (suc (suc n)) t e z h = absurd (omega arith)
-
-module _ (out st ks fs ss : List ℕ) (m : RakingFills) (t : ℕ) where
+-- ---- a two-child node's step, by what stands on the stack. r is what a callee left, as its contract says it
+module _ (out st : List ℕ) (rs : Records) (m : RakingFills) (t : ℕ) where
   abbrev σ : Raking
-  σ = raking_in out st ks fs ss m
+  σ = raking_in out st rs m
 
   -- with the last k operands taken
   abbrev less : ℕ → Raking
-  less k = raking_in out st ks fs ss (record { top = m.top - k; at = m.at; next = m.next })
-
-  pub one_none : m.top < 1 → 4096 ≤ t → t < 0xFFF0 → σ ≡ rake_token σ (decode t)
-  one_none z h l = let n0 : m.top ≡ 0 = omega arith in rw (decode-single t h l, n0)
-
-  module _ {r : Raking} (h : 4096 ≤ t) (l : t < 0xFFF0) (z : 1 ≤ m.top) where
-    pub one_kept : get_or st (m.top - 1) 0 ≡ 65535 → r ≡ kept (decode t) (less 1) → r ≡ rake_token σ (decode t)
-    one_kept v e = e ∙ rw (decode-single t h l, operands_pop st m.top z, present-none _ v)
-
-    pub one-raked : (get_or st (m.top - 1) 0 ≡ 65535 → ⊥) → m.next < 3072
-        → r ≡ makes (entry 13 (t - 4096) (get_or st (m.top - 1) 0)) (decode m.next) (less 1) → r ≡ rake_token σ (decode t)
-    one-raked v b e = e ∙ rw (decode-single t h l, operands_pop st m.top z, present_some _ v, decode-bare m.next (omega arith))
-
-  pub two_none : m.top < 2 → 0xFFF0 ≤ t → σ ≡ rake_token σ (decode t)
-  two_none z h = two-none-at σ st m.top t refl z h
+  less k = raking_in out st rs (record { top = m.top - k; at = m.at; next = m.next })
 
   module _ {r : Raking} (h : 0xFFF0 ≤ t) (z : 2 ≤ m.top) where
-    pub two-kept : get_or st (m.top - 1) 0 ≡ 65535 → get_or st (m.top - 2) 0 ≡ 65535 → r ≡ kept (decode t) (less 2) → r ≡ rake_token σ (decode t)
-    two-kept y x e = e ∙ rw (decode-double t h, operands_pop2 st m.top z, present-none _ y, present-none _ x)
-
-    pub two-right : (get_or st (m.top - 1) 0 ≡ 65535 → ⊥) → get_or st (m.top - 2) 0 ≡ 65535 → m.next < 3072
+    pub two_right : (get_or st (m.top - 1) 0 ≡ 65535 → ⊥) → get_or st (m.top - 2) 0 ≡ 65535 → m.next < 3072
         → r ≡ makes (entry (9 + (t - 0xFFF0)) (get_or st (m.top - 1) 0) 65535) (decode (4096 + m.next)) (less 2) → r ≡ rake_token σ (decode t)
-    two-right y x b e = e ∙ rw (decode-double t h, operands_pop2 st m.top z, present_some _ y, present-none _ x, decode-new m.next b)
+    two_right y x b e = e ∙ rw (decode-double t h, operands_pop2 st m.top z, present_some _ y, present-none _ x, decode-new m.next b)
 
-    pub two-left : get_or st (m.top - 1) 0 ≡ 65535 → (get_or st (m.top - 2) 0 ≡ 65535 → ⊥) → m.next < 3072
+    pub two_left : get_or st (m.top - 1) 0 ≡ 65535 → (get_or st (m.top - 2) 0 ≡ 65535 → ⊥) → m.next < 3072
         → r ≡ makes (entry (5 + (t - 0xFFF0)) (get_or st (m.top - 2) 0) 65535) (decode (4096 + m.next)) (less 2) → r ≡ rake_token σ (decode t)
-    two-left y x b e = e ∙ rw (decode-double t h, operands_pop2 st m.top z, present-none _ y, present_some _ x, decode-new m.next b)
+    two_left y x b e = e ∙ rw (decode-double t h, operands_pop2 st m.top z, present-none _ y, present_some _ x, decode-new m.next b)
 
     pub two_both : (get_or st (m.top - 1) 0 ≡ 65535 → ⊥) → (get_or st (m.top - 2) 0 ≡ 65535 → ⊥) → m.next < 3072
         → r ≡ makes (entry (1 + (t - 0xFFF0)) (get_or st (m.top - 2) 0) (get_or st (m.top - 1) 0)) (decode m.next) (less 2) → r ≡ rake_token σ (decode t)
     two_both y x b e = e ∙ rw (decode-double t h, operands_pop2 st m.top z, present_some _ y, present_some _ x, decode-bare m.next (omega arith))
 
-  pub bare_step : m.top < length st → t < 4096 → raking_in out (set st m.top t) ks fs ss (record { top = m.top + 1; at = m.at; next = m.next }) ≡ rake_token σ (decode t)
+  pub bare_step : m.top < length st → t < 4096 → raking_in out (set st m.top t) rs (record { top = m.top + 1; at = m.at; next = m.next }) ≡ rake_token σ (decode t)
   bare_step b h = rw (operands_push st m.top t b, decode-bare t h, present_some t (λ q. omega arith))
 
 -- ---- the loop: the arrays hold what the steps come to after the first i tokens, and no array is filled further than i
-pub record RakingAt (tokens : List ℕ) (n next : ℕ) (ks₀ fs₀ ss₀ out st ks fs ss : List ℕ) (m : RakingFills) (i : ℕ) : Type 0 where
-  pub passed : i ≤ n
+pub record RakingAt (tokens : List ℕ) (next : ℕ) (found : Records) (out st : List ℕ) (rs : Records) (m : RakingFills) (i : ℕ) : Type 0 where
   pub top : m.top ≤ i
   pub at : m.at ≤ i
   pub more : m.next ≤ next + i
-  pub lengths : Lengths out st ks fs ss
-  pub is : raking_in out st ks fs ss m ≡ foldl rake_token (raking_start ks₀ fs₀ ss₀ next) (toks tokens i)
+  pub is : raking_in out st rs m ≡ foldl rake_token (raking_start found next) (toks tokens i)
 
 run_next : (σ₀ : Raking) (l : List ℕ) (i : ℕ) {σ r : Raking} → r ≡ rake_token σ (decode (get_or l i 0)) → σ ≡ foldl rake_token σ₀ (toks l i) → i < length l → r ≡ foldl rake_token σ₀ (toks l (i + 1))
 run_next σ₀ l i q e h = q ∙ ap (λ (s : Raking). rake_token s (decode (get_or l i 0))) e ∙ rw (toks-next l i h) (sym (foldl-append rake_token σ₀ (toks l i) (decode (get_or l i 0) ∷ [])))
 
-module _ {tokens : List ℕ} {n next : ℕ} {out st ks fs ss : List ℕ} where
-  pub raking_start_lem : Lengths out st ks fs ss → RakingAt tokens n next ks fs ss out st ks fs ss (record { top = 0; at = 0; next = next }) 0
-  raking_start_lem long = record { passed = omega arith; top = omega arith; at = omega arith; more = omega arith; lengths = long; is = refl }
+module _ {tokens : List ℕ} {next : ℕ} {out st : List ℕ} {rs : Records} where
+  pub raking_start_lem : RakingAt tokens next rs out st rs (record { top = 0; at = 0; next = next }) 0
+  raking_start_lem = record { top = omega arith; at = omega arith; more = omega arith; is = refl }
 
-  module _ {ks₀ fs₀ ss₀ : List ℕ} {m : RakingFills} {i : ℕ} (now : RakingAt tokens n next ks₀ fs₀ ss₀ out st ks fs ss m i) where
-    pub raking_next : {out' st' ks' fs' ss' : List ℕ} {r : RakingFills} → i < n → n ≤ 2048 → length tokens ≡ 2048 → Lengths out' st' ks' fs' ss'
-        → RakingStep (rake_token (raking_in out st ks fs ss m) (decode (get_or tokens i 0))) (raking_in out' st' ks' fs' ss' r) m r
-        → RakingAt tokens n next ks₀ fs₀ ss₀ out' st' ks' fs' ss' r (i + 1)
-    raking_next h few full long step =
+  module _ {found : Records} {m : RakingFills} {i : ℕ} (now : RakingAt tokens next found out st rs m i) where
+    pub raking_next : {out' st' : List ℕ} {rs' : Records} {r : RakingFills} → i < length tokens
+        → RakingStep (rake_token (raking_in out st rs m) (decode (get_or tokens i 0))) (raking_in out' st' rs' r) m r
+        → RakingAt tokens next found out' st' rs' r (i + 1)
+    raking_next h step =
         record {
-          passed = omega arith;
           top = omega (arith, now.top, step.top);
           at = omega (arith, now.at, step.at);
           more = omega (arith, now.more, step.next);
-          lengths = long;
-          is = run_next _ tokens i step.is now.is (omega arith);
+          is = run_next _ tokens i step.is now.is h;
         }
 
 -- at the end they hold what rake leaves of the tree
-pub raking_end : {tokens : List ℕ} {n next : ℕ} {ks₀ fs₀ ss₀ out st ks fs ss : List ℕ} {m : RakingFills} {i : ℕ} → RakingAt tokens n next ks₀ fs₀ ss₀ out st ks fs ss m i → n ≤ i
-    → RakedTo tokens n next ks₀ fs₀ ss₀ out ks fs ss (record { at = m.at; next = m.next })
-raking_end {n = n} {next} {ks₀} {fs₀} {ss₀} {i = i} now h =
-    let end : i ≡ n = omega (arith, now.passed) in
-    let rs = entries ks₀ fs₀ ss₀ 0 next in
-    record { leaves = λ w e many. record { tree = raked_tree w rs next many e (rw end at now.is); records = raked_records w rs next many e (rw end at now.is) } }
+pub raking_end : {tokens : List ℕ} {next : ℕ} {found : Records} {out st : List ℕ} {rs : Records} {m : RakingFills} {i : ℕ} → RakingAt tokens next found out st rs m i → length tokens ≤ i
+    → RakedTo tokens next found out rs (record { at = m.at; next = m.next })
+raking_end {tokens} {next} {found} {i = i} now enough =
+    let all : toks tokens i ≡ map decode tokens = toks-all tokens i enough in
+    let es = entries_in found next in
+    record { leaves = λ w e many. record { tree = raked_tree w es next many e (rw all at now.is); records = raked_records w es next many e (rw all at now.is) } }

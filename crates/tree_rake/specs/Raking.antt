@@ -1,10 +1,12 @@
 -- Rake on tokens, one at a time: what the pass keeps. `proofs/Trees.antt` ties it to the tree's step.
-use Rattle.std.specs.Prelude.{ℕ, zero, suc, ◌+◌, ◌≤◌, ◌<◌, ◌≡◌, false, List, [], ◌∷◌, ◌++◌, length, get_or}
+use Rattle.std.specs.Prelude.{ℕ, zero, suc, ◌+◌, ◌≤◌, ◌<◌, ◌≡◌, false, List, [], ◌∷◌, ◌++◌, map, get_or}
 use Rattle.std.proofs.Math.Option.{Option, none, some}
 use Rattle.contraction.specs.Records.{absent, S_rec}
 use Rattle.contraction.specs.Rounds.{Work, one_remains, rakes, raked}
-use Rattle.contraction.specs.Entries.{Entry, entry, entries, entry_of}
-use Rattle.tree_tokens.specs.Tokens.{Token, bare, single, double, present, flat, toks, Sized, Leaves}
+use Rattle.contraction.specs.Entries.{Entry, entry, entry_of}
+use Rattle.contraction.specs.declared.Records.{Records}
+use Rattle.contraction.specs.declared.TheConstants.{CODES, NODES}
+use Rattle.tree_tokens.specs.Tokens.{Token, bare, single, double, decode, present, flat, toks, entries_in, Leaves}
 use Rattle.tree_tokens.specs.declared.Extent.{Extent}
 use Rattle.tree_rake.specs.declared.RakingFills.{RakingFills}
 
@@ -52,24 +54,18 @@ abbrev pub operands : List ℕ → ℕ → List (Option ℕ)
 operands l zero = []
 operands l (suc n) = present (get_or l n 0) ∷ operands l n
 
-abbrev pub raking_in : List ℕ → List ℕ → List ℕ → List ℕ → List ℕ → RakingFills → Raking
-raking_in out st ks fs ss m =
-    record { stack = operands st m.top; out = toks out m.at; made = entries ks fs ss 0 m.next; next = m.next }
+abbrev pub raking_in : List ℕ → List ℕ → Records → RakingFills → Raking
+raking_in out st rs m = record { stack = operands st m.top; out = toks out m.at; made = entries_in rs m.next; next = m.next }
 
 -- Where a pass begins: nothing waits and nothing is out.
-abbrev pub raking_start : List ℕ → List ℕ → List ℕ → ℕ → Raking
-raking_start ks fs ss next = record { stack = []; out = []; made = entries ks fs ss 0 next; next = next }
-
--- All arrays have their full length.
-pub record Lengths (out st ks fs ss : List ℕ) : Type 0 where
-  pub st_length : length st ≡ 2048
-  pub sized : Sized out ks fs ss
+abbrev pub raking_start : Records → ℕ → Raking
+raking_start rs next = record { stack = []; out = []; made = entries_in rs next; next = next }
 
 -- There is room for one token more.
 pub record RakingRoom (m : RakingFills) : Type 0 where
-  pub top : m.top < 2048
-  pub at : m.at < 2048
-  pub next : m.next < 3072
+  pub top : m.top < CODES
+  pub at : m.at < CODES
+  pub next : m.next < NODES
 
 -- A step's answer: the state that is due, and each array filled at most one further.
 pub record RakingStep (due σ : Raking) (m r : RakingFills) : Type 0 where
@@ -78,6 +74,6 @@ pub record RakingStep (due σ : Raking) (m r : RakingFills) : Type 0 where
   pub at : r.at ≤ m.at + 1
   pub next : r.next ≤ m.next + 1
 
--- What the pass leaves of any tree, no single leaf, whose tokens are the first n.
-pub record RakedTo (tokens : List ℕ) (n next : ℕ) (ks fs ss out ks' fs' ss' : List ℕ) (r : Extent) : Type 0 where
-  pub leaves : (w : Work) → toks tokens n ≡ flat w → one_remains w ≡ false → Leaves (raked w next) (entries ks fs ss 0 next) (rakes w) out ks' fs' ss' r
+-- What the pass leaves of any tree, no single leaf, that the tokens are of.
+pub record RakedTo (tokens : List ℕ) (next : ℕ) (found : Records) (out : List ℕ) (rs : Records) (r : Extent) : Type 0 where
+  pub leaves : (w : Work) → map decode tokens ≡ flat w → one_remains w ≡ false → Leaves (raked w next) (entries_in found next) (rakes w) out rs r

@@ -1,15 +1,16 @@
 // Rake: takes every leaf of a tree away, judged as the round found it, in one pass over its tokens.
 #![tactic(auto)]
 
-ghost use Rattle.std.specs.Prelude.{◌≡◌, List, ℕ, ◌+◌, ◌≤◌, ◌<◌, length};
+ghost use Rattle.std.specs.Prelude.{◌≡◌, ◌+◌, ◌≤◌, ◌<◌, length};
 ghost use Rattle.contraction.specs.Entries.{entry};
 ghost use Rattle.tree_tokens.specs.Tokens.{decode};
-ghost use Rattle.tree_rake.specs.Raking.{kept, makes, rake_token, raking_in, Lengths, RakingRoom, RakingStep, RakedTo};
+ghost use Rattle.tree_rake.specs.Raking.{kept, makes, rake_token, raking_in, RakingRoom, RakingStep, RakedTo};
 
-use tree_tokens::Extent;
+use contraction::{CODES, NODES, Records};
+use tree_tokens::{ABSENT, E, Extent, FIRST_OPERATION, FIRST_SINGLE, R_LEFT, R_RIGHT, Record, S};
 
 // How far the stack, the tokens out and the records are filled.
-#[derive(Drop)]
+#[derive(Clone, Copy, Drop)]
 struct RakingFills {
     top: usize,
     at: usize,
@@ -17,49 +18,41 @@ struct RakingFills {
 }
 
 // Puts a token out; its tree waits, and this step does not rake it.
-fn keep(t: u16, out: &mut [u16; 2048], st: &mut [u16; 2048], m: RakingFills) -> RakingFills
-    requires { (length out.old ≡ 2048) × (length st.old ≡ 2048) × (m.top < 2048) × (m.at < 2048) }
-    ensures out_len { (length out.new ≡ 2048) × (length st.new ≡ 2048) }
-    ensures by_index { (ks fs ss : List ℕ) → raking_in out.new st.new ks fs ss result ≡ kept (decode t) (raking_in out.old st.old ks fs ss m) }
+#[tactic(auto, using(crate::proofs::StepsLaws::view_keep))]
+fn keep(t: u16, out: &mut [u16; CODES], st: &mut [u16; CODES], m: RakingFills) -> RakingFills
+    requires { (m.top < CODES) × (m.at < CODES) }
+    ensures by_index { (rs : Records) → raking_in out.new st.new rs result ≡ kept (decode t) (raking_in out.old st.old rs m) }
     ensures top_value { (result.top ≡ m.top + 1) × (result.at ≡ m.at + 1) × (result.next ≡ m.next) }
 {
-    let top = m.top;
-    let at = m.at;
-    tree_tokens::put_token(t, out, at);
-    st[top] = 65535;
+    tree_tokens::put_token(t, out, m.at);
+    // Kept: no array of `Option<u16>` is the stack, since it would take 4 KB more of what docs/TRUST.md counts. ABSENT is no dwarf node.
+    st[m.top] = ABSENT;
     RakingFills {
-        top: top + 1,
-        at: at + 1,
-        next: m.next,
+        top: m.top + 1,
+        at: m.at + 1,
+        ..m
     }
 }
 
 // The same, with a record.
+#[tactic(auto, using(crate::proofs::StepsLaws::view_make))]
 fn make(
-    kind: u16,
-    first: u16,
-    second: u16,
+    node: Record,
     t: u16,
-    out: &mut [u16; 2048],
-    st: &mut [u16; 2048],
-    kinds: &mut [u16; 3072],
-    firsts: &mut [u16; 3072],
-    seconds: &mut [u16; 3072],
+    out: &mut [u16; CODES],
+    st: &mut [u16; CODES],
+    records: &mut Records,
     m: RakingFills,
 ) -> RakingFills
-    requires lengths { Lengths out.old st.old kinds.old firsts.old seconds.old }
     requires raking_room { RakingRoom m }
-    ensures lengths_2 { Lengths out.new st.new kinds.new firsts.new seconds.new }
-    ensures result_after { raking_in out.new st.new kinds.new firsts.new seconds.new result
-        ≡ makes (entry kind first second) (decode t) (raking_in out.old st.old kinds.old firsts.old seconds.old m) }
+    ensures result_after { raking_in out.new st.new records.new result
+        ≡ makes (entry node.kind node.first node.second) (decode t) (raking_in out.old st.old records.old m) }
     ensures top_value { (result.top ≡ m.top + 1) × (result.at ≡ m.at + 1) × (result.next ≡ m.next + 1) }
 {
-    let next = m.next;
-    tree_tokens::put_record(kind, first, second, kinds, firsts, seconds, next);
+    tree_tokens::put_record(node, records, m.next);
     let more = RakingFills {
-        top: m.top,
-        at: m.at,
-        next: next + 1,
+        next: m.next + 1,
+        ..m
     };
     keep(t, out, st, more)
 }
@@ -67,145 +60,116 @@ fn make(
 // A one-child node: its operand is the last on the stack.
 fn rake_one(
     t: u16,
-    out: &mut [u16; 2048],
-    st: &mut [u16; 2048],
-    kinds: &mut [u16; 3072],
-    firsts: &mut [u16; 3072],
-    seconds: &mut [u16; 3072],
+    out: &mut [u16; CODES],
+    st: &mut [u16; CODES],
+    records: &mut Records,
     m: RakingFills,
 ) -> RakingFills
-    requires lengths { Lengths out.old st.old kinds.old firsts.old seconds.old }
     requires raking_room { RakingRoom m }
-    requires le_t { (4096 ≤ t) × (t < 0xFFF0) }
-    ensures lengths_2 { Lengths out.new st.new kinds.new firsts.new seconds.new }
-    ensures raking_step { RakingStep (rake_token (raking_in out.old st.old kinds.old firsts.old seconds.old m) (decode t))
-        (raking_in out.new st.new kinds.new firsts.new seconds.new result) m result }
+    requires le_t { (FIRST_SINGLE ≤ t) × (t < FIRST_OPERATION) }
+    ensures raking_step { RakingStep (rake_token (raking_in out.old st.old records.old m) (decode t)) (raking_in out.new st.new records.new result) m result }
 {
-    let top = m.top;
-    if top < 1 {
+    if m.top < 1 {
         return m;
     }
     let low = RakingFills {
-        top: top - 1,
-        at: m.at,
-        next: m.next,
+        top: m.top - 1,
+        ..m
     };
-    let v = st[top - 1];
-    let d = t - 4096;
-    let leaf = m.next;
-    if v == 65535 {
-        keep(t, out, st, low)
-    } else {
-        make(13, d, v, leaf, out, st, kinds, firsts, seconds, low)
+    match st[m.top - 1] {
+        ABSENT => keep(t, out, st, low),
+        v => {
+            let node = Record {
+                kind: S,
+                first: t - FIRST_SINGLE,
+                second: v,
+            };
+            make(node, m.next, out, st, records, low)
+        }
     }
 }
 
 // A two-child node: its operands are the last two on the stack, the left one a under the right one b.
+#[tactic(auto, using(crate::proofs::StepsLaws::two_right, crate::proofs::StepsLaws::two_left, crate::proofs::StepsLaws::two_both))]
 fn rake_two(
     t: u16,
-    out: &mut [u16; 2048],
-    st: &mut [u16; 2048],
-    kinds: &mut [u16; 3072],
-    firsts: &mut [u16; 3072],
-    seconds: &mut [u16; 3072],
+    out: &mut [u16; CODES],
+    st: &mut [u16; CODES],
+    records: &mut Records,
     m: RakingFills,
 ) -> RakingFills
-    requires lengths { Lengths out.old st.old kinds.old firsts.old seconds.old }
     requires raking_room { RakingRoom m }
-    requires le_t { 0xFFF0 ≤ t }
-    ensures lengths_2 { Lengths out.new st.new kinds.new firsts.new seconds.new }
-    ensures raking_step { RakingStep (rake_token (raking_in out.old st.old kinds.old firsts.old seconds.old m) (decode t))
-        (raking_in out.new st.new kinds.new firsts.new seconds.new result) m result }
+    requires le_t { FIRST_OPERATION ≤ t }
+    ensures raking_step { RakingStep (rake_token (raking_in out.old st.old records.old m) (decode t)) (raking_in out.new st.new records.new result) m result }
 {
-    let top = m.top;
-    if top < 2 {
+    if m.top < 2 {
         return m;
     }
     let low = RakingFills {
-        top: top - 2,
-        at: m.at,
-        next: m.next,
+        top: m.top - 2,
+        ..m
     };
-    let b = st[top - 1];
-    let a = st[top - 2];
-    let o = t - 0xFFF0;
+    let o = t - FIRST_OPERATION;
     let leaf = m.next;
-    let one = 4096 + m.next;
-    if a == 65535 {
-        if b == 65535 {
-            keep(t, out, st, low)
-        } else {
-            make(9 + o, b, 65535, one, out, st, kinds, firsts, seconds, low)
-        }
-    } else {
-        if b == 65535 {
-            make(5 + o, a, 65535, one, out, st, kinds, firsts, seconds, low)
-        } else {
-            make(1 + o, a, b, leaf, out, st, kinds, firsts, seconds, low)
-        }
-    }
+    let one = FIRST_SINGLE + m.next;
+    let (kind, first, second, left) = match (st[m.top - 2], st[m.top - 1]) {
+        (ABSENT, ABSENT) => return keep(t, out, st, low),
+        (ABSENT, b) => (R_RIGHT + o, b, ABSENT, one),
+        (a, ABSENT) => (R_LEFT + o, a, ABSENT, one),
+        (a, b) => (E + o, a, b, leaf),
+    };
+    let node = Record {
+        kind,
+        first,
+        second,
+    };
+    make(node, left, out, st, records, low)
 }
 
 // One token.
+#[tactic(auto, using(crate::proofs::StepsLaws::bare_step))]
 fn rake_token(
     t: u16,
-    out: &mut [u16; 2048],
-    st: &mut [u16; 2048],
-    kinds: &mut [u16; 3072],
-    firsts: &mut [u16; 3072],
-    seconds: &mut [u16; 3072],
+    out: &mut [u16; CODES],
+    st: &mut [u16; CODES],
+    records: &mut Records,
     m: RakingFills,
 ) -> RakingFills
-    requires lengths { Lengths out.old st.old kinds.old firsts.old seconds.old }
     requires raking_room { RakingRoom m }
-    ensures lengths_2 { Lengths out.new st.new kinds.new firsts.new seconds.new }
-    ensures raking_step { RakingStep (rake_token (raking_in out.old st.old kinds.old firsts.old seconds.old m) (decode t))
-        (raking_in out.new st.new kinds.new firsts.new seconds.new result) m result }
+    ensures raking_step { RakingStep (rake_token (raking_in out.old st.old records.old m) (decode t)) (raking_in out.new st.new records.new result) m result }
 {
-    if t < 4096 {
-        let top = m.top;
-        st[top] = t;
-        return RakingFills {
-            top: top + 1,
-            at: m.at,
-            next: m.next,
-        };
-    }
-    if t < 0xFFF0 {
-        rake_one(t, out, st, kinds, firsts, seconds, m)
+    if t < FIRST_SINGLE {
+        st[m.top] = t;
+        RakingFills {
+            top: m.top + 1,
+            ..m
+        }
+    } else if t < FIRST_OPERATION {
+        rake_one(t, out, st, records, m)
     } else {
-        rake_two(t, out, st, kinds, firsts, seconds, m)
+        rake_two(t, out, st, records, m)
     }
 }
 
-// Rakes the tree whose tokens are the first n: the tokens of what is left, and the records made.
+// Rakes the tree of these tokens: the tokens of what is left, and the records made.
 pub fn rake(
-    tokens: &[u16; 2048],
-    n: usize,
-    out: &mut [u16; 2048],
-    st: &mut [u16; 2048],
-    kinds: &mut [u16; 3072],
-    firsts: &mut [u16; 3072],
-    seconds: &mut [u16; 3072],
+    tokens: &[u16],
+    out: &mut [u16; CODES],
+    st: &mut [u16; CODES],
+    records: &mut Records,
     next: u16,
 ) -> Extent
-    requires lengths { Lengths out.old st.old kinds.old firsts.old seconds.old }
-    requires tokens_len { (length tokens.now ≡ 2048) × (n ≤ 2048) × (next + n ≤ 3072) }
-    ensures lengths_2 { Lengths out.new st.new kinds.new firsts.new seconds.new }
-    ensures at_le_n { result.at ≤ n }
-    ensures raked_to { RakedTo tokens.now n next kinds.old firsts.old seconds.old
-        out.new kinds.new firsts.new seconds.new result }
+    requires tokens_few { (length tokens.now ≤ CODES) × (next + length tokens.now ≤ NODES) }
+    ensures at_le_n { result.at ≤ length tokens.now }
+    ensures raked_to { RakedTo tokens.now next records.old out.new records.new result }
 {
     let mut m = RakingFills {
         top: 0,
         at: 0,
         next,
     };
-    let mut i: usize = 0;
-    while i < n {
-        let t = tokens[i];
-        m = rake_token(t, out, st, kinds, firsts, seconds, m);
-        i += 1;
+    for &t in tokens {
+        m = rake_token(t, out, st, records, m);
     }
     Extent {
         at: m.at,

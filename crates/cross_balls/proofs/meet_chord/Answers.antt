@@ -1,5 +1,5 @@
 -- `cross_balls::meet_chord` meets its contract: the difference is negative, or the half chord is 0, or the two sides are the centre less and plus it.
-use Rattle.cross_balls.proofs.BallLaws.{chord_missed, first_fits, last_fits, last_long, chord_none, chord_two}
+use Rattle.cross_balls.proofs.BallLaws.{chord_missed, chord_none, chord_two}
 use borrow.Author.Rules.{rules}
 use Rattle.cross_balls.proofs.meet_chord.Goals as goal
 
@@ -8,15 +8,6 @@ returns-then-whole-off c = search (chord_missed, rules)
 
 pub returns-then-half-eq0 : goal.returns-then-half-eq0
 returns-then-half-eq0 c = search (chord_none, rules)
-
-pub overflow_sub-at : goal.overflow_sub-at
-overflow_sub-at c = search first_fits
-
-pub overflow_add-at : goal.overflow_add-at
-overflow_add-at c = search last_long
-
-pub rank_in-last-requires : goal.rank_in-last-requires
-rank_in-last-requires c = search last_fits
 
 pub returns : goal.returns
 returns c = search (chord_two, rules)

@@ -6,7 +6,7 @@ use Rattle.cross_hits.proofs.BlockLaws.{Gathering}
 use Rattle.cross_hits.proofs.gather.Given as goal
 
 abbrev pub invariant-loop-rest : goal.invariant-loop-rest
-invariant-loop-rest l = (length l.initial.bytes ≡ 256) × ((length l.initial.keys ≡ 512) × Gathering l.probe (cuts_in l.probe l.alone.shapes l.lows l.highs l.halves) l.lows l.highs l.alone l.masks l.halves l.initial.lessers l.initial.greaters l.lessers l.greaters l.bytes l.keys l.rest l.m)
+invariant-loop-rest l = (length l.initial.bytes ≡ 256) × ((length l.initial.keys ≡ 512) × Gathering l.probe (cuts_in l.probe l.alone.shapes l.columns.lows l.columns.highs l.columns.halves) l.columns.lows l.columns.highs l.alone l.masks l.columns.halves l.initial.ranks.lessers l.initial.ranks.greaters l.ranks.lessers l.ranks.greaters l.bytes l.keys l.rest l.m)
 
 abbrev pub decreases-loop-rest : goal.decreases-loop-rest
 decreases-loop-rest l = l.rest

@@ -8,23 +8,23 @@ overflow_sub-i c = search edits_few
 pub next_edit-requires : goal.next_edit-requires
 next_edit-requires c = search act_readable
 
-pub edit-count-requires : goal.edit-count-requires
-edit-count-requires c = (search act_edits, search act_operates)
+pub edit-requires : goal.edit-requires
+edit-requires c = (search act_edits, search act_operates)
 
-pub give-requires : goal.give-requires
-give-requires c = search edit-room
+pub bounds-edit_counts-k : goal.bounds-edit_counts-k
+bounds-edit_counts-k c = search edit-room
 
 pub toggle_one-t-requires : goal.toggle_one-t-requires
 toggle_one-t-requires c = search act_toggles
 
-pub give-requires-in-Wait : goal.give-requires-in-Wait
-give-requires-in-Wait c = search count_room
+pub bounds-counts-i : goal.bounds-counts-i
+bounds-counts-i c = search count_room
 
 pub bounds-roots-i : goal.bounds-roots-i
 bounds-roots-i c = search root_room
 
-pub returns-in-Edit : goal.returns-in-Edit
-returns-in-Edit c = search act_edited
+pub returns-in-Some-clause-acted : goal.returns-in-Some-clause-acted
+returns-in-Some-clause-acted c = search act_edited
 
-pub returns-in-Wait : goal.returns-in-Wait
-returns-in-Wait c = search act_toggled
+pub returns-in-None-clause-acted : goal.returns-in-None-clause-acted
+returns-in-None-clause-acted c = search act_toggled

@@ -1,16 +1,9 @@
--- `job_build::build` meets its promise: a refused sheet ends it, an accepted one is built and given.
-use Rattle.job_build.proofs.BuildLaws.{sheet-refused, sheet-unfit, few_nodes, sheet_built}
-use borrow.Author.Rules.{rules}
+-- `job_build::build` meets its promise: an accepted sheet's tree is built and given.
+use Rattle.job_build.proofs.BuildLaws.{few_nodes, sheet_built}
 use Rattle.job_build.proofs.build.Goals as goal
 
 pub give_built-requires : goal.give_built-requires
-give_built-requires c = search (few_nodes, rules)
+give_built-requires c = few_nodes _ _ _ _ _ _ c.in_ok-prepared.ensures
 
-pub returns-in-Refused : goal.returns-in-Refused
-returns-in-Refused c = search (sheet-refused, rules)
-
-pub returns-in-Unfit : goal.returns-in-Unfit
-returns-in-Unfit c = search (sheet-unfit, rules)
-
-pub returns-in-Ready : goal.returns-in-Ready
-returns-in-Ready c = search (sheet_built, rules)
+pub returns : goal.returns
+returns c = sheet_built _ _ _ _ _ _ c.in_ok-prepared.ensures _ _ _ _ _ _ _ c.give_built.ensures

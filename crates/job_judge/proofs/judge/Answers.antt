@@ -1,29 +1,23 @@
 -- `job_judge::judge` meets its promise: a refused sheet ends it, and with an accepted one their list is judged.
-use Rattle.job_classify.proofs.ClassifyLaws.{codes-within, codes_counted, few_codes}
-use Rattle.job_judge.proofs.JudgeLaws.{sheet-refused, sheet-unfit, their_right, their_wrong, their_refused}
+use Rattle.std.proofs.lemmas.Result.{err_from_is_err_and}
+use Rattle.job_classify.proofs.ClassifyLaws.{codes-within, few_codes}
+use Rattle.job_judge.proofs.JudgeLaws.{sheet-refused, their_opinion, their_refused}
 use borrow.Author.Rules.{rules}
 use Rattle.job_judge.proofs.judge.Goals as goal
 
-pub slice_bounds-codes-end : goal.slice_bounds-codes-end
-slice_bounds-codes-end c = search (codes-within, rules)
+pub returns-in_err-accepted : goal.returns-in_err-accepted
+returns-in_err-accepted c = let p = err_from_is_err_and c.from_residual.result c.from_residual.ensures.1 in rw (p.1, p.2) (sheet-refused _ _ _ _ c.in_err-accepted.ensures)
 
-pub slice_bounds-judge-end : goal.slice_bounds-judge-end
-slice_bounds-judge-end c = search (codes_counted, rules)
+pub slice_bounds-part-end : goal.slice_bounds-part-end
+slice_bounds-part-end c = search (codes-within, rules, c.in_ok-accepted.ensures)
 
 pub judge-requires : goal.judge-requires
-judge-requires c = search (few_codes, rules)
+judge-requires c = search (few_codes, rules, c.in_ok-accepted.ensures)
 
-pub returns-in-Refused : goal.returns-in-Refused
-returns-in-Refused c = search (sheet-refused, rules)
+pub returns-in_err-opinion : goal.returns-in_err-opinion
+returns-in_err-opinion c =
+    let p = err_from_is_err_and c.from_residual-in_err-opinion.result c.from_residual-in_err-opinion.ensures.1 in
+    rw (p.1, p.2) (their_refused c.in_ok-accepted.ensures c.judge.ensures c.in_err-opinion.was)
 
-pub returns-in-Unfit : goal.returns-in-Unfit
-returns-in-Unfit c = search (sheet-unfit, rules)
-
-pub returns-in-Right : goal.returns-in-Right
-returns-in-Right c = search (their_right, rules)
-
-pub returns-in-Wrong : goal.returns-in-Wrong
-returns-in-Wrong c = search (their_wrong, rules)
-
-pub returns-in-Refused-judge : goal.returns-in-Refused-judge
-returns-in-Refused-judge c = search (their_refused, rules)
+pub returns : goal.returns
+returns c = their_opinion c.in_ok-accepted.ensures c.judge.ensures c.in_ok-opinion.was

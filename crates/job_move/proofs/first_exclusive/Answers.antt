@@ -4,8 +4,8 @@ use Rattle.job_move.proofs.first_exclusive.Goals as goal
 pub loop-i-init : goal.loop-i-init
 loop-i-init c = search looked_none
 
-pub returns-then-two-eq65523 : goal.returns-then-two-eq65523
-returns-then-two-eq65523 c = search looked_here
+pub returns-then-two-from : goal.returns-then-two-from
+returns-then-two-from c = search looked_here
 
 pub loop-i-preserved : goal.loop-i-preserved
 loop-i-preserved c = search looked_more

@@ -1,10 +1,6 @@
 -- `job_move::first_exclusive` meets its contract. What is left decides.
-use Prim.Native.Nat.{◌-◌}
 use Rattle.job_move.proofs.Exclusive.{Looked}
 use Rattle.job_move.proofs.first_exclusive.Given as goal
 
 abbrev pub invariant-loop-i : goal.invariant-loop-i
 invariant-loop-i l = Looked l.formula l.i
-
-abbrev pub decreases-loop-i : goal.decreases-loop-i
-decreases-loop-i l = l.n - l.i

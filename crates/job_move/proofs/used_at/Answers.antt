@@ -1,5 +1,5 @@
 -- `job_move::used_at` meets its contract.
-use Rattle.job_move.proofs.Used.{used_two, used_none, used_fits, used_double, used_place, used_some}
+use Rattle.job_move.proofs.Used.{used_two, used_none, used_fits, used_nowhere, used_double, used_place, used_some}
 use borrow.Author.Rules.{rules}
 use Rattle.job_move.proofs.used_at.Goals as goal
 
@@ -20,3 +20,8 @@ overflow_add-result c = record { fits = search (used_place, rules) }
 
 pub returns : goal.returns
 returns c = search (used_some, rules)
+
+pub returns-in_err-i : goal.returns-in_err-i
+returns-in_err-i c =
+    let h = c.in_err-i.ensures in
+    rw c.from_residual.ensures (search used_nowhere)

@@ -1,22 +1,16 @@
 -- `job_run::run_toggles` meets its contract: the toggles and the answer lists are judged, then the run is given.
-use Rattle.job_run.proofs.RunLaws.{toggle-wrong, roots-short, counts-short, labels-short, run_room, run_given}
-use borrow.Author.Rules.{rules}
+use mathlib.Core.Path.{refl}
+use Rattle.job_run.proofs.RunLaws.{run_room, run_given}
 use Rattle.job_run.proofs.run_toggles.Goals as goal
 
-pub returns-then-wrong-toggles : goal.returns-then-wrong-toggles
-returns-then-wrong-toggles c = search (toggle-wrong, rules)
-
-pub returns-then-roots-n : goal.returns-then-roots-n
-returns-then-roots-n c = search (roots-short, rules)
-
-pub returns-then-counts-n : goal.returns-then-counts-n
-returns-then-counts-n c = search (counts-short, rules)
-
-pub returns-then-labels-nodes : goal.returns-then-labels-nodes
-returns-then-labels-nodes c = search (labels-short, rules)
-
 pub run_tree-requires : goal.run_tree-requires
-run_tree-requires c = search (run_room, rules)
+run_tree-requires c =
+    run_room c.args.toggles.now c.args.roots.now c.args.counts.now c.args.labels.now c.requires.0 c.requires.1
+    (c.in_ok-all_named.ensures.so refl) (c.in_ok-room.ensures.so refl) (c.in_ok-room-2.ensures.so refl) (c.in_ok-room-3.ensures.so refl)
 
 pub returns : goal.returns
-returns c = search (run_given, rules)
+returns c =
+    run_given c.args.names c.args.built.nodes c.args.toggles.now c.args.roots.now c.args.counts.now c.args.labels.now (c.in_ok-all_named.ensures.so refl)
+    c.args.records.now.kinds c.args.records.now.firsts c.args.records.now.seconds c.args.built.leaves
+    (c.in_ok-room.ensures.so refl) (c.in_ok-room-2.ensures.so refl) (c.in_ok-room-3.ensures.so refl)
+    c.run_tree.new.roots c.run_tree.new.counts c.run_tree.new.labels c.run_tree.ensures

@@ -3,7 +3,4 @@ use Rattle.labels.proofs.Fills.{ChainsFrom}
 use Rattle.labels.proofs.fill_chains.Given as goal
 
 abbrev pub invariant-loop-j : goal.invariant-loop-j
-invariant-loop-j l = ChainsFrom l.kinds l.firsts l.seconds l.leaves l.nodes l.j l.links
-
-abbrev pub decreases-loop-j : goal.decreases-loop-j
-decreases-loop-j l = l.j
+invariant-loop-j l = ChainsFrom l.records.kinds l.records.firsts l.records.seconds l.fn.size.leaves l.fn.size.nodes l.j l.links

@@ -3,7 +3,4 @@ use Rattle.labels.proofs.Fills.{ParentsFrom}
 use Rattle.labels.proofs.fill_parents.Given as goal
 
 abbrev pub invariant-loop-j : goal.invariant-loop-j
-invariant-loop-j l = ParentsFrom l.kinds l.firsts l.seconds l.nodes l.j l.initial.links l.links
-
-abbrev pub decreases-loop-j : goal.decreases-loop-j
-decreases-loop-j l = l.j
+invariant-loop-j l = ParentsFrom l.records.kinds l.records.firsts l.records.seconds l.fn.size.nodes l.j l.initial.links l.links

@@ -1,5 +1,5 @@
 -- `labels::label` meets its contract: each range of kinds is one case of the rule.
-use Rattle.labels.proofs.Ranges.{arm_leaf, arm_E, arm_left, arm_right, arm_S, arm_C, arm_rest}
+use Rattle.labels.proofs.Ranges.{arm_leaf, arm_E, arm_left, arm_right, arm_S, arm_rest}
 use Rattle.labels.proofs.label.Goals as goal
 
 pub returns-in-0 : goal.returns-in-0
@@ -7,9 +7,6 @@ returns-in-0 c = search arm_leaf
 
 pub returns-in-13 : goal.returns-in-13
 returns-in-13 c = search arm_S
-
-pub returns-in-14 : goal.returns-in-14
-returns-in-14 c = search arm_C
 
 pub returns-in-1-to-4 : goal.returns-in-1-to-4
 returns-in-1-to-4 c = search arm_E

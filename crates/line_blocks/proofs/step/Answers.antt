@@ -14,16 +14,13 @@ block_row-row-requires c =
     (ask_evaluable ask, ask_fillable ask c.plan-ended.result c.plan-ended.ensures.0 c.plan-ended.ensures.1)
 
 pub sweep-m-requires : goal.sweep-m-requires
-sweep-m-requires c = (ask_sweepable c.requires.0.ask c.plan-ended.result c.plan-ended.ensures.0 c.plan-ended.ensures.1 (search rules), c.plan-ended.ensures.1, c.requires.1.events_sized)
+sweep-m-requires c = (ask_sweepable c.requires.0.ask c.plan-ended.result c.plan-ended.ensures.0 c.plan-ended.ensures.1 (search rules), c.plan-ended.ensures.1)
 
-pub deliver-after-requires : goal.deliver-after-requires
-deliver-after-requires c = step_delivering _ (block_made c.requires.0.ask c.plan-ended.result c.plan-ended.ensures.0 c.plan-ended.ensures.1 c.block_row-row.ensures c.sweep-m.ensures refl c.plan-ended.ensures.2) c.requires.0
-
-pub goes_past-requires : goal.goes_past-requires
-goes_past-requires c = c.plan-ended.ensures.0.sized.lasts
+pub deliver-run-requires : goal.deliver-run-requires
+deliver-run-requires c = step_delivering _ c.is_some.ensures (block_made c.requires.0.ask c.plan-ended.result c.plan-ended.ensures.0 c.plan-ended.ensures.1 c.block_row-row.ensures c.sweep-m.ensures refl c.plan-ended.ensures.2) c.requires.0
 
 pub shape_of-words : goal.shape_of-words
 shape_of-words c = c.block_row-row.ensures.long
 
-pub returns : goal.returns
-returns c = step_done _ (block_made c.requires.0.ask c.plan-ended.result c.plan-ended.ensures.0 c.plan-ended.ensures.1 c.block_row-row.ensures c.sweep-m.ensures c.goes_past.ensures c.plan-ended.ensures.2) c.deliver-after.ensures
+pub returns-clause-step : goal.returns-clause-step
+returns-clause-step c = step_done _ c.is_some.ensures (block_made c.requires.0.ask c.plan-ended.result c.plan-ended.ensures.0 c.plan-ended.ensures.1 c.block_row-row.ensures c.sweep-m.ensures c.goes_past.ensures c.plan-ended.ensures.2) c.deliver-run.ensures.put

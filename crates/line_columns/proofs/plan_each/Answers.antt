@@ -2,17 +2,17 @@ use Rattle.line_columns.proofs.PlanLaws.{words_none, words_next, words_more, wor
 use borrow.Author.Rules.{rules}
 use Rattle.line_columns.proofs.plan_each.Goals as goal
 
-pub loop-f-init : goal.loop-f-init
-loop-f-init c = search (words_none, rules)
+pub loop-k-init : goal.loop-k-init
+loop-k-init c = search (words_none, rules)
 
 pub plan_word-f-requires : goal.plan_word-f-requires
 plan_word-f-requires c = search (words_next, rules)
 
-pub returns-then-f-end : goal.returns-then-f-end
-returns-then-f-end c = search (words_over, rules)
+pub returns-then-f-k : goal.returns-then-f-k
+returns-then-f-k c = search (words_over, rules)
 
-pub loop-f-preserved : goal.loop-f-preserved
-loop-f-preserved c = search (words_more, rules)
+pub loop-k-preserved : goal.loop-k-preserved
+loop-k-preserved c = search (words_more, rules)
 
 pub returns : goal.returns
 returns c = search (words_full, rules)

@@ -4,7 +4,7 @@ use Rattle.line_columns.specs.Planning.{WordPlanning}
 use Rattle.line_columns.proofs.plan_word.Given as goal
 
 abbrev pub invariant-loop-at : goal.invariant-loop-at
-invariant-loop-at l = WordPlanning l.names l.rows l.line l.count l.from.i l.from.q l.lasts l.initial.at.next.c l.cols l.at.lasts l.at.next.c l.at.next.i l.at.next.q
+invariant-loop-at l = WordPlanning l.starts.names l.starts.rows.now l.line l.starts.count l.from.i l.from.q l.lasts l.initial.at.next.c l.cols l.at
 
 abbrev pub decreases-loop-at : goal.decreases-loop-at
 decreases-loop-at l = l.end - l.at.next.c

@@ -1,16 +1,15 @@
 -- A block full, or what is left.
 use Rattle.line_columns.proofs.RunLaws.{runs_none, runs-free, runs-line}
 use borrow.Author.Rules.{rules}
+use borrow.Author.Tests.{ltb-true}
 use Rattle.line_columns.proofs.run_length.Goals as goal
+use Rattle.line_columns.proofs.run_length.Goals.{then-count-f, else-count-f}
 
-pub returns-then-i-line : goal.returns-then-i-line
-returns-then-i-line c = search (runs_none, rules)
+pub returns-then-n-eq0 : goal.returns-then-n-eq0
+returns-then-n-eq0 c = search (runs_none, rules)
 
-pub returns-then-count-q : goal.returns-then-count-q
-returns-then-count-q c = search (runs-free, rules)
+pub returns-then-line-f : goal.returns-then-line-f
+returns-then-line-f c = elim c.if-count-f.branch [ then-count-f w ↦ search (runs-free, rules) | else-count-f w ↦ search (runs-line, ltb-true, rules) ]
 
-pub returns-then-wide_long-q : goal.returns-then-wide_long-q
-returns-then-wide_long-q c = search (runs-line, rules)
-
-pub returns : goal.returns
-returns c = search (runs_none, rules)
+pub returns-else-line-f : goal.returns-else-line-f
+returns-else-line-f c = search (runs_none, rules)

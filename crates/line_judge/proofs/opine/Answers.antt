@@ -5,13 +5,13 @@ use borrow.Author.Rules.{rules}
 use Rattle.line_judge.proofs.opine.Goals as goal
 
 pub blocks-requires : goal.blocks-requires
-blocks-requires c = (search few_rows, search rules, search rules)
+blocks-requires c = (search few_rows, search rules)
 
-pub returns-then-call-le16 : goal.returns-then-call-le16
-returns-then-call-le16 c = search opinion-given
+pub returns-then-call-le-FEW_ROWS : goal.returns-then-call-le-FEW_ROWS
+returns-then-call-le-FEW_ROWS c = search opinion-given
 
 pub blocks-requires-2 : goal.blocks-requires-2
-blocks-requires-2 c = (search all-rows, search rules, search rules)
+blocks-requires-2 c = (search all-rows, search rules)
 
 pub returns : goal.returns
 returns c = search opinion-given

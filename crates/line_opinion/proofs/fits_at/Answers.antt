@@ -1,16 +1,11 @@
 -- The line, then the places in turn.
-use Rattle.line_opinion.proofs.EatLaws.{fits_line, fits-apart, fits-short, fits_by}
-use borrow.Author.Rules.{rules}
+use Rattle.std.proofs.Common.{arith}
+use Rattle.std.proofs.lemmas.Grind.{common_steps}
 use Rattle.line_opinion.proofs.fits_at.Goals as goal
+use Rattle.line_opinion.proofs.fits_at.Goals.{then-list-j, else-list-j, then-same_place, else-same_place}
 
-pub returns-then-lines-j : goal.returns-then-lines-j
-returns-then-lines-j c = search (fits_line, rules)
-
-pub returns-then-not_beyond : goal.returns-then-not_beyond
-returns-then-not_beyond c = search (fits-short, rules)
-
-pub returns-then-same_place : goal.returns-then-same_place
-returns-then-same_place c = search (fits_by, rules)
-
-pub returns : goal.returns
-returns c = search (fits-apart, rules)
+pub returns-else-start-end : goal.returns-else-start-end
+returns-else-start-end c = elim c.if-list-j.branch [
+  | then-list-j w ↦ elim c.if-same_place.branch [ then-same_place x ↦ grind (arith, common_steps) | else-same_place x ↦ grind (arith, common_steps) ]
+  | else-list-j w ↦ elim c.if-same_place.branch [ then-same_place x ↦ grind (arith, common_steps) | else-same_place x ↦ grind (arith, common_steps) ]
+]

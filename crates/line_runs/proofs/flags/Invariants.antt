@@ -1,10 +1,6 @@
--- Eight at a time.
-use Prim.Native.Nat.{◌-◌}
-use Rattle.line_runs.proofs.EndLaws.{FlagsTo}
+-- One after another.
+use Rattle.line_runs.specs.Runs.{Ends}
 use Rattle.line_runs.proofs.flags.Given as goal
 
 abbrev pub invariant-loop-t : goal.invariant-loop-t
-invariant-loop-t l = FlagsTo l.line l.i l.t l.w
-
-abbrev pub decreases-loop-t : goal.decreases-loop-t
-decreases-loop-t l = 64 - l.t
+invariant-loop-t l = Ends l.line l.i l.t l.w

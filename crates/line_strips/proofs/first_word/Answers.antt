@@ -5,7 +5,7 @@ use borrow.Author.Rules.{rules}
 use Rattle.line_strips.proofs.first_word.Goals as goal
 
 pub lay-requires : goal.lay-requires
-lay-requires c = (search rules, search rules, search rules, search (layable_word, rules))
+lay-requires c = (search rules, search rules, search (layable_word, rules))
 
 pub returns : goal.returns
 returns c = search (word_starts, rules)

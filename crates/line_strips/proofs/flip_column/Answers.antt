@@ -1,10 +1,10 @@
 -- `line_strips::flip_column` meets its contract.
-use Rattle.line_strips.proofs.Flips.{row_there, row-bytes, column_start, crossing_there, crossing_named, column_crossing}
+use Rattle.line_strips.proofs.Flips.{row_there, row_bytes, column_start, crossing_there, crossing_named, column_crossing}
 use borrow.Author.Rules.{rules}
 use Rattle.line_strips.proofs.flip_column.Goals as goal
 
 pub flip_start-requires : goal.flip_start-requires
-flip_start-requires c = (search rules, search rules, search (row_there, rules), search (row-bytes, rules))
+flip_start-requires c = (search rules, search rules, search (row_there, rules), search (row_bytes, rules))
 
 pub returns-then-o-ge-COLUMNS : goal.returns-then-o-ge-COLUMNS
 returns-then-o-ge-COLUMNS c = search (column_start, rules)

@@ -1,10 +1,6 @@
 -- `line_strips::flip_some` meets its contract.
-use Prim.Native.Nat.{◌-◌}
 use Rattle.line_strips.proofs.Flips.{FlippedTo}
 use Rattle.line_strips.proofs.flip_some.Given as goal
 
 abbrev pub invariant-loop-s : goal.invariant-loop-s
 invariant-loop-s l = FlippedTo l.row l.k l.m l.a l.s l.e l.initial.words l.words
-
-abbrev pub decreases-loop-s : goal.decreases-loop-s
-decreases-loop-s l = l.e - l.s

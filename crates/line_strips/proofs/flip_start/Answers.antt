@@ -1,5 +1,5 @@
 -- `line_strips::flip_start` meets its contract.
-use Rattle.line_strips.proofs.Flips.{start-flipped, part_bytes}
+use Rattle.line_strips.proofs.Flips.{start_flipped, part_bytes}
 use borrow.Author.Rules.{rules}
 use Rattle.line_strips.proofs.flip_start.Goals as goal
 
@@ -7,4 +7,4 @@ pub flip_row-requires : goal.flip_row-requires
 flip_row-requires c = (search rules, search rules, search (part_bytes, rules))
 
 pub returns : goal.returns
-returns c = search (start-flipped, rules)
+returns c = search (start_flipped, rules)

@@ -5,5 +5,5 @@ use Rattle.line_sweeping.proofs.differing.Goals as goal
 pub returns-then-metal : goal.returns-then-metal
 returns-then-metal c = λ b h. rw c.if-metal.true (differs_on _ b h)
 
-pub returns : goal.returns
-returns c = λ b h. rw c.if-metal.false (differs_off _)
+pub returns-else-metal : goal.returns-else-metal
+returns-else-metal c = λ b h. rw c.if-metal.false (differs_off _)

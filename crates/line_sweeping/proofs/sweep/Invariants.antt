@@ -1,10 +1,6 @@
 -- Word by word.
-use Prim.Native.Nat.{◌-◌}
 use Rattle.line_sweeping.proofs.EventLaws.{Worded}
 use Rattle.line_sweeping.proofs.sweep.Given as goal
 
-abbrev pub invariant-loop-e : goal.invariant-loop-e
-invariant-loop-e l = Worded l.line l.at l.p.first l.cols l.row l.lasts l.p.metal l.n l.k l.e l.events l.f
-
-abbrev pub decreases-loop-e : goal.decreases-loop-e
-decreases-loop-e l = l.n - l.e
+abbrev pub invariant-loop-k : goal.invariant-loop-k
+invariant-loop-k l = Worded l.b.line.now l.b.at.now l.b.part.first l.b.cols.now l.b.row.now l.b.lasts.now l.b.part.metal l.n l.k l.events l.f

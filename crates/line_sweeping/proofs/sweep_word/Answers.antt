@@ -5,11 +5,14 @@ use Rattle.line_sweeping.proofs.sweep_word.Goals as goal
 pub loop-c-init : goal.loop-c-init
 loop-c-init c = search (going_start, rules)
 
-pub returns-then-e-d : goal.returns-then-e-d
-returns-then-e-d c = search (going_rest, rules)
-
 pub step-f-requires : goal.step-f-requires
-step-f-requires c = (search (going_low, rules), search (going_reached, rules))
+step-f-requires c = search (going_reached, rules)
+
+pub is_on-requires : goal.is_on-requires
+is_on-requires c = search (going_low, rules)
+
+pub returns-then-e-c : goal.returns-then-e-c
+returns-then-e-c c = search (going_rest, rules)
 
 pub loop-c-preserved : goal.loop-c-preserved
 loop-c-preserved c = search (going_on, rules)

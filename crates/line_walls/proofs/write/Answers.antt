@@ -7,11 +7,11 @@ use Rattle.line_walls.proofs.write.Goals as goal
 pub blocks-requires : goal.blocks-requires
 blocks-requires c = (search few_rows, search call-room, search rules)
 
-pub returns-then-call-le16 : goal.returns-then-call-le16
-returns-then-call-le16 c = search walls-given
+pub returns-then-call-le-FEW_ROWS-clause-given : goal.returns-then-call-le-FEW_ROWS-clause-given
+returns-then-call-le-FEW_ROWS-clause-given c = search walls-given
 
 pub blocks-requires-2 : goal.blocks-requires-2
 blocks-requires-2 c = (search all-rows, search call-room, search rules)
 
-pub returns : goal.returns
-returns c = search walls-given
+pub returns-clause-given : goal.returns-clause-given
+returns-clause-given c = search walls-given

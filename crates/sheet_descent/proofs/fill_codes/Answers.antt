@@ -8,5 +8,5 @@ returns-then-edition-eq1 c = search in_postfix_lem
 pub fill_first-requires : goal.fill_first-requires
 fill_first-requires c = search good_second
 
-pub returns : goal.returns
-returns c = search in_prefix
+pub returns-else-edition-eq1 : goal.returns-else-edition-eq1
+returns-else-edition-eq1 c = search in_prefix

@@ -1,15 +1,16 @@
 -- `sheet_descent::judge_first` meets its contract.
-use Rattle.sheet_descent.proofs.Judged.{judged-wrong, judged-short, judged-over, judged_good}
+use Rattle.sheet_descent.proofs.Judged.{judged-wrong, judged-short, judged-whole}
+use borrow.Author.Rules.{rules}
 use Rattle.sheet_descent.proofs.judge_first.Goals as goal
 
-pub returns-then-end-formula : goal.returns-then-end-formula
-returns-then-end-formula c = search judged-wrong
+pub returns-in_err-need-in-Ok : goal.returns-in_err-need-in-Ok
+returns-in_err-need-in-Ok c = rw (judged-whole _ _ _ _ c.requires _ _ _ c.in-Ok.ensures.descended) (search rules)
 
-pub returns-then-end-eq1 : goal.returns-then-end-eq1
-returns-then-end-eq1 c = search judged-short
+pub returns-in_ok-need-in-Ok : goal.returns-in_ok-need-in-Ok
+returns-in_ok-need-in-Ok c = rw (judged-whole _ _ _ _ c.requires _ _ _ c.in-Ok.ensures.descended) (search rules)
 
-pub returns-then-end-formula-2 : goal.returns-then-end-formula-2
-returns-then-end-formula-2 c = search judged-over
+pub returns-in-Err-Wrong : goal.returns-in-Err-Wrong
+returns-in-Err-Wrong c = rw c.at.ensures (judged-wrong _ _ _ _ c.requires _ (rw c.in-Err-Wrong.field-0-is at c.in-Err-Wrong.ensures.descended))
 
-pub returns : goal.returns
-returns c = search judged_good
+pub returns-in-Err-Short : goal.returns-in-Err-Short
+returns-in-Err-Short c = search (judged-short, rules)

@@ -12,13 +12,13 @@ pub bounds-laid-at : goal.bounds-laid-at
 bounds-laid-at c = search (lays_room, rules)
 
 pub settle-held-requires : goal.settle-held-requires
-settle-held-requires c = (search rules, search rules, search rules, search lays_low)
+settle-held-requires c = (search rules, search rules, search lays_low)
 
-pub loop-at-preserved-then-code-lt65520 : goal.loop-at-preserved-then-code-lt65520
-loop-at-preserved-then-code-lt65520 c = search (lays_leaf, rules)
+pub loop-at-preserved-then-code-lt-FIRST_OPERATION : goal.loop-at-preserved-then-code-lt-FIRST_OPERATION
+loop-at-preserved-then-code-lt-FIRST_OPERATION c = search (lays_leaf, rules)
 
-pub bounds-laid-many : goal.bounds-laid-many
-bounds-laid-many c = search (lays_front, rules)
+pub bounds-laid-held : goal.bounds-laid-held
+bounds-laid-held c = search (lays_front, rules)
 
 pub loop-at-preserved : goal.loop-at-preserved
 loop-at-preserved c = search (lays_operation, rules)

@@ -3,7 +3,4 @@ use Rattle.sheet_laying.proofs.Laying.{Lays}
 use Rattle.sheet_laying.proofs.lay_first.Given as goal
 
 abbrev pub invariant-loop-at : goal.invariant-loop-at
-invariant-loop-at l = Lays l.formula l.n l.initial.laid l.laid l.many l.last l.at
-
-abbrev pub decreases-loop-at : goal.decreases-loop-at
-decreases-loop-at l = l.at
+invariant-loop-at l = Lays l.formula l.n l.initial.laid l.laid l.held.many l.held.last l.at

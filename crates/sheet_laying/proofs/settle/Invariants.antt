@@ -5,8 +5,8 @@ use lib.ListN.{length}
 use Rattle.sheet_laying.proofs.Laying.{Settling}
 use Rattle.sheet_laying.proofs.settle.Given as goal
 
-abbrev pub invariant-loop-waits : goal.invariant-loop-waits
-invariant-loop-waits l = (l.held ≤ l.many) × (length l.laid ≡ 2048) × Settling l.initial.laid l.many l.last l.laid l.held l.waits l.at
+abbrev pub invariant-loop-held : goal.invariant-loop-held
+invariant-loop-held l = (l.held.many ≤ l.initial.held.many) × (length l.laid ≡ 2048) × Settling l.initial.laid l.initial.held.many l.initial.held.last l.laid l.held.many l.held.last l.at
 
-abbrev pub decreases-loop-waits : goal.decreases-loop-waits
-decreases-loop-waits l = l.held
+abbrev pub decreases-loop-held : goal.decreases-loop-held
+decreases-loop-held l = l.held.many

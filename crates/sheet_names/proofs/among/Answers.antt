@@ -4,8 +4,8 @@ use Rattle.sheet_names.proofs.among.Goals as goal
 pub past-e-requires : goal.past-e-requires
 past-e-requires c = search walk_inside
 
-pub returns-then-same : goal.returns-then-same
-returns-then-same c = search taken_here
+pub returns-then-eq : goal.returns-then-eq
+returns-then-eq c = search taken_here
 
 pub loop-left-preserved : goal.loop-left-preserved
 loop-left-preserved c = (search walk_less, search taken-on)

@@ -8,5 +8,5 @@ returns-then-among c = search whose_customer
 pub returns-then-among-2 : goal.returns-then-among-2
 returns-then-among-2 c = search whose_fitting
 
-pub returns : goal.returns
-returns c = search whose_nobody
+pub returns-else-among-2 : goal.returns-else-among-2
+returns-else-among-2 c = search whose_nobody

@@ -1,16 +1,13 @@
-use borrow.Author.Rules.{rules}
-use Rattle.sheet.proofs.Bounds.{bounds}
-use Rattle.sheet_names.proofs.NameSteps.{good_low, good_high, good_on, good_all}
+use Rattle.std.proofs.Common.{rules, tests}
+use mathlib.Core.Path.{◌∙◌}
+use mathlib.Core.Bool.{◌&&◌}
+use lib.Dec.{leb}
+use Rattle.std.proofs.lemmas.Iterator.{YieldsList-from_slice}
+use Rattle.std.proofs.lemmas.Iterator.Search.{all_from_yields_List}
+use Rattle.sheet_names.proofs.NameSteps.{good_all}
 use Rattle.sheet_names.proofs.good_bytes.Goals as goal
 
-pub returns-then-x-lt33 : goal.returns-then-x-lt33
-returns-then-x-lt33 c = search (good_low, bounds)
-
-pub returns-then-x-gt126 : goal.returns-then-x-gt126
-returns-then-x-gt126 c = search (good_high, bounds)
-
-pub loop-i-preserved : goal.loop-i-preserved
-loop-i-preserved c = (search rules, search good_on)
-
 pub returns : goal.returns
-returns c = search good_all
+returns c =
+    all_from_yields_List (λ x. leb 0x21 x && leb x 0x7E) _ _ c.all.result c.all.ensures.ran (YieldsList-from_slice c.args.b.now cc) (λ x b q k. search (rules, tests))
+    ∙ good_all c.args.b.now

@@ -1,9 +1,8 @@
-use borrow.Author.Rules.{rules}
 use Rattle.sheet_names.proofs.NameSteps.{has_on, has_all}
 use Rattle.sheet_names.proofs.key_among.Goals as goal
 
-pub loop-i-preserved : goal.loop-i-preserved
-loop-i-preserved c = (search rules, search (has_on, rules))
+pub loop-k-preserved : goal.loop-k-preserved
+loop-k-preserved c = search has_on
 
 pub returns : goal.returns
-returns c = search (has_all, rules)
+returns c = search has_all

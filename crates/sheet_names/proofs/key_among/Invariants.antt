@@ -1,13 +1,9 @@
--- `sheet_names::key_among` meets its contract. The invariant: the key is among the first ones exactly if it was found or is among those from i on.
+-- `sheet_names::key_among` meets its contract. The invariant: the key is among the keys exactly if it was found or is among those from here on.
 use mathlib.Core.Path.{◌≡◌}
 use mathlib.Core.Bool.{◌||◌}
-use Prim.Native.Nat.{◌≤◌, ◌-◌}
-use lib.ListN.{take, drop}
+use lib.ListN.{drop}
 use Rattle.sheet_names.specs.Keys.{has}
 use Rattle.sheet_names.proofs.key_among.Given as goal
 
-abbrev pub invariant-loop-i : goal.invariant-loop-i
-invariant-loop-i l = (l.i ≤ l.names) × (has (take l.names l.keys) l.key ≡ (l.found || has (drop l.i (take l.names l.keys)) l.key))
-
-abbrev pub decreases-loop-i : goal.decreases-loop-i
-decreases-loop-i l = l.names - l.i
+abbrev pub invariant-loop-k : goal.invariant-loop-k
+invariant-loop-k l = has l.keys l.key ≡ (l.found || has (drop l.k-index l.keys) l.key)

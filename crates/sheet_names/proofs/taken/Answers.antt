@@ -2,5 +2,5 @@
 use Rattle.sheet_names.proofs.NameSteps.{taken_unkeyed}
 use Rattle.sheet_names.proofs.taken.Goals as goal
 
-pub returns : goal.returns
-returns c = search taken_unkeyed
+pub returns-else-key_among : goal.returns-else-key_among
+returns-else-key_among c = search taken_unkeyed

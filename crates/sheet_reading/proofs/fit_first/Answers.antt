@@ -6,5 +6,5 @@ use Rattle.sheet_reading.proofs.fit_first.Goals as goal
 pub returns-then-fitted : goal.returns-then-fitted
 returns-then-fitted c = search (first_fitted, rules)
 
-pub returns : goal.returns
-returns c = search (first-none, rules)
+pub returns-else-fitted : goal.returns-else-fitted
+returns-else-fitted c = search (first-none, rules)

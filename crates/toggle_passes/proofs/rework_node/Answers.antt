@@ -9,8 +9,8 @@ returns-then-v-labels c = search settled_same
 pub put_in-requires : goal.put_in-requires
 put_in-requires c = search (still_rising, above_hand, rules)
 
-pub returns-then-p-nodes : goal.returns-then-p-nodes
-returns-then-p-nodes c = search settled_put
+pub returns-then-p-tree : goal.returns-then-p-tree
+returns-then-p-tree c = search settled_put
 
 pub returns : goal.returns
 returns c = search settled_top

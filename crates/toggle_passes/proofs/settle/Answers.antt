@@ -6,8 +6,8 @@ use Rattle.toggle_passes.proofs.settle.Goals as goal
 pub loop-m-init : goal.loop-m-init
 loop-m-init c = search settling_start
 
-pub rework_node-after-requires : goal.rework_node-after-requires
-rework_node-after-requires c = search (settling_ripe, rules)
+pub rework_node-requires : goal.rework_node-requires
+rework_node-requires c = search (settling_ripe, rules)
 
 pub overflow_add-count : goal.overflow_add-count
 overflow_add-count c = search (settling_fits, lit<)
@@ -18,5 +18,5 @@ loop-m-smaller c = search (fewer, settling_few, lit<)
 pub loop-m-preserved : goal.loop-m-preserved
 loop-m-preserved c = search settling_on
 
-pub returns-clause-by_index : goal.returns-clause-by_index
-returns-clause-by_index c = search settling_ends
+pub returns : goal.returns
+returns c = search settling_ends

@@ -5,7 +5,7 @@ use Rattle.toggle_passes.proofs.Settles.{Settling}
 use Rattle.toggle_passes.proofs.settle.Given as goal
 
 abbrev pub invariant-loop-m : goal.invariant-loop-m
-invariant-loop-m l = Settling l.kinds l.firsts l.seconds l.size.leaves l.size.nodes l.links l.initial.labels (all l.initial.words l.initial.m) l.labels l.words l.m l.count
+invariant-loop-m l = Settling l.tree.records.now.kinds l.tree.records.now.firsts l.tree.records.now.seconds l.tree.size.leaves l.tree.size.nodes l.tree.links.now l.initial.labels (all l.initial.words l.initial.m) l.labels l.words l.m l.count
 
 abbrev pub decreases-loop-m : goal.decreases-loop-m
 decreases-loop-m l = 3072 - l.count

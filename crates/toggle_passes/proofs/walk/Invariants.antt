@@ -4,7 +4,7 @@ use Rattle.toggle_passes.proofs.Upwards.{Walking}
 use Rattle.toggle_passes.proofs.walk.Given as goal
 
 abbrev pub invariant-loop-p : goal.invariant-loop-p
-invariant-loop-p l = Walking l.kinds l.firsts l.seconds l.size.leaves l.size.nodes l.links l.node l.initial.labels l.p l.labels l.count
+invariant-loop-p l = Walking l.tree.records.now.kinds l.tree.records.now.firsts l.tree.records.now.seconds l.tree.size.leaves l.tree.size.nodes l.tree.links.now l.node l.initial.labels l.p l.labels l.count
 
 abbrev pub decreases-loop-p : goal.decreases-loop-p
-decreases-loop-p l = l.size.nodes - l.p
+decreases-loop-p l = l.tree.size.nodes - l.p

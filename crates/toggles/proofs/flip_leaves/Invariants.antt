@@ -4,7 +4,7 @@ use Rattle.toggles.proofs.Flipping.{Flipping}
 use Rattle.toggles.proofs.flip_leaves.Given as goal
 
 abbrev pub invariant-loop-a : goal.invariant-loop-a
-invariant-loop-a l = Flipping l.kinds l.firsts l.seconds l.size.leaves l.size.nodes l.links l.s l.initial.labels l.a l.labels l.words l.m
+invariant-loop-a l = Flipping l.tree.records.now.kinds l.tree.records.now.firsts l.tree.records.now.seconds l.tree.size.leaves l.tree.size.nodes l.tree.links.now l.s l.initial.labels l.a l.labels l.words l.m
 
 abbrev pub decreases-loop-a : goal.decreases-loop-a
-decreases-loop-a l = l.size.leaves - l.a
+decreases-loop-a l = l.tree.size.leaves - l.a

@@ -5,5 +5,5 @@ use Rattle.toggles.proofs.put_node.Goals as goal
 pub returns-then-p-nodes : goal.returns-then-p-nodes
 returns-then-p-nodes c = search node_put
 
-pub returns : goal.returns
-returns c = search node-none
+pub returns-else-p-nodes : goal.returns-else-p-nodes
+returns-else-p-nodes c = search node-none

@@ -1,16 +1,15 @@
 use borrow.Author.Rules.{rules}
-use mathlib.Core.Path.{refl}
 use Rattle.tree_dwarf.proofs.RoundLaws.{contracting_start, contracting_rooted, contracting_more, contracting_end}
 use Rattle.tree_dwarf.proofs.contract.Goals as goal
 
-pub loop-left-init : goal.loop-left-init
-loop-left-init c = contracting_start refl refl (search rules) (search rules)
+pub loop-m-init : goal.loop-m-init
+loop-m-init c = search (contracting_start, rules)
 
-pub round-p-requires-clause-lt_n : goal.round-p-requires-clause-lt_n
-round-p-requires-clause-lt_n c = (search rules, search contracting_rooted)
+pub round-m-requires : goal.round-m-requires
+round-m-requires c = search (contracting_rooted, rules)
 
-pub loop-left-preserved : goal.loop-left-preserved
-loop-left-preserved c = search (contracting_more, rules)
+pub loop-m-preserved : goal.loop-m-preserved
+loop-m-preserved c = search (contracting_more, rules)
 
 pub returns : goal.returns
 returns c = search (contracting_end, rules)

@@ -1,9 +1,9 @@
--- `tree_dwarf::contract` meets its contract. The invariant: of any tree that the tokens are of, what is left to do comes to the whole. Assumes nothing.
+-- Of any tree that the tokens are of, what is left to do comes to the whole.
 use Rattle.tree_dwarf.proofs.RoundLaws.{Contracting}
 use Rattle.tree_dwarf.proofs.contract.Given as goal
 
-abbrev pub invariant-loop-left : goal.invariant-loop-left
-invariant-loop-left l = Contracting l.initial.a l.n l.next l.initial.kinds l.initial.firsts l.initial.seconds l.a l.kinds l.firsts l.seconds l.b l.st l.left l.count l.rounds
+abbrev pub invariant-loop-m : goal.invariant-loop-m
+invariant-loop-m l = Contracting l.initial.a l.fn.planted l.initial.records l.a l.records l.m l.rounds
 
-abbrev pub decreases-loop-left : goal.decreases-loop-left
-decreases-loop-left l = l.left
+abbrev pub decreases-loop-m : goal.decreases-loop-m
+decreases-loop-m l = l.m.at

@@ -1,4 +1,3 @@
--- A crossing that stands first at its position is its own answer; of several the lowest that is flipped is taken.
 use Rattle.line_writing.proofs.GroupLaws.{group_positions, group_shaped, group-alone}
 use borrow.Author.Rules.{rules}
 use Rattle.line_writing.proofs.shapes.group_shape.Goals as goal
@@ -6,8 +5,8 @@ use Rattle.line_writing.proofs.shapes.group_shape.Goals as goal
 pub stands_first-requires : goal.stands_first-requires
 stands_first-requires c = (search rules, search (group_positions, rules))
 
-pub bounds-shape-i : goal.bounds-shape-i
-bounds-shape-i c = search (group_shaped, rules)
+pub bounds-x-i : goal.bounds-x-i
+bounds-x-i c = search (group_shaped, rules)
 
 pub returns-then-stands_first : goal.returns-then-stands_first
 returns-then-stands_first c = search (group-alone, rules)

@@ -1,9 +1,6 @@
--- Back from a crossing as long as the one before acts together with it.
+-- Crossing by crossing, back from i.
 use Rattle.line_writing.proofs.GroupLaws.{Back}
 use Rattle.line_writing.proofs.shapes.group_start.Given as goal
 
-abbrev pub invariant-loop-g : goal.invariant-loop-g
-invariant-loop-g l = Back l.line l.at l.i l.g
-
-abbrev pub decreases-loop-g : goal.decreases-loop-g
-decreases-loop-g l = l.g
+abbrev pub invariant-loop-h : goal.invariant-loop-h
+invariant-loop-h l = Back l.x.line.now l.x.at.now l.i l.h

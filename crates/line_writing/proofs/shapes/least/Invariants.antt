@@ -1,11 +1,6 @@
--- The least so far, one shape on.
-use Prim.Native.Nat.{◌-◌}
-use lib.ListN.{length}
+-- Shape by shape.
 use Rattle.line_writing.specs.Groups.{state_of, Least}
 use Rattle.line_writing.proofs.shapes.least.Given as goal
 
-abbrev pub invariant-loop-j : goal.invariant-loop-j
-invariant-loop-j l = Least l.shapes l.j (state_of l.odd) l.r
-
-abbrev pub decreases-loop-j : goal.decreases-loop-j
-decreases-loop-j l = length l.shapes - l.j
+abbrev pub invariant-loop-s : goal.invariant-loop-s
+invariant-loop-s l = Least l.shapes l.s-index (state_of l.odd) l.r

@@ -1,4 +1,3 @@
--- All that stand there are tallied, and the least that changes is taken.
 use Rattle.line_writing.proofs.GroupLaws.{group_positions, group-within, few_group, group_many}
 use borrow.Author.Rules.{rules}
 use Rattle.line_writing.proofs.shapes.lowest_flipped.Goals as goal

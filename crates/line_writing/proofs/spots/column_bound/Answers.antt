@@ -6,8 +6,8 @@ use Rattle.line_writing.proofs.spots.column_bound.Goals as goal
 pub returns-then-o-ge-COLUMNS : goal.returns-then-o-ge-COLUMNS
 returns-then-o-ge-COLUMNS c = search (bound_start, rules)
 
-pub crossing_at-i-requires : goal.crossing_at-i-requires
-crossing_at-i-requires c = search (change_inside, rules)
+pub overflow_add-a : goal.overflow_add-a
+overflow_add-a c = search (change_inside, rules)
 
 pub crossing_bound-requires : goal.crossing_bound-requires
 crossing_bound-requires c = search (change_group, rules)

@@ -6,8 +6,8 @@ use Rattle.line_writing.proofs.spots.column_line.Goals as goal
 pub returns-then-o-ge-COLUMNS : goal.returns-then-o-ge-COLUMNS
 returns-then-o-ge-COLUMNS c = search (line-start-held, rules)
 
-pub crossing_at-i-requires : goal.crossing_at-i-requires
-crossing_at-i-requires c = search (column_inside, rules)
+pub bounds-line-a : goal.bounds-line-a
+bounds-line-a c = search (column_inside, rules)
 
 pub returns : goal.returns
 returns c = search (line_crossing-held, rules)

@@ -9,8 +9,8 @@ column_bound-requires c = search (event_change, rules)
 pub returns-then-e-lt-COLUMNS : goal.returns-then-e-lt-COLUMNS
 returns-then-e-lt-COLUMNS c = search (bound_change, rules)
 
-pub column_line-l-requires : goal.column_line-l-requires
-column_line-l-requires c = search (event_column, rules)
+pub column_line-requires : goal.column_line-requires
+column_line-requires c = search (event_column, rules)
 
 pub returns : goal.returns
 returns c = search (bound_end, rules)

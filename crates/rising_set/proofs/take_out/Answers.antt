@@ -1,6 +1,0 @@
--- `rising_set::take_out` meets its contract.
-use Rattle.rising_set.proofs.Sets.{taken}
-use Rattle.rising_set.proofs.take_out.Goals as goal
-
-pub returns : goal.returns
-returns c = search taken
