@@ -46,6 +46,17 @@ fn write_each<T: Copy, F: Fn(u64) -> T>(keys: &[u64], entries: &mut [T], read: F
     }
 }
 
+// Gives the start row.
+// Kept: byte by byte. For copy_from_slice the archive would need memmove from outside.
+fn write_starts(bytes: &[u8], starts: &mut [u8])
+    requires { length bytes.now ≤ length starts.old }
+    ensures { starts.new ≡ filled bytes.now starts.old }
+{
+    for (i, &byte) in bytes.iter().enumerate() {
+        starts[i] = byte;
+    }
+}
+
 fn order_with<const N: usize>(keys: &mut [u64])
     requires fits { length keys.old ≤ N }
     requires small { N ≤ 512 }
@@ -84,7 +95,7 @@ pub fn write(
     ensures { Written n m bytes.now keys.old (made_lists starts.old positions.old shapes.old) (made_lists starts.new positions.new shapes.new) }
 {
     order(&mut keys[..m]);
-    starts[..n].copy_from_slice(&bytes[..n]);
+    write_starts(&bytes[..n], starts);
     write_each(&keys[..m], positions, position_in);
     write_each(&keys[..m], shapes, shape_in);
 }

@@ -87,18 +87,12 @@ size-high m h = rw (le-ltb m 2147483648 h)
 square_fits : (x : ℕ) → x ≤ 1000000 → x * x ≤ 1000000000000
 square_fits x h = mul-le-mul h h
 
-pub square_is : (m s : ℕ) → 2146483648 ≤ m → m ≤ 2148483648 → s ≡ abs_diff m 2147483648 → (s * s ≡ squared (unrank m)) × (s * s ≤ 1000000000000)
-square_is m s low high e = by (ltb m 2147483648) refl
-  where
-    by : (t : Bool) → ltb m 2147483648 ≡ t → (s * s ≡ squared (unrank m)) × (s * s ≤ 1000000000000)
-    by true f =
-        let h = ltb-true m 2147483648 f in
-        let i : s ≡ nat_abs (unrank m) = omega (arith, size_low m h) in
-        (ap (λ x. x * x) i, square_fits s (omega arith))
-    by false f =
-        let h = ltb-false m 2147483648 f in
-        let i : s ≡ nat_abs (unrank m) = omega (arith, size-high m h) in
-        (ap (λ x. x * x) i, square_fits s (omega arith))
+module _ (m : ℕ) (low : 2146483648 ≤ m) (high : m ≤ 2148483648) where
+  pub square_low : (s : ℕ) → s ≡ 2147483648 - m → m < 2147483648 → (s * s ≡ squared (unrank m)) × (s * s ≤ 1000000000000)
+  square_low s e h = let i : s ≡ nat_abs (unrank m) = e ∙ sym (size_low m h) in (ap (λ x. x * x) i, square_fits s (omega arith))
+
+  pub square_high : (s : ℕ) → s ≡ m - 2147483648 → 2147483648 ≤ m → (s * s ≡ squared (unrank m)) × (s * s ≤ 1000000000000)
+  square_high s e h = let i : s ≡ nat_abs (unrank m) = e ∙ sym (size-high m h) in (ap (λ x. x * x) i, square_fits s (omega arith))
 
 -- ---- the two sides
 sub_same : (a b c d : ℕ) → a + d ≡ c + b → sub_ℕ a b ≡ sub_ℕ c d

@@ -1,5 +1,5 @@
 -- One line after another over one drawing: what is kept between them, and what a line gives.
-use Rattle.std.specs.Prelude.{Option, Some, ℕ, ◌+◌, ◌/◌, ◌%◌, ◌<◌, ◌≤◌, min, max, ◌≡◌, Bool, true, false, cond, not, ◌||◌, List, eqb, ltb, length, get_or, Float}
+use Rattle.std.specs.Prelude.{Option, Some, ℕ, ◌+◌, ◌/◌, ◌%◌, ◌<◌, ◌≤◌, min, max, ◌≡◌, Bool, true, false, not, ◌||◌, List, eqb, ltb, length, get_or, Float}
 use Rattle.outcome.specs.Outcome.{given}
 use Rattle.word_bits.specs.Words.{bit}
 use Rattle.cross_cuts.specs.Cuts.{faultless}

@@ -82,7 +82,9 @@ pub fn good_probe(probe: Probe) -> bool
         && !(is_zero(probe.dx) && is_zero(probe.dy) && is_zero(probe.dz))
 }
 
-// What the line meets of shape i: none where the shape is at fault.
+// What the line meets of shape i: none where the shape is at fault. Each loop over shapes takes it in, or lines of half-spaces take half as
+// long again.
+#[inline(always)]
 pub fn meet_at(probe: Probe, drawing: Drawing<'_>, i: usize) -> Option<Met>
     requires { (i < length drawing.kinds.now) × (i < 256) }
     ensures { cut_of result ≡ get_or (shape_cuts probe drawing.entry.kinds.now drawing.entry.numbers.now) i fault }

@@ -1,8 +1,8 @@
 -- The lines gone through in turn, and their crossings counted.
-use Prim.Native.Nat.{ℕ, zero, suc, ◌+◌, ◌*◌, ◌-◌, ◌<◌, ◌≤◌}
+use Prim.Native.Nat.{ℕ, zero, suc, ◌+◌, ◌*◌, ◌<◌, ◌≤◌}
 use native.Mathlib.Omega.{arith}
 use mathlib.Core.Path.{◌≡◌, refl, sym, ap, ◌∙◌, subst}
-use Rattle.std.specs.Prelude.{Some, None}
+use Rattle.std.specs.Prelude.{Option, Some, None}
 use mathlib.Core.Bool.{true}
 use mathlib.Core.List.{List, map}
 use lib.ListN.{length, get_or, replicate, take, drop, length-append, length-map}
@@ -36,17 +36,17 @@ no_byte (suc n) zero = refl
 no_byte (suc n) (suc j) = no_byte n j
 
 -- ---- before the first line
-pub passing_starts : (kinds : List ℕ) (numbers : List Float) {lows highs : List Float} {halves lessers greaters keys : List ℕ} → length kinds ≤ 256 → Columns kinds numbers (length kinds) lows highs halves → length lessers ≡ 1024 → length greaters ≡ 1024 → length keys ≡ 512
-    → Passing kinds numbers (record { columns = record { lows = lows; highs = highs; halves = halves }; ranks = record { lessers = lessers; greaters = greaters }; kept = None; bytes = replicate 256 0; keys = keys })
-passing_starts kinds numbers few columns l g k = record {
+pub passing_starts : {kinds : List ℕ} {numbers : List Float} {columns : Columns.Columns} → length kinds ≤ 256 → Columns kinds numbers (length kinds) columns.lows columns.highs columns.halves
+    → Passing kinds numbers (record { columns = columns; ranks = record { lessers = replicate 1024 0; greaters = replicate 1024 0 }; kept = None; bytes = replicate 256 0; keys = replicate 512 0 })
+passing_starts few columns = record {
   few = few;
   columns = columns;
   keeps = record { ranked = λ k e. absurd (let z : ◌≡◌ {A = ℕ} 0 1 = cc in omega arith) };
   clear = record { zero = λ j h k z. no_byte 256 j };
-  lessers_sized = l;
-  greaters_sized = g;
+  lessers_sized = refl;
+  greaters_sized = refl;
   bytes_sized = refl;
-  keys_sized = k;
+  keys_sized = refl;
 }
 
 -- ---- one line that is not at fault
@@ -95,8 +95,8 @@ module _ {kinds : List ℕ} {numbers : List Float} {pass : Pass} (passing : Pass
             (subst (λ (n : ℕ). Complete 256 16 (cuts_in probe n c.lows c.highs c.halves) bytes keys n m) follows.shapes_still crossed.gathered);
       })
 
-      pub line-passed : Passing kinds numbers (record { columns = c; ranks = record { lessers = l'; greaters = g' }; kept = Some kept; bytes = bytes; keys = keys })
-      line-passed = record {
+      pub line-passed : {o : Option Kept} → o ≡ Some kept → Passing kinds numbers (record { columns = c; ranks = record { lessers = l'; greaters = g' }; kept = o; bytes = bytes; keys = keys })
+      line-passed is = record {
         few = passing.few;
         columns = passing.columns;
         keeps = record { ranked = λ k e. let s : kept ≡ k = cc in subst (λ (j : Kept). (j.shapes ≡ length kinds) × Ranked j c.halves c.lows c.highs l' g') s (follows.shapes_still, crossed.ranked) };

@@ -4,11 +4,10 @@ use native.Mathlib.Omega.{arith}
 use mathlib.Core.Path.{◌≡◌, refl, sym, ap, ◌∙◌}
 use mathlib.Core.List.{List, [], ◌∷◌, ◌++◌, map, append_assoc, append-nil}
 use lib.IntN.{ℤ}
-use lib.ListN.{length, take, drop, set, replicate, length-append, length-drop, length-map, length-replicate, drop_of_length-le, replicate-append-replicate, take-append-drop}
+use lib.ListN.{length, take, drop, replicate, length-append, length-drop, length-map, length-replicate, drop_of_length-le, take-append-drop}
 use lib.Seq.{take_all, take_at, drop_at, drop-drop, length-take-le}
 use lib.Ieee.{Float}
 use Rattle.outcome.specs.Lent.{filled}
-use Rattle.outcome.proofs.LentLaws.{filled_more, length-filled}
 use Rattle.lines.specs.Lines.{LineLists, line_lists}
 use Rattle.cross_cuts.specs.Cuts.{Cut, start_of, start_row, position_of, shape_of, line_crossings, LineCrossing}
 use Rattle.cross_cuts.specs.Keys.{Held, Complete}
@@ -20,9 +19,7 @@ use Rattle.cross_line.specs.Crossing.{shape_cuts}
 use Rattle.cross_line.proofs.LentLaws.{length-cuts, cuts_in_range}
 use Rattle.cross_drawn.specs.Drawn.{Drawn, rows_of, lines_from, positions_in, shapes_in, drawn}
 use Rattle.cross_drawn.specs.Gathered.{Sound}
-use Rattle.cross_drawn.specs.Judging.{lines_judged}
 use Rattle.cross_drawn.specs.Lent.{probe_from, probes_of}
-use Rattle.cross_drawn.specs.Refusing.{gives}
 use Rattle.cross_drawn.proofs.DrawnLaws.{positions_many, shapes_many, rows_more, lines_more, positions_more, shapes_more, rows-part, lines-part, rows-count}
 use Rattle.cross_drawn.proofs.LineLaws.{sound-held, sound-count, drawn-next, map-append}
 use Rattle.cross_pass.specs.Passing.{RoomFor, Fits, filled_from, LinePut, Holding, AllWritten}

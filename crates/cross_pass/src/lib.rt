@@ -30,19 +30,15 @@ struct Pass {
     keys: [u64; 2 * PART],
 }
 
-// Before the first line.
-fn begin(drawing: Drawing<'_>) -> Pass
-    requires { length drawing.kinds.now ≤ 256 }
-    ensures { Passing drawing.entry.kinds.now drawing.entry.numbers.now result }
-{
-    let mut columns = Columns {
-        lows: [0.0; FACES],
-        highs: [0.0; FACES],
-        halves: [0; PART],
-    };
-    cross_columns::fill_columns(drawing, &mut columns);
-    Pass {
-        columns,
+impl Pass {
+    // Before the first line, with no columns yet: they are filled where the pass stands, since a function that answered a pass would copy
+    // its 26 KB on the stack.
+    const EMPTY: Pass = Pass {
+        columns: Columns {
+            lows: [0.0; FACES],
+            highs: [0.0; FACES],
+            halves: [0; PART],
+        },
         ranks: Ranks {
             lessers: [0; RANKS],
             greaters: [0; RANKS],
@@ -50,7 +46,7 @@ fn begin(drawing: Drawing<'_>) -> Pass
         kept: None,
         bytes: [0; PART],
         keys: [0; 2 * PART],
-    }
+    };
 }
 
 // Gathers what line k has of its shapes, and answers how many crossings.
@@ -61,19 +57,21 @@ fn gather(drawing: Drawing<'_>, lines: &[f64], k: usize, pass: &mut Pass) -> usi
     ensures sound { Sound drawing.entry.kinds.now drawing.entry.numbers.now (probe_from (drop (6 * k) lines.now)) pass.new.bytes pass.new.keys result }
 {
     let probe = cross_drawn::probe_at(lines, k);
-    let pair = cross_kept::keep(
+    cross_kept::keep(
         probe,
         lines,
         k,
-        pass.kept,
+        &mut pass.kept,
         drawing.kinds.len(),
         &pass.columns,
         &mut pass.ranks,
     );
-    pass.kept = Some(pair);
+    let Some(kept) = &pass.kept else {
+        unreachable!()
+    };
     cross_kept::over_axes(
         probe,
-        &pair,
+        kept,
         &pass.columns,
         &mut pass.ranks,
         &mut pass.bytes,
@@ -87,7 +85,8 @@ pub fn count_lines(drawing: Drawing<'_>, lines: &[f64], count: usize) -> usize
     requires lines_value { lines_judged 0 drawing.kinds.now drawing.numbers.now (probes_of lines.now) ≡ gives tt }
     ensures { result ≡ length (lines_from 0 (drawn drawing.entry.kinds.now drawing.entry.numbers.now (probes_of lines.now))) }
 {
-    let mut pass = begin(drawing);
+    let mut pass = Pass::EMPTY;
+    cross_columns::fill_columns(drawing, &mut pass.columns);
     let mut total = 0usize;
     for k in 0..count {
         total += gather(drawing, lines, k, &mut pass);
@@ -140,7 +139,8 @@ pub fn write_lines(
     requires fits { Fits (drawn drawing.kinds.now drawing.numbers.now (probes_of lines.now)) (line_lists rows.old line_numbers.old positions.old shapes.old) }
     ensures { AllWritten (drawn drawing.entry.kinds.now drawing.entry.numbers.now (probes_of lines.now)) (line_lists rows.old line_numbers.old positions.old shapes.old) result (line_lists rows.new line_numbers.new positions.new shapes.new) }
 {
-    let mut pass = begin(drawing);
+    let mut pass = Pass::EMPTY;
+    cross_columns::fill_columns(drawing, &mut pass.columns);
     let mut at = 0usize;
     for k in 0..cross_drawn::line_count(lines) {
         let m = gather(drawing, lines, k, &mut pass);

@@ -92,6 +92,7 @@ fn meet_both(s: Span, t: Span) -> Span
 
 // A box that is missed on one axis is judged on the others too.
 #[tactic(auto, unfolding(crate::specs::Shapes::box_range))]
+#[inline(always)]
 fn box_span(probe: Probe, b: Block) -> Option<Span>
     ensures { span_of result ≡ box_range probe b.lx b.ly b.lz b.hx b.hy b.hz }
 {
@@ -108,6 +109,7 @@ pub fn good_pair(low: f64, high: f64) -> bool
     is_finite(low) && is_finite(high) && low < high
 }
 
+#[inline(always)]
 fn span_met(s: Span) -> Met
     ensures { cut_of (Some result) ≡ crossed_twice (span_of (Some s)) }
 {
@@ -118,6 +120,7 @@ fn span_met(s: Span) -> Met
 }
 
 #[tactic(auto, unfolding(crate::specs::Shapes::box_cut))]
+#[inline(always)]
 fn meet_box(probe: Probe, b: Block) -> Option<Met>
     ensures { cut_of result ≡ box_cut probe b.lx b.ly b.lz b.hx b.hy b.hz }
 {
@@ -128,6 +131,7 @@ fn meet_box(probe: Probe, b: Block) -> Option<Met>
 }
 
 // One of three numbers, by the axis.
+#[inline(always)]
 fn on(axis: u8, x: f64, y: f64, z: f64) -> f64
     ensures { result ≡ number_on axis x y z }
 {
@@ -139,6 +143,7 @@ fn on(axis: u8, x: f64, y: f64, z: f64) -> f64
 }
 
 #[tactic(auto, unfolding(crate::specs::Shapes::half_space_cut))]
+#[inline(always)]
 fn meet_half_space(probe: Probe, axis: u8, face: f64) -> Option<Met>
     ensures { cut_of result ≡ half_space_cut probe axis face }
 {
@@ -154,7 +159,8 @@ fn meet_half_space(probe: Probe, axis: u8, face: f64) -> Option<Met>
     Some(Met::Once(inside, cross_positions::position(face, origin, component)?))
 }
 
-// What the line meets of a shape: none where the shape is at fault.
+// What the line meets of a shape: none where the shape is at fault. Two loops over shapes call it, and each takes it in with what it calls.
+#[inline(always)]
 pub fn meet_shape(probe: Probe, shape: Shape) -> Option<Met>
     ensures { cut_of result ≡ shape_cut probe shape }
 {

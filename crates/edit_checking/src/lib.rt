@@ -9,7 +9,7 @@ ghost use Rattle.edit_checking.specs.Fits.{operates_at, in_time, fits as fits_in
 ghost use Rattle.edit_checking.specs.Asked.{Equal};
 
 use edits::{EditLists, FIRST_OPERATION, LAST_OPERATION};
-use outcome::{Fault, Reason};
+use outcome::{Fault, Reason, need};
 
 // Whether a code is an operation's.
 fn is_operation(c: u16) -> bool
@@ -39,19 +39,28 @@ fn fits(formula: &[u16], most: u64, before: u64, m: u64, p: u16, c: u16) -> bool
     operates(formula, p) && is_operation(c) && in_time(most, before, m)
 }
 
-// 20 at the first edit that does not fit a formula of these codes.
+// The index of the first edit that does not fit a formula of these codes; the number of edits where there is none.
+pub fn first_unfit(formula: &[u16], most: u64, edits: EditLists<'_>) -> usize
+    requires { Equal edits.moments.now edits.positions.now edits.codes.now }
+    ensures { let e = edits.entry in result ≡ first_unfit formula.now most 0 e.moments.now e.positions.now e.codes.now }
+{
+    let mut before: u64 = 0;
+    for (i, &m) in edits.moments.iter().enumerate() {
+        if !fits(formula, most, before, m, edits.positions[i], edits.codes[i]) {
+            return i;
+        }
+        before = m;
+    }
+    edits.moments.len()
+}
+
+// 20 at the first edit that does not fit.
 pub fn all_fit(formula: &[u16], most: u64, edits: EditLists<'_>) -> Result<(), Fault>
     requires { Equal edits.moments.now edits.positions.now edits.codes.now }
     ensures asked { let e = edits.entry in let first = first_unfit formula.now most 0 e.moments.now e.positions.now e.codes.now in
         judged result ≡ need (eqb first (length e.moments.now)) 20 first }
     ensures so { let e = edits.entry in IsOk result → first_unfit formula.now most 0 e.moments.now e.positions.now e.codes.now ≡ length e.moments.now }
 {
-    let mut before: u64 = 0;
-    for (i, &m) in edits.moments.iter().enumerate() {
-        if !fits(formula, most, before, m, edits.positions[i], edits.codes[i]) {
-            return Err(Reason::EditWrong.at(i));
-        }
-        before = m;
-    }
-    Ok(())
+    let first = first_unfit(formula, most, edits);
+    need(first == edits.moments.len(), Reason::EditWrong, first)
 }

@@ -2,6 +2,7 @@
 #![tactic(auto)]
 
 ghost use Rattle.std.specs.Prelude.{◌≡◌, ◌≤◌, length};
+ghost use Rattle.outcome.specs.Lent.{filled};
 ghost use Rattle.sheet.specs.Sheet.{sheets_of, codes_of};
 ghost use Rattle.sheet_descent.specs.Descent.{GoodIn};
 ghost use Rattle.job_move.specs.Moving.{moving};
@@ -26,6 +27,17 @@ fn other_codes(edition: u8, formula: &[u8], names: usize, codes: &mut [u16; CODE
     sheet_descent::fill_codes(edition, formula, names, codes)
 }
 
+// Gives the bytes before the codes.
+// Kept: byte by byte. For copy_from_slice the archive would need memmove from outside.
+fn give_front(front: &[u8], moved: &mut [u8])
+    requires { length front.now ≤ length moved.old }
+    ensures { moved.new ≡ filled front.now moved.old }
+{
+    for (i, &byte) in front.iter().enumerate() {
+        moved[i] = byte;
+    }
+}
+
 // Gives the sheet in the other edition; the codes of its formula are in that edition's order.
 fn give_moved(sheet: &[u8], codes: &[u16], moved: &mut [u8])
     requires { Movable sheet.now codes.now moved.old }
@@ -33,7 +45,7 @@ fn give_moved(sheet: &[u8], codes: &[u16], moved: &mut [u8])
 {
     let first = sheet.len() - 2 * codes.len();
     let edition = sheet[4];
-    moved[..first].copy_from_slice(&sheet[..first]);
+    give_front(&sheet[..first], moved);
     moved[4] = 3 - edition;
     moved[first - 3] = 5 - edition;
     sheet_laying::put_codes(codes, moved, first);

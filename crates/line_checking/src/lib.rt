@@ -116,11 +116,11 @@ impl Items<'_> {
             && !strays(self.line, self.at)
     }
 
-    // 10, 15 and 11 over all items.
+    // 10, 15 and 11 over all items. Where the first is wrong the others are not looked at.
     fn judge(self) -> Result<(), Fault>
         ensures { judged result ≡ ordered_from self.entry.names self.entry.rows self.entry.line.now self.entry.at.now self.entry.shape.now 0 }
     {
-        if !self.line.is_empty() && self.all_fine() {
+        if !self.line.is_empty() && self.asked(0).is_ok() && self.all_fine() {
             return Ok(());
         }
         self.first_wrong()

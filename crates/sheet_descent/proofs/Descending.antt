@@ -17,11 +17,8 @@ use Rattle.formula.proofs.Codes.{operation_which, operation-code}
 use Rattle.sheet.specs.Sheet.{two_bytes_at, codes_of, joined_first, all_first}
 use Rattle.sheet.proofs.CodesFirst.{first-operation, first_unknown, first-prefix}
 use Rattle.sheet_codes.proofs.CodeSteps.{codes_more}
-use Rattle.sheet_descent.specs.Descent.{Room, IsWhole, IsWrong, IsShort, short_at, Descended}
-use Rattle.sheet_descent.specs.declared.Stop.{Stop}
-use Rattle.sheet_descent.specs.declared.Stop.TheVariants.{Wrong, Short}
-use Rattle.std.specs.Prelude.{Err}
-use Rattle.sheet_descent.proofs.Short.{none_other, some_operation, short-operation, short-prefix, few_bytes}
+use Rattle.sheet_descent.specs.Descent.{Room, IsWhole, EndsEarly, short_at}
+use Rattle.sheet_descent.proofs.Short.{none_other, some_operation, short-operation, short_unknown, short-prefix, few_bytes}
 
 pub right-falls : (p : List ℕ) (at past mid t : ℕ) → length p - at ≡ t → at < past → past ≤ length p → at + 2 ≤ mid → length p - mid < t
 right-falls p at past mid t e more within after = omega arith
@@ -29,8 +26,8 @@ right-falls p at past mid t e more within after = omega arith
 -- ---- one code
 
 module _ (n : ℕ) (p old : List ℕ) (at past count : ℕ) (room : Room n p old at past count) where
-  pub ends-short : past ≤ at → IsShort n p at past
-  ends-short h = record { is = λ tag first k few. few_bytes p n tag (first + at) at k (omega (arith, h, few)) }
+  pub ends-early : past ≤ at → EndsEarly n p at past
+  ends-early h = record { is = λ tag first k few. few_bytes p n tag (first + at) at k (omega (arith, h, few)) }
 
   pub room-two : at < past → at + 1 < length p
   room-two more = omega (arith, room.there, room.here, room.within)
@@ -58,8 +55,11 @@ module _ (n : ℕ) (p old : List ℕ) (at past count : ℕ) (room : Room n p old
           sized = length-set old count c ∙ room.sized;
         })
 
-    pub wrong_here : n ≤ c → is_operation c ≡ false → IsWrong n p at at
-    wrong_here h e = record { within = omega (arith, more, room.within); is = λ tag first k. rw codes-here (first_unknown n tag (first + at) c (codes_of (drop (at + 2) p)) k h (none_other c e)) }
+    pub wrong_here : n ≤ c → is_operation c ≡ false → EndsEarly n p at past
+    wrong_here h e =
+        let none = none_other c e in
+        let cs = codes_of (drop (at + 2) p) in
+        record { is = λ tag first k few. rw codes-here (first_unknown n tag (first + at) c cs k h none ∙ rw (short_unknown n tag (first + at) c cs h none)) }
 
     -- ---- an operation, and its left operand
 
@@ -90,15 +90,8 @@ module _ (n : ℕ) (p old : List ℕ) (at past count : ℕ) (room : Room n p old
       short_on : (tag first : ℕ) → short_at n tag (first + at) (codes_of (drop at p)) ≡ short_at n tag (first + (at + 2)) (codes_of (drop (at + 2) p))
       short_on tag first = rw (codes-here, ← add_assoc first at 2) (short-operation n tag (first + at) c (codes_of (drop (at + 2) p)) op above op_is)
 
-      left-wrong : (q : ℕ) → IsWrong n p (at + 2) q → IsWrong n p at q
-      left-wrong q w = record { within = w.within; is = λ tag first k. on tag first k ∙ rw (w.is tag first (suc k)) }
-
-      left-short : IsShort n p (at + 2) (past - 2) → IsShort n p at past
-      left-short w = record { is = λ tag first k few. on tag first k ∙ rw (w.is tag first (suc k) (omega (arith, few)), short_on tag first) }
-
-      pub left_fails : (mids : List ℕ) (e : Stop) → Descended n p (at + 2) (past - 2) old mids count (Err e) → Descended n p at past old mids count (Err e)
-      left_fails mids (Wrong q) w = left-wrong q w
-      left_fails mids Short w = left-short w
+      pub left-early : EndsEarly n p (at + 2) (past - 2) → EndsEarly n p at past
+      left-early w = record { is = λ tag first k few. on tag first k ∙ rw (w.is tag first (suc k) (omega (arith, few)), short_on tag first) }
 
       module _ (mids : List ℕ) (mid : ℕ) (left : IsWhole n p (at + 2) (past - 2) old mids count mid) where
         mid_at : (first : ℕ) → first + (at + 2) + 2 * length (prefix left.formula) ≡ first + mid
@@ -118,11 +111,8 @@ module _ (n : ℕ) (p old : List ℕ) (at past count : ℕ) (room : Room n p old
             rw left.codes_are (short-prefix n room.few_names tag f (first + (at + 2)) (codes_of (drop mid p)) left.over)
             ∙ ap (λ (i : ℕ). short_at n tag i (codes_of (drop mid p))) (mid_at first)
 
-        right-wrong : (q : ℕ) → IsWrong n p mid q → IsWrong n p at q
-        right-wrong q w = record { within = w.within; is = λ tag first k. on tag first k ∙ rw (past-left tag first k, w.is tag first k) }
-
-        right-short : IsShort n p mid past → IsShort n p at past
-        right-short w =
+        pub right-early : EndsEarly n p mid past → EndsEarly n p at past
+        right-early w =
             record { is = λ tag first k few. on tag first k ∙ rw (past-left tag first k, w.is tag first k few, short_on tag first, short-past-left tag first) }
 
         module _ (lefts : ℕ) (lefts-is : lefts ≡ count + (mid - (at + 2)) / 2) where
@@ -142,10 +132,6 @@ module _ (n : ℕ) (p old : List ℕ) (at past count : ℕ) (room : Room n p old
                 within = room.within;
                 behind = omega (arith, room.behind, left.next_is, lefts_are);
               }
-
-          pub right_fails : (news : List ℕ) (e : Stop) → Descended n p mid past mids news lefts (Err e) → Descended n p at past old news count (Err e)
-          right_fails news (Wrong q) w = right-wrong q w
-          right_fails news Short w = right-short w
 
           module _ (news : List ℕ) (next : ℕ) (right : IsWhole n p mid past mids news lefts next) where
             module _ (both : ℕ) (both_is : both ≡ lefts + (next - mid) / 2) where

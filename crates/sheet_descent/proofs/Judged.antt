@@ -8,10 +8,7 @@ use mathlib.Core.List.{List, [], ◌∷◌, ◌++◌}
 use lib.ListN.{length, take, drop, drop_of_length-le}
 use lib.Dec.{leb}
 use borrow.Author.Tests.{leb-true, leb-false, eq-eqb, ne_eqb}
-use Rattle.std.specs.Prelude.{Err}
 use Rattle.outcome.specs.Outcome.{given, refused, need, ◌>>◌, part}
-use Rattle.sheet_descent.specs.declared.Stop.{Stop}
-use Rattle.sheet_descent.specs.declared.Stop.TheVariants.{Wrong, Short}
 use Rattle.outcome.proofs.Questions.{given-same}
 use Rattle.formula.specs.Formula.{Formula, leaves, postfix, prefix}
 use Rattle.formula.proofs.Laws.{length-prefix, length-postfix}
@@ -20,26 +17,17 @@ use Rattle.sheet.proofs.Codes.{formula_of-postfix}
 use Rattle.sheet.proofs.CodesFirst.{first-prefix}
 use Rattle.sheet_codes.specs.Codes.{CodesStand}
 use Rattle.sheet_codes.proofs.CodeSteps.{codes_more}
-use Rattle.sheet_descent.specs.Descent.{IsWhole, IsWrong, IsShort, short_at, Descended, FirstFits, GoodFirst, GoodIn, in_postfix}
+use Rattle.sheet_descent.specs.Descent.{IsWhole, EndsEarly, short_at, FirstFits, GoodFirst, GoodIn, in_postfix}
 
 module _ (n tag first : ℕ) (p : List ℕ) (fits : FirstFits n first p) where
-  wrong_first : (place : ℕ) → IsWrong n p 0 place → formula_first n tag first (codes_of p) ≡ refused 7 (first + place)
+  early-first : EndsEarly n p 0 (length p) → formula_first n tag first (codes_of p) ≡ refused 7 (short_at n tag first (codes_of p))
   unfolding formula_first
-  wrong_first place w =
-      let h : all_first n tag first (codes_of p) 1 ≡ refused 7 (first + place) = rw add-zero at (w.is tag first 0) in
-      rw h
-
-  short-first : IsShort n p 0 (length p) → formula_first n tag first (codes_of p) ≡ refused 7 (short_at n tag first (codes_of p))
-  unfolding formula_first
-  short-first w =
+  early-first w =
       let h : all_first n tag first (codes_of p) 1 ≡ refused 7 (short_at n tag first (codes_of p)) = rw add-zero at (w.is tag first 0 (omega arith)) in
       rw h
 
-  pub judged-wrong : (place : ℕ) → IsWrong n p 0 place → refused 7 (first + place) ≡ part leaves (formula_first n tag first (codes_of p))
-  judged-wrong place w = rw (wrong_first place w)
-
-  pub judged-short : IsShort n p 0 (length p) → (at : ℕ) → at ≡ short_at n tag first (codes_of p) → refused 7 at ≡ part leaves (formula_first n tag first (codes_of p))
-  judged-short w at is = rw (short-first w, is)
+  pub judged-early : EndsEarly n p 0 (length p) → (at : ℕ) → at ≡ short_at n tag first (codes_of p) → refused 7 at ≡ part leaves (formula_first n tag first (codes_of p))
+  judged-early w at is = rw (early-first w, is)
 
   module _ (old new : List ℕ) (r : ℕ) (it : IsWhole n p 0 (length p) old new 0 r) where
     past : all_first n tag first (codes_of p) 1 ≡ part (λ fs. it.formula ∷ fs) (all_first n tag (first + r) (codes_of (drop r p)) 0)
@@ -97,9 +85,8 @@ module _ (n : ℕ) (p old : List ℕ) (good : GoodFirst n p old) where
       let z : ◌≡◌ {A = ℕ} 0 1 = cc h in
       omega arith
 
-  pub never_ends : (new : List ℕ) (e : Stop) → Descended n p 0 (length p) old new 0 (Err e) → ⊥
-  never_ends new (Wrong place) w = refused_not (0 + place) (wrong_first n 0 0 p fits-first place w)
-  never_ends new Short w = refused_not (short_at n 0 0 (codes_of p)) (short-first n 0 0 p fits-first w)
+  pub never_ends : EndsEarly n p 0 (length p) → ⊥
+  never_ends w = refused_not (short_at n 0 0 (codes_of p)) (early-first n 0 0 p fits-first w)
 
   pub filled : (new : List ℕ) (r : ℕ) → IsWhole n p 0 (length p) old new 0 r → CodesStand (in_postfix (formula_first n 0 0 (codes_of p))) new (r / 2)
   filled new r it = rw good.is (stands_by n 0 0 p fits-first old new r it good.formula good.is (leb (length p) r) refl)

@@ -36,7 +36,7 @@ module _ (n tag at c : ℕ) (cs : List ℕ) where
   unfolding short_at
   short-operation o h e = rw (le-ltb c n h, short_at, e)
 
-  short_unknown : n ≤ c → operation c ≡ none → short_at n tag at (c ∷ cs) ≡ at
+  pub short_unknown : n ≤ c → operation c ≡ none → short_at n tag at (c ∷ cs) ≡ at
   unfolding short_at
   short_unknown h e = rw (le-ltb c n h, short_at, e)
 

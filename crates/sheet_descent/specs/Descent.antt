@@ -1,13 +1,11 @@
 -- What the descent over a formula's codes, operation first, has found, and what is asked of codes that are judged or put into an array.
-use Rattle.std.specs.Prelude.{Result, Ok, Err, ℕ, suc, ◌+◌, ◌*◌, ◌%◌, ◌^◌, ◌≤◌, ◌<◌, ◌≡◌, true, false, List, [], ◌∷◌, ◌++◌, length, take, drop, ltb}
+use Rattle.std.specs.Prelude.{Option as Answer, Some, None, ℕ, suc, ◌+◌, ◌*◌, ◌%◌, ◌^◌, ◌≤◌, ◌<◌, ◌≡◌, true, false, List, [], ◌∷◌, ◌++◌, length, take, drop, ltb}
 use Rattle.std.proofs.Math.Option.{Option, none, some}
 use Rattle.outcome.specs.Outcome.{Outcome, given, refused, unfit}
 use Rattle.formula.specs.Formula.{Op, first_operation, Formula, postfix, prefix, Over}
 use Rattle.formula.specs.Codes.{operation}
 use Rattle.sheet.specs.Sheet.{longest_formula, codes_of, all_first, formula_first, formula_in}
 use Rattle.sheet_codes.specs.Codes.{CodesFit}
-use Rattle.sheet_descent.specs.declared.Stop.{Stop}
-use Rattle.sheet_descent.specs.declared.Stop.TheVariants.{Wrong, Short}
 
 -- A formula's bytes over n names, of which the formula at offset `at` has those up to `past`, and an array with room for its codes after so
 -- many that stand in it.
@@ -32,13 +30,7 @@ pub record IsWhole (n : ℕ) (bytes : List ℕ) (at past : ℕ) (old new : List 
   pub written : take (count + length (postfix formula)) new ≡ take count old ++ postfix formula
   pub sized : length new ≡ 2048
 
--- The code at `place` is wrong, however many formulas are to come.
-pub record IsWrong (n : ℕ) (bytes : List ℕ) (at place : ℕ) : Type 0 where
-  pub within : place ≤ length bytes
-  pub is : (tag first k : ℕ) → all_first n tag (first + at) (codes_of (drop at bytes)) (suc k) ≡ refused 7 (first + place)
-
--- Where codes are too few for the formulas to come, 7 stands at the first unknown one, or else at the tag; `on` is where it stands after
--- a code that is known.
+-- Where no whole formula stands, 7 stands at the first unknown code, or else at the tag; `on` is where it stands after a code that is known.
 abbrev unless_known : ℕ → Option Op → ℕ → ℕ
 unless_known at none on = at
 unless_known at (some o) on = on
@@ -47,15 +39,15 @@ unfoldable pub short_at : ℕ → ℕ → ℕ → List ℕ → ℕ
 short_at n tag at [] = tag
 short_at n tag at (c ∷ cs) = elim (ltb c n) [ true ↦ short_at n tag (at + 2) cs | false ↦ unless_known at (operation c) (short_at n tag (at + 2) cs) ]
 
--- The codes are too few where as many formulas are to come after this one as there are codes from `past` on, or more.
-pub record IsShort (n : ℕ) (bytes : List ℕ) (at past : ℕ) : Type 0 where
+-- No whole formula stands at `at`, where as many formulas are to come after this one as there are codes from `past` on, or more: a code is
+-- unknown, or the codes are too few.
+pub record EndsEarly (n : ℕ) (bytes : List ℕ) (at past : ℕ) : Type 0 where
   pub is : (tag first k : ℕ) → length bytes ≤ past + 2 * k → all_first n tag (first + at) (codes_of (drop at bytes)) (suc k) ≡ refused 7 (short_at n tag (first + at) (codes_of (drop at bytes)))
 
--- By cases of the answer: the offset past a whole formula, a wrong code, or codes too few.
-abbrev pub Descended : ℕ → List ℕ → ℕ → ℕ → List ℕ → List ℕ → ℕ → Result ℕ Stop → Type 0
-Descended n bytes at past old new count (Ok next) = IsWhole n bytes at past old new count next
-Descended n bytes at past old new count (Err (Wrong place)) = IsWrong n bytes at place
-Descended n bytes at past old new count (Err Short) = IsShort n bytes at past
+-- By cases of the answer: the offset past a whole formula, or none.
+abbrev pub Descended : ℕ → List ℕ → ℕ → ℕ → List ℕ → List ℕ → ℕ → Answer ℕ → Type 0
+Descended n bytes at past old new count (Some next) = IsWhole n bytes at past old new count next
+Descended n bytes at past old new count None = EndsEarly n bytes at past
 
 -- ---- the codes judged, and put into an array
 

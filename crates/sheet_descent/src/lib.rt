@@ -1,7 +1,7 @@
 // The formula of edition 2, operation first, read by recursive descent: document 02, K10. Its codes are put into an array in postfix order.
 #![tactic(auto)]
 
-ghost use Rattle.std.specs.Prelude.{◌≡◌, ◌+◌, ◌-◌, ◌/◌, ◌^◌, ◌≤◌, ◌<◌, ◌||◌, ltb, length, IfOk};
+ghost use Rattle.std.specs.Prelude.{◌≡◌, ◌+◌, ◌-◌, ◌/◌, ◌^◌, ◌≤◌, ◌<◌, ◌||◌, ltb, length, IfSome};
 ghost use Rattle.outcome.specs.Outcome.{part};
 ghost use Rattle.outcome.specs.Refusing.{judged};
 ghost use Rattle.formula.specs.Formula.{leaves as leaves_of};
@@ -13,13 +13,6 @@ ghost use Rattle.sheet_descent.specs.Descent.{Room, Descended, short_at, FirstFi
 use contraction::CODES;
 use outcome::{Fault, Reason, need};
 
-// Why a descent ends early: a wrong code, at this offset; or the codes left are too few for the formulas to come.
-#[derive(Clone, Copy, Debug, PartialEq, Eq)]
-enum Stop {
-    Wrong(usize),
-    Short,
-}
-
 // How many codes stand in the array after those from one offset up to another were put after the first `count`.
 fn codes_up_to(count: usize, from: usize, to: usize) -> usize
     requires { (from ≤ to) × (count + to < 2 ^ 64) }
@@ -28,9 +21,10 @@ fn codes_up_to(count: usize, from: usize, to: usize) -> usize
     count + (to - from) / 2
 }
 
-// Reads the whole formula at offset `at`, puts its codes into the array after the first `count`, and answers the offset past it. The formula
-// has to end by `past`, since each one that is to come after it takes a code at least: so no descent is deeper than what can be completed.
-// Each operand is a whole formula of the same kind; the bytes left fall.
+// Reads the whole formula at offset `at`, puts its codes into the array after the first `count`, and answers the offset past it; none where a
+// code is unknown or the codes left are too few for the formulas to come. The formula has to end by `past`, since each one that is to come
+// after it takes a code at least: so no descent is deeper than what can be completed. Each operand is a whole formula of the same kind; the
+// bytes left fall.
 fn descend(
     formula: &[u8],
     names: usize,
@@ -38,28 +32,28 @@ fn descend(
     past: usize,
     codes: &mut [u16; CODES],
     count: usize,
-) -> Result<usize, Stop>
+) -> Option<usize>
     requires { Room names formula.now codes.old at past count }
-    ensures bounds { IfOk result (λ next. (at + 2 ≤ next) × (next ≤ length formula.now)) }
+    ensures bounds { IfSome result (λ next. (at + 2 ≤ next) × (next ≤ length formula.now)) }
     ensures descended { Descended names formula.now at past codes.old codes.new count result }
 {
     if past <= at {
-        return Err(Stop::Short);
+        return None;
     }
     let code = sheet::two(formula, at);
     if code < names {
         codes[count] = code as u16;
-        return Ok(at + 2);
+        return Some(at + 2);
     }
     if !sheet_codes::is_operation(code) {
-        return Err(Stop::Wrong(at));
+        return None;
     }
     let mid = descend(formula, names, at + 2, past - 2, codes, count)?;
     let left = codes_up_to(count, at + 2, mid);
     let next = descend(formula, names, mid, past, codes, left)?;
     let both = codes_up_to(left, mid, next);
     codes[both] = code as u16;
-    Ok(next)
+    Some(next)
 }
 
 // Is a code a name's or an operation's?
@@ -90,12 +84,11 @@ pub fn judge_first(formula: &[u8], names: usize, tag: usize, first: usize) -> Re
 {
     let mut codes = [0; CODES];
     match descend(formula, names, 0, formula.len(), &mut codes, 0) {
-        Ok(end) => {
+        Some(end) => {
             need(formula.len() <= end, Reason::FormulaWrong, first + end)?;
             Ok((end / 2 + 1) / 2)
         }
-        Err(Stop::Wrong(place)) => Err(Reason::FormulaWrong.at(first + place)),
-        Err(Stop::Short) => Err(Reason::FormulaWrong.at(short_at(formula, names, tag, first))),
+        None => Err(Reason::FormulaWrong.at(short_at(formula, names, tag, first))),
     }
 }
 
@@ -105,9 +98,9 @@ fn fill_first(formula: &[u8], names: usize, codes: &mut [u16; CODES]) -> usize
     ensures { CodesStand (in_postfix (formula_first names 0 0 (codes_of formula.now))) codes.new result }
 {
     match descend(formula, names, 0, formula.len(), codes, 0) {
-        Ok(end) => end / 2,
+        Some(end) => end / 2,
         // no descent over a good formula ends early
-        Err(_) => 0,
+        None => 0,
     }
 }
 

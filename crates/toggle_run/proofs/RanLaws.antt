@@ -2,12 +2,12 @@
 use Prim.Native.Nat.{ℕ, zero, suc, ◌+◌, ◌<◌, ◌≤◌}
 use native.Mathlib.Numerals.{add-one}
 use native.Mathlib.Omega.{arith}
-use mathlib.Core.Path.{◌≡◌, refl, ap, ◌∙◌}
+use mathlib.Core.Path.{◌≡◌, refl, sym, ap, ◌∙◌}
 use mathlib.Core.Bool.{Bool, true, false, cond}
 use mathlib.Core.List.{List, [], ◌∷◌}
-use Rattle.std.proofs.Common.{Option, Some, None, leb, position}
-use Rattle.std.specs.List.{position_or_len}
-use Rattle.std.proofs.lemmas.List.Recursion.{is_position_or_len}
+use Rattle.std.proofs.Common.{take_while}
+use Rattle.std.specs.List.{prefix_len}
+use Rattle.std.proofs.lemmas.List.Folds.{length-prefix_len}
 use lib.Dec.{eqb, ltb}
 use borrow.Author.Tests.{le-leb, lt-leb, eq-eqb, ne_eqb, ltb-true, ltb-false}
 use lib.ListN.{length, get_or, take, drop, drop_of_length-le}
@@ -27,50 +27,17 @@ use Rattle.toggles.proofs.Runs.{run_roots, run_labels}
 use Rattle.toggle_run.specs.Ran.{RunRoom, TreeRun}
 use Rattle.toggle_run.specs.Tables.{Tables, RunDone}
 
--- the first shape number that is wrong, as `position` finds it
-by_position : (names : ℕ) (ss : List ℕ) → first_wrong names ss ≡ position_or_len (λ s. leb names s) ss
-by_position names ss = is_position_or_len (first_wrong names) (λ s. leb names s) refl step ss
+-- the first shape number that is wrong stands after those that are right
+by_prefix : (names : ℕ) (ss : List ℕ) → first_wrong names ss ≡ prefix_len (λ s. ltb s names) ss
+by_prefix names [] = refl
+by_prefix names (s ∷ ss) = by (ltb s names) refl (by_prefix names ss)
   where
-    step : (s : ℕ) (ss : List ℕ) → first_wrong names (s ∷ ss) ≡ cond (leb names s) 0 (1 + first_wrong names ss)
-    step s ss = by (ltb s names) refl
-      where
-        by : (b : Bool) → ltb s names ≡ b → first_wrong names (s ∷ ss) ≡ cond (leb names s) 0 (1 + first_wrong names ss)
-        by true q = rw (q, first_wrong, lt-leb names s (ltb-true s names q)) (omega arith)
-        by false q = rw (q, first_wrong, le-leb names s (ltb-false s names q))
+    by : (b : Bool) → ltb s names ≡ b → first_wrong names ss ≡ prefix_len (λ t. ltb t names) ss → first_wrong names (s ∷ ss) ≡ prefix_len (λ t. ltb t names) (s ∷ ss)
+    by true q ih = rw (q, first_wrong) (omega (arith, ih))
+    by false q ih = rw (q, first_wrong) refl
 
-within_list : (names : ℕ) (ss : List ℕ) → first_wrong names ss ≤ length ss
-within_list names [] = omega arith
-within_list names (s ∷ ss) = by (ltb s names) refl (within_list names ss)
-  where
-    by : (b : Bool) → ltb s names ≡ b → first_wrong names ss ≤ length ss → first_wrong names (s ∷ ss) ≤ length (s ∷ ss)
-    by true q ih = rw (q, first_wrong) (omega arith)
-    by false q ih = rw (q, first_wrong) (omega arith)
-
-module _ (names : ℕ) (ss : List ℕ) where
-  found : (o : Option ℕ) → o ≡ position (λ s. leb names s) ss → o ≡ cond (ltb (first_wrong names ss) (length ss)) (Some (first_wrong names ss)) None
-  found o e = e ∙ rw (← (by_position names ss))
-
-  pub wrong_there : {place : ℕ} → Some place ≡ position (λ s. leb names s) ss
-      → refused 10 place ≡ need (eqb (first_wrong names ss) (length ss)) 10 (first_wrong names ss)
-  wrong_there {place} e = by (ltb (first_wrong names ss) (length ss)) refl (found (Some place) e)
-    where
-      by : (b : Bool) → ltb (first_wrong names ss) (length ss) ≡ b → Some place ≡ cond b (Some (first_wrong names ss)) None
-          → refused 10 place ≡ need (eqb (first_wrong names ss) (length ss)) 10 (first_wrong names ss)
-      by true q z =
-          let l : first_wrong names ss < length ss = ltb-true _ _ q in
-          let same : place ≡ first_wrong names ss = cc in
-          rw (ne_eqb (first_wrong names ss) (length ss) (λ y. omega arith)) (ap (refused 10) same)
-      by false q z = absurd cc
-
-  pub none_there : None ≡ position (λ s. leb names s) ss → first_wrong names ss ≡ length ss
-  none_there e = by (ltb (first_wrong names ss) (length ss)) refl (found None e)
-    where
-      by : (b : Bool) → ltb (first_wrong names ss) (length ss) ≡ b → None ≡ cond b (Some (first_wrong names ss)) None → first_wrong names ss ≡ length ss
-      by true q z = absurd cc
-      by false q z = omega (arith, ltb-false _ _ q, within_list names ss)
-
-  pub all_there : None ≡ position (λ s. leb names s) ss → given tt ≡ need (eqb (first_wrong names ss) (length ss)) 10 (first_wrong names ss)
-  all_there e = rw (eq-eqb (first_wrong names ss) (length ss) (none_there e))
+pub by_taking : (names : ℕ) (ss : List ℕ) → first_wrong names ss ≡ length (take_while (λ s. ltb s names) ss)
+by_taking names ss = by_prefix names ss ∙ sym (length-prefix_len (λ s. ltb s names) ss)
 
 -- where none is wrong, all are below
 pub none-wrong : (names : ℕ) (ss : List ℕ) → first_wrong names ss ≡ length ss → (i : ℕ) → i < length ss → get_or ss i 0 < names

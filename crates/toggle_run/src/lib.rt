@@ -1,7 +1,7 @@
 // A run on lent lists: the toggles one after the other on a dwarf tree, with a root and a count for each, and the last labels.
 #![tactic(auto)]
 
-ghost use Rattle.std.specs.Prelude.{◌≡◌, ◌<◌, ◌≤◌, length, take, eqb, leb, position, IsOk};
+ghost use Rattle.std.specs.Prelude.{◌≡◌, ◌<◌, ◌≤◌, length, take, take_while, eqb, ltb, IsOk};
 ghost use Rattle.formula.specs.Formula.{Formula};
 ghost use Rattle.contraction.specs.Height.{last};
 ghost use Rattle.contraction.specs.Entries.{recs};
@@ -16,7 +16,7 @@ ghost use Rattle.toggle_run.specs.Ran.{ToggleRoom, RunRoom, TreeRun};
 
 use contraction::{NODES, Records};
 use labels::{DwarfTree, LINKS, RULES, Size};
-use outcome::{Fault, Reason};
+use outcome::{Fault, Reason, need};
 
 // The label of the root, which is the last node.
 pub fn root(labels: &[u8; NODES], nodes: usize) -> u8
@@ -54,11 +54,22 @@ pub fn copy_labels(labels: &[u8; NODES], nodes: usize, list: &mut [u8])
     list[..nodes].copy_from_slice(&labels[..nodes]);
 }
 
-// The index of the first shape number not below the number of names.
-fn first_wrong(toggles: &[u16], names: usize) -> Option<usize>
-    ensures { result ≡ position (λ s. leb names s) toggles.now }
+// How many shape numbers at the front are below the number of names.
+fn count_named(toggles: &[u16], names: usize) -> usize
+    ensures { result ≡ length (take_while (λ s. ltb s names) toggles.now) }
 {
-    toggles.iter().position(|&s| names <= usize::from(s))
+    toggles
+        .iter()
+        .take_while(|&&s| usize::from(s) < names)
+        .count()
+}
+
+// The index of the first shape number not below the number of names; the list's length where there is none.
+#[tactic(auto, using(crate::proofs::RanLaws::by_taking))]
+pub fn first_wrong(toggles: &[u16], names: usize) -> usize
+    ensures { result ≡ wrong_at names toggles.now }
+{
+    count_named(toggles, names)
 }
 
 // 10 at the first shape number not below the number of names.
@@ -66,10 +77,8 @@ pub fn all_named(toggles: &[u16], names: usize) -> Result<(), Fault>
     ensures asked { judged result ≡ need (eqb (wrong_at names toggles.now) (length toggles.now)) 10 (wrong_at names toggles.now) }
     ensures so { IsOk result → wrong_at names toggles.now ≡ length toggles.now }
 {
-    match first_wrong(toggles, names) {
-        Some(place) => Err(Reason::NoSuchShape.at(place)),
-        None => Ok(()),
-    }
+    let first = first_wrong(toggles, names);
+    need(first == toggles.len(), Reason::NoSuchShape, first)
 }
 
 // The labels with every shape outside, and the links of the nodes.
@@ -87,7 +96,8 @@ pub fn fill_tables(
     labels::fill_links(records, size, links);
 }
 
-// A toggle run on a dwarf tree, with every shape outside at first.
+// A toggle run on a dwarf tree, with every shape outside at first. Not joined into its callers, whose frame stands below the tree's making.
+#[inline(never)]
 pub fn run_tree(
     records: &Records,
     size: Size,

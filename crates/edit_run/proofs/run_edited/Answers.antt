@@ -19,5 +19,5 @@ loop-j-preserved c =
       seconds_stay = c.act-k.ensures.kinds_alone.1 ∙ c.loop-j.invariant.seconds_stay;
     }
 
-pub returns : goal.returns
-returns c = search edited-runs
+pub returns-clause-runs : goal.returns-clause-runs
+returns-clause-runs c = search edited-runs

@@ -21,4 +21,4 @@ returns c =
     e.moments.now e.positions.now e.codes.now c.args.roots.now c.args.counts.now c.args.labels.now c.args.edit_counts.now
     (sym c.equally_long.ensures ∙ c.in_ok-need.ensures.so refl) (c.in_ok-all_named.ensures.so refl) (c.in_ok-all_fit.ensures.so refl)
     (c.in_ok-room.ensures.so refl) (c.in_ok-room-2.ensures.so refl) (c.in_ok-room-3.ensures.so refl) (c.in_ok-room-4.ensures.so refl)
-    c.run_edited.ensures
+    c.run_edited.ensures.runs
