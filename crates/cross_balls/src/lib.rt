@@ -47,8 +47,8 @@ fn in_ranges(ball: Ball) -> bool
     u & v & radius & centre
 }
 
-// The square of the number that a rank of a small number stands for. By either side of the middle: with `abs_diff` a ball that is missed took
-// nearly twice as long.
+// The square of the number that a rank of a small number stands for. By either side of the middle, which takes three instructions a ball less
+// than `abs_diff`.
 fn square(rank: u32) -> u64
     requires { (2146483648 ≤ rank) × (rank ≤ 2148483648) }
     ensures { (result ≡ squared (unrank rank)) × (result ≤ 1000000000000) }
