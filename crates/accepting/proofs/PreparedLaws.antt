@@ -6,17 +6,15 @@ use mathlib.Core.Bool.{Bool, true, false}
 use mathlib.Core.List.{List}
 use lib.ListN.{length, get_or, take}
 use Rattle.std.specs.Prelude.{Err}
-use Rattle.outcome.specs.Outcome.{given, part}
-use Rattle.outcome.specs.Refusing.{number_of, answered}
+use Rattle.outcome.specs.Outcome.{given}
+use Rattle.outcome.specs.Refusing.{answered}
 use Rattle.outcome.specs.declared.Refusal.{Refusal}
-use Rattle.outcome.specs.declared.Refusal.TheVariants as refusal
-use Rattle.outcome.proofs.Questions.{part-refused, part-unfit}
 use Rattle.formula.specs.Formula.{Formula, postfix}
 use Rattle.formula.proofs.Laws.{over_more}
-use Rattle.sheet.specs.Sheet.{Sheets, sheets_of, own_sheet, Sheet, between, codes_of, formula_in, reading}
+use Rattle.sheet.specs.Sheet.{Sheets, sheets_of, own_sheet, Sheet, between, codes_of, formula_in}
 use Rattle.sheet_codes.specs.Codes.{CodesStand}
 use Rattle.sheet_descent.specs.Descent.{in_postfix, GoodIn}
-use Rattle.sheet_reading.specs.Reading.{numbers_of, told}
+use Rattle.sheet_reading.specs.Reading.{told}
 use Rattle.sheet_reading.specs.declared.Read.{Read}
 use Rattle.sheet_reading.proofs.Settled.{read_err}
 use Rattle.sheet_reading.proofs.Told.{Known, read_known, known_facts, formula-ordered, formula-inside, formula-fits, header_there, few_names, formula-said}

@@ -2,6 +2,7 @@
 #![tactic(auto)]
 
 ghost use Rattle.sheet.specs.Sheet.{sheets_of};
+ghost use Rattle.tree_tokens.specs.Tokens.{Long};
 ghost use Rattle.accepting.specs.Prepared.{SaysCoded, Says};
 
 use contraction::{CODES, Records};
@@ -48,7 +49,8 @@ pub fn prepare(
     codes: &mut [u16; CODES],
     records: &mut Records,
 ) -> Result<Prepared, Refusal>
-    ensures { Says (sheets_of fitted fittings.now sheet.now) codes.new records.new result }
+    ensures long { Long records.old → Long records.new }
+    ensures says { Says (sheets_of fitted fittings.now sheet.now) codes.new records.new result }
 {
     let accepted = accept(fitted, fittings, sheet, codes)?;
     let built = tree_dwarf::build_tree(&codes[..accepted.codes], records);

@@ -9,7 +9,6 @@ use lib.Dec.{ltb, leb}
 use lib.IntN.{ℤ, pos, negsuc, nat_abs, sub_ℕ, ◌+ℤ◌, ◌-ℤ◌}
 use lib.Signed.{lt_z, le_z}
 use Rattle.std.proofs.Common.{Some}
-use Rattle.std.specs.Int.{abs_diff}
 use Rattle.cross_ranks.specs.Ranks.{unrank}
 use Rattle.cross_ranks.proofs.RankLaws.{unrank_lt}
 use Rattle.cross_root.specs.Root.{Root}

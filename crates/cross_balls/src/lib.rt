@@ -95,13 +95,13 @@ fn rank_at(numbers: &[i32], k: usize) -> u32
     cross_ranks::rank_of(numbers[k])
 }
 
-// The i-th ball, from 0; one that is only begun is at fault.
+// The i-th ball, from 0; one that is only begun is at fault. How many are whole is the same for each, so that a loop asks it once.
 pub fn meet_at(numbers: &[i32], i: usize) -> Option<Met>
     requires { (4 * i < length numbers.now) × (i < 256) }
     ensures { cut_of result ≡ get_or (ball_cuts numbers.now) i fault }
 {
     let k = 4 * i;
-    if numbers.len() < k + 4 {
+    if numbers.len() / 4 <= i {
         return None;
     }
     meet_ball(Ball {

@@ -22,7 +22,6 @@ use Rattle.labels.proofs.Root.{root_label}
 use Rattle.labels.proofs.Held.{held_records, held_shaped}
 use Rattle.toggle_passes.specs.Reworking.{Steps, steps}
 use Rattle.toggles.specs.Toggles.{toggle}
-use Rattle.toggles.specs.Flipping.{Toggles}
 use Rattle.toggles.proofs.Runs.{toggle_more}
 use Rattle.toggle_run.specs.Ran.{ToggleRoom}
 use Rattle.edit_labels.specs.Edited.{Editable, EditDone}

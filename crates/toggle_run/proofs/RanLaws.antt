@@ -1,25 +1,22 @@
 -- The toggle lists that a run takes, and what it leaves in the lent lists.
-use Prim.Native.Nat.{ℕ, zero, suc, ◌+◌, ◌<◌, ◌≤◌}
-use native.Mathlib.Numerals.{add-one}
+use Prim.Native.Nat.{ℕ, zero, suc, ◌<◌, ◌≤◌}
 use native.Mathlib.Omega.{arith}
 use mathlib.Core.Path.{◌≡◌, refl, sym, ap, ◌∙◌}
-use mathlib.Core.Bool.{Bool, true, false, cond}
+use mathlib.Core.Bool.{Bool, true, false}
 use mathlib.Core.List.{List, [], ◌∷◌}
 use Rattle.std.proofs.Common.{take_while}
 use Rattle.std.specs.List.{prefix_len}
 use Rattle.std.proofs.lemmas.List.Folds.{length-prefix_len}
-use lib.Dec.{eqb, ltb}
-use borrow.Author.Tests.{le-leb, lt-leb, eq-eqb, ne_eqb, ltb-true, ltb-false}
-use lib.ListN.{length, get_or, take, drop, drop_of_length-le}
-use lib.Seq.{drop-cons}
+use lib.Dec.{ltb}
+use borrow.Author.Tests.{ltb-true}
+use lib.ListN.{length, get_or, take}
 use Rattle.outcome.specs.Lent.{filled}
-use Rattle.outcome.specs.Outcome.{given, refused, need}
 use Rattle.formula.specs.Formula.{Formula}
 use Rattle.formula.specs.States.{outside}
 use Rattle.labels.specs.Labels.{labels}
 use Rattle.labels.specs.Arrays.{Holds, Tree}
 use Rattle.contraction.specs.Entries.{recs}
-use Rattle.labels.specs.Linked.{Rules, Shaped, Parents, Chains, Ready}
+use Rattle.labels.specs.Linked.{Rules, Shaped, Parents, Chains}
 use Rattle.labels.proofs.Held.{held_records, held_shaped}
 use Rattle.toggles.specs.Toggles.{toggle_each, toggle_run}
 use Rattle.toggles.specs.Named.{first_wrong}

@@ -13,7 +13,7 @@ use Rattle.std.proofs.lemmas.List.Sums.{take_while-cons}
 use mathlib.Core.Bool.{Bool, true, false}
 use lib.Dec.{ltb, leb}
 use Rattle.contraction.specs.declared.Records.{Records}
-use Rattle.tree_tokens.specs.Tokens.{Token, bare, single, double, decode, toks, entries_in}
+use Rattle.tree_tokens.specs.Tokens.{Token, bare, single, double, decode, toks, entries_in, Long}
 use Rattle.tree_tokens.proofs.TokensLaws.{decode-bare, decode-single, decode-double}
 use Rattle.tree_compress.specs.Pairing.{is_single, chain_length, Pairing, puts, pair_token, pair_tokens, Counted, pairing_in, pairing_start, PairingStep, CompressedTo}
 use Rattle.tree_compress.specs.declared.PairingFills.{PairingFills}
@@ -53,6 +53,7 @@ view_put out out' m t e rs = rw e
 pub record PairingAt (tokens : List ℕ) (next : ℕ) (found : Records) (out : List ℕ) (rs : Records) (m : PairingFills) (i k : ℕ) : Type 0 where
   pub at : m.at ≤ i
   pub more : m.next ≤ next + i
+  pub long : Long found → Long rs
   pub counted : Counted (drop i tokens) k
   pub is : pair_tokens (pairing_in out rs m) (map decode (drop i tokens)) ≡ pair_tokens (pairing_start found next) (map decode tokens)
 
@@ -74,16 +75,17 @@ tokens_end l i e b = rw (drop_all i l b) at e
 
 module _ {tokens : List ℕ} {next : ℕ} {out : List ℕ} {rs : Records} where
   pub pairing_start_lem : PairingAt tokens next rs out rs (record { held = None; at = 0; next = next }) 0 0
-  pairing_start_lem = record { at = omega arith; more = omega arith; counted = record { is = λ h. absurd (h refl) }; is = refl }
+  pairing_start_lem = record { at = omega arith; more = omega arith; long = λ h. h; counted = record { is = λ h. absurd (h refl) }; is = refl }
 
   module _ {found : Records} {m : PairingFills} {i k : ℕ} (now : PairingAt tokens next found out rs m i k) where
     pub pairing_more : {out' : List ℕ} {rs' : Records} {m' : PairingFills} {r k' : ℕ} → i < length tokens → r ≡ chain_length (map decode (drop i tokens))
-        → PairingStep (pair_token (pairing_in out rs m) (decode (get_or tokens i 0)) r) (pairing_in out' rs' m') m m' → k' ≡ r - 1
+        → (Long rs → Long rs') → PairingStep (pair_token (pairing_in out rs m) (decode (get_or tokens i 0)) r) (pairing_in out' rs' m') m m' → k' ≡ r - 1
         → PairingAt tokens next found out' rs' m' (i + 1) k'
-    pairing_more {r = r} {k' = k'} h run step less =
+    pairing_more {r = r} {k' = k'} h run more step less =
         record {
           at = omega (arith, now.at, step.at);
           more = omega (arith, now.more, step.next);
+          long = λ was. more (now.long was);
           counted = chain_less tokens i r k' run less h;
           is = tokens_on tokens i _ _ r step.is run now.is h;
         }

@@ -2,7 +2,7 @@
 #![tactic(auto)]
 
 ghost use Rattle.std.specs.Prelude.{◌≡◌, map, take_while, ◌+◌, ◌≤◌, ◌<◌, length};
-ghost use Rattle.tree_tokens.specs.Tokens.{decode};
+ghost use Rattle.tree_tokens.specs.Tokens.{decode, Long};
 ghost use Rattle.tree_compress.specs.Pairing.{is_single, chain_length, puts, pairs, pair_token, Counted, pairing_in, PairingRoom, PairingStep, CompressedTo};
 
 use contraction::{CODES, NODES, Records};
@@ -58,6 +58,7 @@ fn pair_up(
     m: PairingFills,
 ) -> PairingFills
     requires pairing_room { PairingRoom m }
+    ensures long { Long records.new }
     ensures result_after { (pairing_in out.new records.new result ≡ pairs upper lower (pairing_in out.old records.old m)) × (result.at ≡ m.at + 1) × (result.next ≡ m.next + 1) }
 {
     tree_tokens::put_token(FIRST_SINGLE + m.next, out, m.at);
@@ -83,6 +84,7 @@ fn compress_token(
     m: PairingFills,
 ) -> PairingFills
     requires pairing_room { PairingRoom m }
+    ensures long { Long records.old → Long records.new }
     ensures pairing_step { PairingStep (pair_token (pairing_in out.old records.old m) (decode t) k) (pairing_in out.new records.new result) m result }
 {
     if t < FIRST_SINGLE || FIRST_OPERATION <= t {
@@ -104,6 +106,7 @@ fn compress_token(
 pub fn compress(tokens: &[u16], out: &mut [u16; CODES], records: &mut Records, next: u16) -> Extent
     requires tokens_few { (length tokens.now ≤ CODES) × (next + length tokens.now ≤ NODES) }
     ensures at_le_n { result.at ≤ length tokens.now }
+    ensures long { Long records.old → Long records.new }
     ensures compressed_to { CompressedTo tokens.now next records.old out.new records.new result }
 {
     let mut m = PairingFills {

@@ -14,9 +14,8 @@ use Rattle.contraction.specs.Height.{height}
 use Rattle.contraction.proofs.Rounds.{length-leaf_recs}
 use Rattle.contraction.specs.Entries.{Entry, entry_at, entries, entry_of, rec_of}
 use Rattle.contraction.specs.declared.Records.{Records}
-use Rattle.tree_tokens.specs.Tokens.{entries_in, recs_in, Leaves}
+use Rattle.tree_tokens.specs.Tokens.{entries_in, recs_in, Long, Leaves}
 use Rattle.contraction.proofs.EntryLaws.{records_entries, entries-append, entries_next, length-entries}
-use Rattle.tree_height.specs.Paths.{Long}
 use Rattle.tree_dwarf.specs.Dwarfed.{Plans, Planned, Dwarfed}
 use Rattle.tree_dwarf.specs.Building.{PlantedTo, Rooted, Contracted, ContractedTo, Bounded}
 use Rattle.tree_dwarf.specs.declared.Figures.{Figures}

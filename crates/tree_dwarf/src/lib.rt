@@ -3,6 +3,7 @@
 
 ghost use Rattle.std.specs.Prelude.{◌≡◌, ◌+◌, ◌≤◌, ◌<◌, length};
 ghost use Rattle.formula.specs.Formula.{Formula};
+ghost use Rattle.tree_tokens.specs.Tokens.{Long};
 ghost use Rattle.tree_dwarf.specs.Dwarfed.{Plans, Planned, Dwarfed};
 ghost use Rattle.tree_dwarf.specs.Building.{plant_code, planting_in, PlantedTo, Rooted, RoundTo, ContractedTo, Bounded};
 
@@ -96,6 +97,7 @@ fn contract(a: &mut [u16; CODES], records: &mut Records, planted: Extent) -> Don
 // Builds the dwarf tree of the formula whose postfix order the codes are.
 pub fn build_tree(codes: &[u16], records: &mut Records) -> Figures
     requires codes_few { (length codes.now < CODES) × Planned codes.now }
+    ensures long { Long records.new }
     ensures bounded { Bounded result }
     ensures dwarfed { (f : Formula) → Plans f codes.now → Dwarfed f records.new result }
 {

@@ -4,8 +4,8 @@
 ghost use Rattle.std.specs.Prelude.{◌≡◌, ◌+◌, ◌≤◌, ◌<◌, length, get_or};
 ghost use Rattle.contraction.specs.Height.{height as height_of, path as path_of};
 ghost use Rattle.contraction.specs.Entries.{entry, rec_of};
-ghost use Rattle.tree_tokens.specs.Tokens.{recs_in};
-ghost use Rattle.tree_height.specs.Paths.{Low, Long};
+ghost use Rattle.tree_tokens.specs.Tokens.{recs_in, Long};
+ghost use Rattle.tree_height.specs.Paths.{Low};
 
 use contraction::{NODES, Records};
 use tree_tokens::{LEAF, R_LEFT, Record, S};

@@ -8,7 +8,7 @@ use lib.ListN.{length, get_or, set}
 use lib.Seq.{get_or-set_same, get_or-set_other}
 use Rattle.contraction.specs.Entries.{Entry, entry}
 use Rattle.contraction.specs.declared.Records.{Records}
-use Rattle.tree_tokens.specs.Tokens.{decode, present, toks, entries_in}
+use Rattle.tree_tokens.specs.Tokens.{decode, present, toks, entries_in, Long}
 use Rattle.tree_tokens.proofs.TokensLaws.{toks-all, toks-next, decode-bare, decode-double, decode-new, present-none, present_some}
 use Rattle.tree_rake.specs.Raking.{Raking, kept, makes, rake_token, operands, raking_in, raking_start, RakingStep, RakedTo}
 use Rattle.tree_rake.specs.declared.RakingFills.{RakingFills}
@@ -68,6 +68,7 @@ pub record RakingAt (tokens : List ℕ) (next : ℕ) (found : Records) (out st :
   pub top : m.top ≤ i
   pub at : m.at ≤ i
   pub more : m.next ≤ next + i
+  pub long : Long found → Long rs
   pub is : raking_in out st rs m ≡ foldl rake_token (raking_start found next) (toks tokens i)
 
 run_next : (σ₀ : Raking) (l : List ℕ) (i : ℕ) {σ r : Raking} → r ≡ rake_token σ (decode (get_or l i 0)) → σ ≡ foldl rake_token σ₀ (toks l i) → i < length l → r ≡ foldl rake_token σ₀ (toks l (i + 1))
@@ -75,17 +76,18 @@ run_next σ₀ l i q e h = q ∙ ap (λ (s : Raking). rake_token s (decode (get_
 
 module _ {tokens : List ℕ} {next : ℕ} {out st : List ℕ} {rs : Records} where
   pub raking_start_lem : RakingAt tokens next rs out st rs (record { top = 0; at = 0; next = next }) 0
-  raking_start_lem = record { top = omega arith; at = omega arith; more = omega arith; is = refl }
+  raking_start_lem = record { top = omega arith; at = omega arith; more = omega arith; long = λ h. h; is = refl }
 
   module _ {found : Records} {m : RakingFills} {i : ℕ} (now : RakingAt tokens next found out st rs m i) where
-    pub raking_next : {out' st' : List ℕ} {rs' : Records} {r : RakingFills} → i < length tokens
+    pub raking_next : {out' st' : List ℕ} {rs' : Records} {r : RakingFills} → i < length tokens → (Long rs → Long rs')
         → RakingStep (rake_token (raking_in out st rs m) (decode (get_or tokens i 0))) (raking_in out' st' rs' r) m r
         → RakingAt tokens next found out' st' rs' r (i + 1)
-    raking_next h step =
+    raking_next h more step =
         record {
           top = omega (arith, now.top, step.top);
           at = omega (arith, now.at, step.at);
           more = omega (arith, now.more, step.next);
+          long = λ was. more (now.long was);
           is = run_next _ tokens i step.is now.is h;
         }
 

@@ -3,7 +3,7 @@
 
 ghost use Rattle.std.specs.Prelude.{◌≡◌, ◌+◌, ◌≤◌, ◌<◌, length};
 ghost use Rattle.contraction.specs.Entries.{entry};
-ghost use Rattle.tree_tokens.specs.Tokens.{decode};
+ghost use Rattle.tree_tokens.specs.Tokens.{decode, Long};
 ghost use Rattle.tree_rake.specs.Raking.{kept, makes, rake_token, raking_in, RakingRoom, RakingStep, RakedTo};
 
 use contraction::{CODES, NODES, Records};
@@ -45,6 +45,7 @@ fn make(
     m: RakingFills,
 ) -> RakingFills
     requires raking_room { RakingRoom m }
+    ensures long { Long records.new }
     ensures result_after { raking_in out.new st.new records.new result
         ≡ makes (entry node.kind node.first node.second) (decode t) (raking_in out.old st.old records.old m) }
     ensures top_value { (result.top ≡ m.top + 1) × (result.at ≡ m.at + 1) × (result.next ≡ m.next + 1) }
@@ -67,6 +68,7 @@ fn rake_one(
 ) -> RakingFills
     requires raking_room { RakingRoom m }
     requires le_t { (FIRST_SINGLE ≤ t) × (t < FIRST_OPERATION) }
+    ensures long { Long records.old → Long records.new }
     ensures raking_step { RakingStep (rake_token (raking_in out.old st.old records.old m) (decode t)) (raking_in out.new st.new records.new result) m result }
 {
     if m.top < 1 {
@@ -100,6 +102,7 @@ fn rake_two(
 ) -> RakingFills
     requires raking_room { RakingRoom m }
     requires le_t { FIRST_OPERATION ≤ t }
+    ensures long { Long records.old → Long records.new }
     ensures raking_step { RakingStep (rake_token (raking_in out.old st.old records.old m) (decode t)) (raking_in out.new st.new records.new result) m result }
 {
     if m.top < 2 {
@@ -136,6 +139,7 @@ fn rake_token(
     m: RakingFills,
 ) -> RakingFills
     requires raking_room { RakingRoom m }
+    ensures long { Long records.old → Long records.new }
     ensures raking_step { RakingStep (rake_token (raking_in out.old st.old records.old m) (decode t)) (raking_in out.new st.new records.new result) m result }
 {
     if t < FIRST_SINGLE {
@@ -161,6 +165,7 @@ pub fn rake(
 ) -> Extent
     requires tokens_few { (length tokens.now ≤ CODES) × (next + length tokens.now ≤ NODES) }
     ensures at_le_n { result.at ≤ length tokens.now }
+    ensures long { Long records.old → Long records.new }
     ensures raked_to { RakedTo tokens.now next records.old out.new records.new result }
 {
     let mut m = RakingFills {

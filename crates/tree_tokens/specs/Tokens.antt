@@ -1,11 +1,12 @@
 -- What the arrays of a contraction hold: the working tree in postfix order, a token a node, and the records made so far.
-use Rattle.std.specs.Prelude.{ℕ, ◌-◌, ◌≡◌, cond, List, [], ◌∷◌, ◌++◌, map, ltb, eqb, take}
+use Rattle.std.specs.Prelude.{ℕ, ◌-◌, ◌≡◌, cond, List, [], ◌∷◌, ◌++◌, map, length, ltb, eqb, take}
 use Rattle.std.proofs.Math.Option.{Option, none, some}
 use Rattle.formula.specs.Formula.{index, first_operation}
 use Rattle.contraction.specs.Records.{Rec, absent}
 use Rattle.contraction.specs.Rounds.{Work, tip, one, two}
 use Rattle.contraction.specs.Entries.{Entry, entries, entry_of, recs}
 use Rattle.contraction.specs.declared.Records.{Records}
+use Rattle.contraction.specs.declared.TheConstants.{NODES}
 use Rattle.tree_tokens.specs.declared.Extent.{Extent}
 
 -- A leaf or a one-child node with its dwarf root; a two-child node with its operation's index.
@@ -42,6 +43,12 @@ entries_in rs n = entries rs.kinds rs.firsts rs.seconds 0 n
 
 abbrev pub recs_in : Records → ℕ → List Rec
 recs_in rs n = recs rs.kinds rs.firsts rs.seconds 0 n
+
+-- The arrays of records are as long as their type says.
+pub record Long (rs : Records) : Type 0 where
+  pub kinds : length rs.kinds ≡ NODES
+  pub firsts : length rs.firsts ≡ NODES
+  pub seconds : length rs.seconds ≡ NODES
 
 -- What a step leaves: the tokens of the tree w, and behind the entries it found those of the records that it made.
 pub record Leaves (w : Work) (found : List Entry) (made : List Rec) (out : List ℕ) (rs : Records) (r : Extent) : Type 0 where

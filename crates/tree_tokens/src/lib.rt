@@ -3,7 +3,7 @@
 
 ghost use Rattle.std.specs.Prelude.{◌≡◌, [], ◌∷◌, ◌++◌, ◌+◌, ◌<◌};
 ghost use Rattle.contraction.specs.Entries.{entry};
-ghost use Rattle.tree_tokens.specs.Tokens.{decode, toks, entries_in};
+ghost use Rattle.tree_tokens.specs.Tokens.{decode, toks, entries_in, Long};
 
 use contraction::{CODES, NODES, Records};
 
@@ -55,6 +55,7 @@ pub fn put_token(t: u16, out: &mut [u16; CODES], at: usize)
 #[tactic(auto, using(crate::proofs::TokensLaws::entries_put))]
 pub fn put_record(node: Record, records: &mut Records, next: u16)
     requires next_bound { next < NODES }
+    ensures long { Long records.new }
     ensures next_after { entries_in records.new (next + 1)
         ≡ entries_in records.old next ++ (entry node.kind node.first node.second ∷ []) }
 {

@@ -9,5 +9,5 @@ build_tree-built-requires c =
     let p = planned _ _ _ _ c.in_ok-accepted.ensures in
     search rules
 
-pub returns : goal.returns
-returns c = built _ _ _ _ c.in_ok-accepted.ensures _ _ c.build_tree-built.ensures.dwarfed
+pub returns-clause-says : goal.returns-clause-says
+returns-clause-says c = built _ _ _ _ c.in_ok-accepted.ensures _ _ c.build_tree-built.ensures.dwarfed

@@ -16,11 +16,11 @@ returns-in-Err c = search (both_refused_lem, rules)
 pub returns-then-not-mixes : goal.returns-then-not-mixes
 returns-then-not-mixes c =
     let why = rw c.at.ensures at c.both_refused-then-not-mixes.ensures in
-    not_mixed _ _ _ _ _ _ _ c.prepare.ensures _ c.in-Ok.is c.mixes.ensures _ _ c.if-not-mixes.true why
+    not_mixed _ _ _ _ _ _ _ c.prepare.ensures.says _ c.in-Ok.is c.mixes.ensures _ _ c.if-not-mixes.true why
 
 pub returns-else-not-mixes : goal.returns-else-not-mixes
 returns-else-not-mixes c =
     record {
-      to_first = served _ _ _ _ _ _ _ c.prepare.ensures _ c.in-Ok.is c.mixes.ensures _ _ (c.if-not-mixes.false) c.run_toggles-to_first.ensures;
-      to_second = served _ _ _ _ _ _ _ c.prepare.ensures _ c.in-Ok.is c.mixes.ensures _ _ (c.if-not-mixes.false) c.run_toggles-to_second.ensures;
+      to_first = served _ _ _ _ _ _ _ c.prepare.ensures.says _ c.in-Ok.is c.mixes.ensures _ _ (c.if-not-mixes.false) c.run_toggles-to_first.ensures;
+      to_second = served _ _ _ _ _ _ _ c.prepare.ensures.says _ c.in-Ok.is c.mixes.ensures _ _ (c.if-not-mixes.false) c.run_toggles-to_second.ensures;
     }

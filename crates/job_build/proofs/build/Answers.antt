@@ -3,7 +3,7 @@ use Rattle.job_build.proofs.BuildLaws.{few_nodes, sheet_built}
 use Rattle.job_build.proofs.build.Goals as goal
 
 pub give_built-requires : goal.give_built-requires
-give_built-requires c = few_nodes _ _ _ _ _ _ c.in_ok-prepared.ensures
+give_built-requires c = few_nodes _ _ _ _ _ _ c.in_ok-prepared.ensures.says
 
 pub returns : goal.returns
-returns c = sheet_built _ _ _ _ _ _ c.in_ok-prepared.ensures _ _ _ _ _ _ _ c.give_built.ensures
+returns c = sheet_built _ _ _ _ _ _ c.in_ok-prepared.ensures.says _ _ _ _ _ _ _ c.give_built.ensures

@@ -13,4 +13,4 @@ unfolding running
 returns-in_err-prepared c = search (sheet-refused, rules)
 
 pub returns : goal.returns
-returns c = sheet_ran _ _ _ _ _ _ _ _ c.in_ok-prepared.ensures _ refl _ _ _ _ c.run_toggles.ensures
+returns c = sheet_ran _ _ _ _ _ _ _ _ c.in_ok-prepared.ensures.says _ refl _ _ _ _ c.run_toggles.ensures
