@@ -4,6 +4,7 @@ use Rattle.formula.specs.Formula.{op_at, Formula}
 use Rattle.contraction.specs.Records.{number}
 use Rattle.contraction.specs.Rounds.{dwarf}
 use Rattle.contraction.specs.Entries.{kind_at}
+use Rattle.contraction.specs.declared.Records.{Records}
 use Rattle.edits.specs.Edits.{edited, node_at}
 use Rattle.edits.specs.Changes.{operations, rekind}
 use Rattle.labels.specs.Arrays.{Holds}
@@ -40,3 +41,9 @@ pub record EditLeft (ks fs ss : List ℕ) (leaves nodes : ℕ) (ps old ls : List
 -- So it is for every formula and position of which that node is.
 pub record EditDone (ks fs ss : List ℕ) (leaves nodes : ℕ) (ps old : List ℕ) (e o : ℕ) (ks' ls : List ℕ) (count : ℕ) : Type 0 where
   pub so : (f : Formula) (p : ℕ) → NodeOf ks fs ss leaves nodes e f p → EditLeft ks' fs ss leaves nodes ps old ls count e o f p
+
+-- Of the records nothing changes but kinds, and there are as many of them.
+pub record KindsAlone (old new : Records) : Type 0 where
+  pub firsts : new.firsts ≡ old.firsts
+  pub seconds : new.seconds ≡ old.seconds
+  pub as_many : length new.kinds ≡ length old.kinds

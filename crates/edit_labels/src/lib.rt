@@ -1,8 +1,8 @@
 // One edit on a dwarf tree in arrays: the kind of its node changes, and labels are reworked from that node up.
 #![tactic(auto)]
 
-ghost use Rattle.std.specs.Prelude.{◌≡◌, ◌<◌, length};
-ghost use Rattle.edit_labels.specs.Edited.{Rekinded, Editable, EditDone};
+ghost use Rattle.std.specs.Prelude.{◌≡◌, ◌<◌};
+ghost use Rattle.edit_labels.specs.Edited.{Rekinded, Editable, EditDone, KindsAlone};
 
 use contraction::{NODES, Records};
 use labels::{DwarfTree, LINKS, RULES, Size};
@@ -33,8 +33,7 @@ pub fn edit(
     o: u16,
 ) -> u32
     requires { let r = records.old in Editable rules.now r.kinds r.firsts r.seconds size.leaves size.nodes links.now labels.old e × (o < 4) }
-    ensures kinds_alone { (records.new.firsts ≡ records.old.firsts) × (records.new.seconds ≡ records.old.seconds)
-        × (length records.new.kinds ≡ length records.old.kinds) }
+    ensures kinds_alone { KindsAlone records.old records.new }
     ensures done { let r = records.old in
         EditDone r.kinds r.firsts r.seconds size.leaves size.nodes links.now labels.old e o records.new.kinds labels.new result }
 {

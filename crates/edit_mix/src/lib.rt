@@ -2,6 +2,7 @@
 #![tactic(auto)]
 
 ghost use Rattle.std.specs.Prelude.{◌≡◌, ◌+◌, ◌<◌, length};
+ghost use Rattle.edit_labels.specs.Edited.{KindsAlone};
 ghost use Rattle.edit_moments.specs.Waiting.{desk};
 ghost use Rattle.edit_mix.specs.Acting.{CanToggle, ToggleDone, CanAct, Acted};
 
@@ -52,8 +53,7 @@ pub fn act(
         CanAct (desk board.rules.now records.old.firsts records.old.seconds board.size board.links.now board.places.now e.moments.now e.positions.now e.codes.now)
         board.toggles.now j k records.old.kinds labels.old roots.old counts.old edit_counts.old }
     requires j_in_bounds { j < length board.toggles.now + length board.edits.moments.now }
-    ensures kinds_alone { (records.new.firsts ≡ records.old.firsts) × (records.new.seconds ≡ records.old.seconds)
-        × (length records.new.kinds ≡ length records.old.kinds) }
+    ensures kinds_alone { KindsAlone records.old records.new }
     ensures acted { let b = board.entry in let e = b.edits in
         Acted (desk b.rules.now records.old.firsts records.old.seconds b.size b.links.now b.places.now e.moments.now e.positions.now e.codes.now)
         b.toggles.now j k result records.old.kinds labels.old roots.old counts.old edit_counts.old

@@ -1,7 +1,7 @@
 // A toggle run with edits on a dwarf tree, on lent lists: places and tables filled, edits and toggles each in its time, the labels at the end.
 #![tactic(auto)]
 
-ghost use Rattle.std.specs.Prelude.{◌≡◌, length};
+ghost use Rattle.edit_labels.specs.Edited.{KindsAlone};
 ghost use Rattle.edit_run.specs.Ran.{EditRoom, EditedRuns};
 
 use contraction::{CODES, NODES, Records};
@@ -27,8 +27,7 @@ pub fn run_edited(
     ensures runs { let r = records.old in let e = edits.entry in
         EditedRuns formula.now r.kinds r.firsts r.seconds size.leaves size.nodes toggles.now e.moments.now e.positions.now e.codes.now
         roots.old counts.old labels.old edit_counts.old roots.new counts.new labels.new edit_counts.new }
-    ensures kinds_alone { (records.new.firsts ≡ records.old.firsts) × (records.new.seconds ≡ records.old.seconds)
-        × (length records.new.kinds ≡ length records.old.kinds) }
+    ensures kinds_alone { KindsAlone records.old records.new }
 {
     let mut places = [0u16; CODES];
     let mut rules = [0u8; RULES];

@@ -81,11 +81,11 @@ module _ {tokens : List ℕ} {next : ℕ} {out : List ℕ} {rs : Records} where
     pub pairing_more : {out' : List ℕ} {rs' : Records} {m' : PairingFills} {r k' : ℕ} → i < length tokens → r ≡ chain_length (map decode (drop i tokens))
         → (Long rs → Long rs') → PairingStep (pair_token (pairing_in out rs m) (decode (get_or tokens i 0)) r) (pairing_in out' rs' m') m m' → k' ≡ r - 1
         → PairingAt tokens next found out' rs' m' (i + 1) k'
-    pairing_more {r = r} {k' = k'} h run more step less =
+    pairing_more {r = r} {k' = k'} h run keeps step less =
         record {
           at = omega (arith, now.at, step.at);
           more = omega (arith, now.more, step.next);
-          long = λ was. more (now.long was);
+          long = λ was. keeps (now.long was);
           counted = chain_less tokens i r k' run less h;
           is = tokens_on tokens i _ _ r step.is run now.is h;
         }

@@ -82,12 +82,12 @@ module _ {tokens : List ℕ} {next : ℕ} {out st : List ℕ} {rs : Records} whe
     pub raking_next : {out' st' : List ℕ} {rs' : Records} {r : RakingFills} → i < length tokens → (Long rs → Long rs')
         → RakingStep (rake_token (raking_in out st rs m) (decode (get_or tokens i 0))) (raking_in out' st' rs' r) m r
         → RakingAt tokens next found out' st' rs' r (i + 1)
-    raking_next h more step =
+    raking_next h keeps step =
         record {
           top = omega (arith, now.top, step.top);
           at = omega (arith, now.at, step.at);
           more = omega (arith, now.more, step.next);
-          long = λ was. more (now.long was);
+          long = λ was. keeps (now.long was);
           is = run_next _ tokens i step.is now.is h;
         }
 
