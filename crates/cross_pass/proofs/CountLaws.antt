@@ -36,18 +36,27 @@ no_byte (suc n) zero = refl
 no_byte (suc n) (suc j) = no_byte n j
 
 -- ---- before the first line
-pub passing_starts : {kinds : List ℕ} {numbers : List Float} {columns : Columns.Columns} → length kinds ≤ 256 → Columns kinds numbers (length kinds) columns.lows columns.highs columns.halves
+module _ {kinds : List ℕ} {numbers : List Float} {columns : Columns.Columns} {lessers greaters keys : List ℕ} where
+  passing_of : length kinds ≤ 256 → Columns kinds numbers (length kinds) columns.lows columns.highs columns.halves → length lessers ≡ 1024 → length greaters ≡ 1024 → length keys ≡ 512
+      → Passing kinds numbers (record { columns = columns; ranks = record { lessers = lessers; greaters = greaters }; kept = None; bytes = replicate 256 0; keys = keys })
+  passing_of few columns l g k = record {
+    few = few;
+    columns = columns;
+    keeps = record { ranked = λ k e. absurd (let z : ◌≡◌ {A = ℕ} 0 1 = cc in omega arith) };
+    clear = record { zero = λ j h k z. no_byte 256 j };
+    lessers_sized = l;
+    greaters_sized = g;
+    bytes_sized = refl;
+    keys_sized = k;
+  }
+
+pub passing_starts : (kinds : List ℕ) (numbers : List Float) {lows highs : List Float} {halves lessers greaters keys : List ℕ} → length kinds ≤ 256 → Columns kinds numbers (length kinds) lows highs halves → length lessers ≡ 1024 → length greaters ≡ 1024 → length keys ≡ 512
+    → Passing kinds numbers (record { columns = record { lows = lows; highs = highs; halves = halves }; ranks = record { lessers = lessers; greaters = greaters }; kept = None; bytes = replicate 256 0; keys = keys })
+passing_starts kinds numbers few columns l g k = passing_of few columns l g k
+
+pub empty_passes : {kinds : List ℕ} {numbers : List Float} {columns : Columns.Columns} → length kinds ≤ 256 → Columns kinds numbers (length kinds) columns.lows columns.highs columns.halves
     → Passing kinds numbers (record { columns = columns; ranks = record { lessers = replicate 1024 0; greaters = replicate 1024 0 }; kept = None; bytes = replicate 256 0; keys = replicate 512 0 })
-passing_starts few columns = record {
-  few = few;
-  columns = columns;
-  keeps = record { ranked = λ k e. absurd (let z : ◌≡◌ {A = ℕ} 0 1 = cc in omega arith) };
-  clear = record { zero = λ j h k z. no_byte 256 j };
-  lessers_sized = refl;
-  greaters_sized = refl;
-  bytes_sized = refl;
-  keys_sized = refl;
-}
+empty_passes few columns = passing_of few columns refl refl refl
 
 -- ---- one line that is not at fault
 line-asked : (kinds : List ℕ) (numbers : List Float) (probe : Probe) → line_judged kinds numbers probe ≡ given tt → (good_probe probe ≡ true) × (faultless 16 0 (shape_cuts probe kinds numbers) ≡ given tt)

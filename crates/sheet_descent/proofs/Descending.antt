@@ -9,7 +9,7 @@ use mathlib.Core.List.{List, [], ◌∷◌, ◌++◌, append_assoc}
 use mathlib.Core.Option.{some}
 use lib.ListN.{length, take, drop, set, length-set, length-append}
 use lib.Seq.{take-suc-set}
-use Rattle.outcome.specs.Outcome.{◌>>=◌, part}
+use Rattle.outcome.specs.Outcome.{refused, ◌>>=◌, part}
 use Rattle.formula.specs.Formula.{Op, code, leaf, node, postfix, prefix}
 use Rattle.formula.proofs.Laws.{length-prefix}
 use Rattle.formula.specs.Codes.{is_operation, operation}
@@ -17,8 +17,12 @@ use Rattle.formula.proofs.Codes.{operation_which, operation-code}
 use Rattle.sheet.specs.Sheet.{two_bytes_at, codes_of, joined_first, all_first}
 use Rattle.sheet.proofs.CodesFirst.{first-operation, first_unknown, first-prefix}
 use Rattle.sheet_codes.proofs.CodeSteps.{codes_more}
-use Rattle.sheet_descent.specs.Descent.{Room, IsWhole, EndsEarly, short_at}
-use Rattle.sheet_descent.proofs.Short.{none_other, some_operation, short-operation, short_unknown, short-prefix, few_bytes}
+use Rattle.sheet_descent.specs.Descent.{Room, IsWhole, IsWrong, EndsEarly, FirstUnknown, Fails, short_at}
+use Rattle.sheet_descent.proofs.Short.{none_other, some_operation, short-operation, short_unknown, short-prefix, few_bytes, unknown_met}
+
+-- What `None` says of the first unknown code, where that stands no further than `past`.
+pub fails-wrong : (n : ℕ) (p : List ℕ) (at past place : ℕ) → past ≤ length p → Fails n p at past → FirstUnknown n p at place → place ≤ past → IsWrong n p at place
+fails-wrong n p at past place within w u near = record { within = omega arith; is = λ tag first k. w.wrong place k u (omega arith) tag first }
 
 pub right-falls : (p : List ℕ) (at past mid t : ℕ) → length p - at ≡ t → at < past → past ≤ length p → at + 2 ≤ mid → length p - mid < t
 right-falls p at past mid t e more within after = omega arith
@@ -28,6 +32,13 @@ right-falls p at past mid t e more within after = omega arith
 module _ (n : ℕ) (p old : List ℕ) (at past count : ℕ) (room : Room n p old at past count) where
   pub ends-early : past ≤ at → EndsEarly n p at past
   ends-early h = record { is = λ tag first k few. few_bytes p n tag (first + at) at k (omega (arith, h, few)) }
+
+  pub ends_fails : past ≤ at → Fails n p at past
+  ends_fails h =
+      record {
+        early = ends-early h;
+        wrong = λ place k u near tag first. unknown_met (codes_of (drop at p)) n tag (first + at) (first + place) k (λ t. u.is t first) (omega (arith, h, near));
+      }
 
   pub room-two : at < past → at + 1 < length p
   room-two more = omega (arith, room.there, room.here, room.within)
@@ -55,11 +66,21 @@ module _ (n : ℕ) (p old : List ℕ) (at past count : ℕ) (room : Room n p old
           sized = length-set old count c ∙ room.sized;
         })
 
-    pub wrong_here : n ≤ c → is_operation c ≡ false → EndsEarly n p at past
-    wrong_here h e =
-        let none = none_other c e in
-        let cs = codes_of (drop (at + 2) p) in
-        record { is = λ tag first k few. rw codes-here (first_unknown n tag (first + at) c cs k h none ∙ rw (short_unknown n tag (first + at) c cs h none)) }
+    pub wrong_here : n ≤ c → is_operation c ≡ false → IsWrong n p at at
+    wrong_here h e = record { within = omega (arith, more, room.within); is = λ tag first k. rw codes-here (first_unknown n tag (first + at) c (codes_of (drop (at + 2) p)) k h (none_other c e)) }
+
+    short_here : n ≤ c → is_operation c ≡ false → (tag first : ℕ) → short_at n tag (first + at) (codes_of (drop at p)) ≡ first + at
+    short_here h e tag first = rw codes-here (short_unknown n tag (first + at) c (codes_of (drop (at + 2) p)) h (none_other c e))
+
+    pub early_here : n ≤ c → is_operation c ≡ false → EndsEarly n p at past
+    early_here h e = record { is = λ tag first k few. (wrong_here h e).is tag first k ∙ rw (short_here h e tag first) }
+
+    pub fails_here : n ≤ c → is_operation c ≡ false → Fails n p at past
+    fails_here h e =
+        record {
+          early = early_here h e;
+          wrong = λ place k u near tag first. (wrong_here h e).is tag first k ∙ ap (refused 7) (sym (short_here h e tag first) ∙ u.is tag first);
+        }
 
     -- ---- an operation, and its left operand
 
@@ -93,6 +114,18 @@ module _ (n : ℕ) (p old : List ℕ) (at past count : ℕ) (room : Room n p old
       pub left-early : EndsEarly n p (at + 2) (past - 2) → EndsEarly n p at past
       left-early w = record { is = λ tag first k few. on tag first k ∙ rw (w.is tag first (suc k) (omega (arith, few)), short_on tag first) }
 
+      pub left-wrong : (q : ℕ) → IsWrong n p (at + 2) q → IsWrong n p at q
+      left-wrong q w = record { within = w.within; is = λ tag first k. on tag first k ∙ rw (w.is tag first (suc k)) }
+
+      pub left_fails : Fails n p (at + 2) (past - 2) → Fails n p at past
+      left_fails w =
+          record {
+            early = left-early w.early;
+            wrong = λ place k u near tag first.
+                let v : FirstUnknown n p (at + 2) place = record { is = λ t f. sym (short_on t f) ∙ u.is t f } in
+                on tag first k ∙ rw (w.wrong place (suc k) v (omega (arith, near)) tag first);
+          }
+
       module _ (mids : List ℕ) (mid : ℕ) (left : IsWhole n p (at + 2) (past - 2) old mids count mid) where
         mid_at : (first : ℕ) → first + (at + 2) + 2 * length (prefix left.formula) ≡ first + mid
         mid_at first = omega (arith, left.next_is, length-prefix left.formula)
@@ -114,6 +147,18 @@ module _ (n : ℕ) (p old : List ℕ) (at past count : ℕ) (room : Room n p old
         pub right-early : EndsEarly n p mid past → EndsEarly n p at past
         right-early w =
             record { is = λ tag first k few. on tag first k ∙ rw (past-left tag first k, w.is tag first k few, short_on tag first, short-past-left tag first) }
+
+        pub right-wrong : (q : ℕ) → IsWrong n p mid q → IsWrong n p at q
+        right-wrong q w = record { within = w.within; is = λ tag first k. on tag first k ∙ rw (past-left tag first k, w.is tag first k) }
+
+        pub right_fails : Fails n p mid past → Fails n p at past
+        right_fails w =
+            record {
+              early = right-early w.early;
+              wrong = λ place k u near tag first.
+                  let v : FirstUnknown n p mid place = record { is = λ t f. sym (short-past-left t f) ∙ sym (short_on t f) ∙ u.is t f } in
+                  on tag first k ∙ rw (past-left tag first k, w.wrong place k v near tag first);
+            }
 
         module _ (lefts : ℕ) (lefts-is : lefts ≡ count + (mid - (at + 2)) / 2) where
           lefts_are : lefts ≡ count + length (postfix left.formula)

@@ -17,7 +17,7 @@ use Rattle.sheet.proofs.Codes.{formula_of-postfix}
 use Rattle.sheet.proofs.CodesFirst.{first-prefix}
 use Rattle.sheet_codes.specs.Codes.{CodesStand}
 use Rattle.sheet_codes.proofs.CodeSteps.{codes_more}
-use Rattle.sheet_descent.specs.Descent.{IsWhole, EndsEarly, short_at, FirstFits, GoodFirst, GoodIn, in_postfix}
+use Rattle.sheet_descent.specs.Descent.{IsWhole, IsWrong, EndsEarly, short_at, FirstFits, GoodFirst, GoodIn, in_postfix}
 
 module _ (n tag first : ℕ) (p : List ℕ) (fits : FirstFits n first p) where
   early-first : EndsEarly n p 0 (length p) → formula_first n tag first (codes_of p) ≡ refused 7 (short_at n tag first (codes_of p))
@@ -25,6 +25,15 @@ module _ (n tag first : ℕ) (p : List ℕ) (fits : FirstFits n first p) where
   early-first w =
       let h : all_first n tag first (codes_of p) 1 ≡ refused 7 (short_at n tag first (codes_of p)) = rw add-zero at (w.is tag first 0 (omega arith)) in
       rw h
+
+  wrong_first : (place : ℕ) → IsWrong n p 0 place → formula_first n tag first (codes_of p) ≡ refused 7 (first + place)
+  unfolding formula_first
+  wrong_first place w =
+      let h : all_first n tag first (codes_of p) 1 ≡ refused 7 (first + place) = rw add-zero at (w.is tag first 0) in
+      rw h
+
+  pub judged-wrong : (place : ℕ) → IsWrong n p 0 place → refused 7 (first + place) ≡ part leaves (formula_first n tag first (codes_of p))
+  judged-wrong place w = rw (wrong_first place w)
 
   pub judged-early : EndsEarly n p 0 (length p) → (at : ℕ) → at ≡ short_at n tag first (codes_of p) → refused 7 at ≡ part leaves (formula_first n tag first (codes_of p))
   judged-early w at is = rw (early-first w, is)
@@ -84,6 +93,9 @@ module _ (n : ℕ) (p old : List ℕ) (good : GoodFirst n p old) where
       let h : refused 7 place ≡ given good.formula = sym is ∙ good.is in
       let z : ◌≡◌ {A = ℕ} 0 1 = cc h in
       omega arith
+
+  pub never_wrong : (place : ℕ) → IsWrong n p 0 place → ⊥
+  never_wrong place w = refused_not (0 + place) (wrong_first n 0 0 p fits-first place w)
 
   pub never_ends : EndsEarly n p 0 (length p) → ⊥
   never_ends w = refused_not (short_at n 0 0 (codes_of p)) (early-first n 0 0 p fits-first w)

@@ -52,23 +52,46 @@ short-prefix n few tag (node p l r) at cs o =
     ∙ short-prefix n few tag r (at + 2 + 2 * length (prefix l)) cs o.1
     ∙ ap (λ (q : ℕ). short_at n tag q cs) e
 
--- ---- fewer codes than formulas to come: each code is at most one formula less
+-- ---- fewer known codes than formulas to come: each code is at most one formula less
 
-module _ (n tag at c : ℕ) (cs : List ℕ) (k : ℕ) (h : length cs ≤ k)
-    (ih : (j : ℕ) → length cs ≤ j → all_first n tag (at + 2) cs (suc j) ≡ refused 7 (short_at n tag (at + 2) cs)) where
-  few_operation : (p : Option Op) → operation c ≡ p → n ≤ c → all_first n tag at (c ∷ cs) (suc (suc k)) ≡ refused 7 (short_at n tag at (c ∷ cs))
-  few_operation none e l = first_unknown n tag at c cs (suc k) l e ∙ rw (short_unknown n tag at c cs l e)
-  few_operation (some o) e l = first-operation n tag at c cs (suc k) o l e ∙ rw (short-operation n tag at c cs o l e, ih (suc (suc k)) (omega arith))
+-- Of codes from i up to `end`: where the known ones among them end, and that 7 stands there, or at the tag, if they are too few.
+record Few (n tag i end : ℕ) (cs : List ℕ) : Type 0 where
+  from : i ≤ short_at n end i cs
+  within : short_at n end i cs ≤ end
+  refuses : (k : ℕ) → short_at n end i cs ≤ i + 2 * k → all_first n tag i cs (suc k) ≡ refused 7 (short_at n tag i cs)
 
-  few_code : (b : Bool) → ltb c n ≡ b → all_first n tag at (c ∷ cs) (suc (suc k)) ≡ refused 7 (short_at n tag at (c ∷ cs))
-  few_code true q = let l = ltb-true c n q in first_leaf n tag at c cs (suc k) l ∙ rw (short-leaf n tag at c cs l, ih k h)
+module _ (n tag i end c : ℕ) (cs : List ℕ) (room : i ≤ end) (ih : Few n tag (i + 2) end cs) where
+  leaf_refuses : c < n → (k : ℕ) → short_at n end i (c ∷ cs) ≤ i + 2 * k → all_first n tag i (c ∷ cs) (suc k) ≡ refused 7 (short_at n tag i (c ∷ cs))
+  leaf_refuses l zero near = absurd (omega (arith, near, short-leaf n end i c cs l, ih.from))
+  leaf_refuses l (suc k) near = first_leaf n tag i c cs (suc k) l ∙ rw (short-leaf n tag i c cs l, ih.refuses k (omega (arith, near, short-leaf n end i c cs l)))
+
+  few_operation : (p : Option Op) → operation c ≡ p → n ≤ c → Few n tag i end (c ∷ cs)
+  few_operation none e l =
+      let here = short_unknown n end i c cs l e in
+      record {
+        from = omega (arith, here);
+        within = omega (arith, here, room);
+        refuses = λ k near. first_unknown n tag i c cs k l e ∙ rw (short_unknown n tag i c cs l e);
+      }
+  few_operation (some o) e l =
+      let on = short-operation n end i c cs o l e in
+      record {
+        from = omega (arith, on, ih.from);
+        within = omega (arith, on, ih.within);
+        refuses = λ k near. first-operation n tag i c cs k o l e ∙ rw (short-operation n tag i c cs o l e, ih.refuses (suc k) (omega (arith, near, on)));
+      }
+
+  few_code : (b : Bool) → ltb c n ≡ b → Few n tag i end (c ∷ cs)
+  few_code true q =
+      let l = ltb-true c n q in
+      let on = short-leaf n end i c cs l in
+      record { from = omega (arith, on, ih.from); within = omega (arith, on, ih.within); refuses = leaf_refuses l }
   few_code false q = few_operation (operation c) refl (ltb-false c n q)
 
-few_codes : (cs : List ℕ) (n tag at k : ℕ) → length cs ≤ k → all_first n tag at cs (suc k) ≡ refused 7 (short_at n tag at cs)
+few_codes : (cs : List ℕ) (n tag i end : ℕ) → i + 2 * length cs ≤ end → Few n tag i end cs
 unfolding all_first short_at
-few_codes [] n tag at k h = refl
-few_codes (c ∷ cs) n tag at zero h = absurd (omega arith)
-few_codes (c ∷ cs) n tag at (suc k) h = few_code n tag at c cs k (omega arith) (λ j. few_codes cs n tag (at + 2) j) (ltb c n) refl
+few_codes [] n tag i end h = record { from = omega (arith, h); within = omega arith; refuses = λ k near. refl }
+few_codes (c ∷ cs) n tag i end h = few_code n tag i end c cs (omega (arith, h)) (few_codes cs n tag (i + 2) end (omega (arith, h))) (ltb c n) refl
 
 codes_half : (p : List ℕ) → 2 * length (codes_of p) ≤ length p
 unfolding codes_of
@@ -77,7 +100,16 @@ codes_half (h ∷ []) = omega arith
 codes_half (h ∷ l ∷ p) = omega (arith, codes_half p)
 
 pub few_bytes : (p : List ℕ) (n tag i at k : ℕ) → length p ≤ at + 2 * k → all_first n tag i (codes_of (drop at p)) (suc k) ≡ refused 7 (short_at n tag i (codes_of (drop at p)))
-few_bytes p n tag i at k h = few_codes (codes_of (drop at p)) n tag i k (omega (arith, codes_half (drop at p), length-drop at p))
+few_bytes p n tag i at k h =
+    let cs = codes_of (drop at p) in
+    let few = few_codes cs n tag i (i + 2 * length cs) (omega arith) in
+    few.refuses k (omega (arith, few.within, h, codes_half (drop at p), length-drop at p))
+
+-- The first unknown code, if codes up to it are too few.
+pub unknown_met : (cs : List ℕ) (n tag i q k : ℕ) → ((t : ℕ) → short_at n t i cs ≡ q) → q ≤ i + 2 * k → all_first n tag i cs (suc k) ≡ refused 7 q
+unknown_met cs n tag i q k there near =
+    let end : ℕ = i + 2 * length cs in
+    (few_codes cs n tag i end (omega arith)).refuses k (omega (arith, near, there end)) ∙ ap (refused 7) (there tag)
 
 -- ---- short_at: the codes after i of them decide
 

@@ -30,6 +30,11 @@ pub record IsWhole (n : ℕ) (bytes : List ℕ) (at past : ℕ) (old new : List 
   pub written : take (count + length (postfix formula)) new ≡ take count old ++ postfix formula
   pub sized : length new ≡ 2048
 
+-- The code at `place` is wrong, however many formulas are to come.
+pub record IsWrong (n : ℕ) (bytes : List ℕ) (at place : ℕ) : Type 0 where
+  pub within : place ≤ length bytes
+  pub is : (tag first k : ℕ) → all_first n tag (first + at) (codes_of (drop at bytes)) (suc k) ≡ refused 7 (first + place)
+
 -- Where no whole formula stands, 7 stands at the first unknown code, or else at the tag; `on` is where it stands after a code that is known.
 abbrev unless_known : ℕ → Option Op → ℕ → ℕ
 unless_known at none on = at
@@ -44,10 +49,20 @@ short_at n tag at (c ∷ cs) = elim (ltb c n) [ true ↦ short_at n tag (at + 2)
 pub record EndsEarly (n : ℕ) (bytes : List ℕ) (at past : ℕ) : Type 0 where
   pub is : (tag first k : ℕ) → length bytes ≤ past + 2 * k → all_first n tag (first + at) (codes_of (drop at bytes)) (suc k) ≡ refused 7 (short_at n tag (first + at) (codes_of (drop at bytes)))
 
+-- The first unknown code from `at` on stands at `place`: so for each tag, which `short_at` gives where none is unknown.
+pub record FirstUnknown (n : ℕ) (bytes : List ℕ) (at place : ℕ) : Type 0 where
+  pub is : (tag first : ℕ) → short_at n tag (first + at) (codes_of (drop at bytes)) ≡ first + place
+
+-- The formula at `at` ends early; and the first unknown code is wrong where as many formulas are to come after this one as there are codes
+-- from `past` up to it, or more: however few they are, where it stands no further than `past`.
+pub record Fails (n : ℕ) (bytes : List ℕ) (at past : ℕ) : Type 0 where
+  pub early : EndsEarly n bytes at past
+  pub wrong : (place k : ℕ) → FirstUnknown n bytes at place → place ≤ past + 2 * k → (tag first : ℕ) → all_first n tag (first + at) (codes_of (drop at bytes)) (suc k) ≡ refused 7 (first + place)
+
 -- By cases of the answer: the offset past a whole formula, or none.
 abbrev pub Descended : ℕ → List ℕ → ℕ → ℕ → List ℕ → List ℕ → ℕ → Answer ℕ → Type 0
 Descended n bytes at past old new count (Some next) = IsWhole n bytes at past old new count next
-Descended n bytes at past old new count None = EndsEarly n bytes at past
+Descended n bytes at past old new count None = Fails n bytes at past
 
 -- ---- the codes judged, and put into an array
 

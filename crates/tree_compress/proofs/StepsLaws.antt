@@ -53,7 +53,6 @@ view_put out out' m t e rs = rw e
 pub record PairingAt (tokens : List ℕ) (next : ℕ) (found : Records) (out : List ℕ) (rs : Records) (m : PairingFills) (i k : ℕ) : Type 0 where
   pub at : m.at ≤ i
   pub more : m.next ≤ next + i
-  pub long : Long found → Long rs
   pub counted : Counted (drop i tokens) k
   pub is : pair_tokens (pairing_in out rs m) (map decode (drop i tokens)) ≡ pair_tokens (pairing_start found next) (map decode tokens)
 
@@ -75,20 +74,33 @@ tokens_end l i e b = rw (drop_all i l b) at e
 
 module _ {tokens : List ℕ} {next : ℕ} {out : List ℕ} {rs : Records} where
   pub pairing_start_lem : PairingAt tokens next rs out rs (record { held = None; at = 0; next = next }) 0 0
-  pairing_start_lem = record { at = omega arith; more = omega arith; long = λ h. h; counted = record { is = λ h. absurd (h refl) }; is = refl }
+  pairing_start_lem = record { at = omega arith; more = omega arith; counted = record { is = λ h. absurd (h refl) }; is = refl }
 
   module _ {found : Records} {m : PairingFills} {i k : ℕ} (now : PairingAt tokens next found out rs m i k) where
     pub pairing_more : {out' : List ℕ} {rs' : Records} {m' : PairingFills} {r k' : ℕ} → i < length tokens → r ≡ chain_length (map decode (drop i tokens))
-        → (Long rs → Long rs') → PairingStep (pair_token (pairing_in out rs m) (decode (get_or tokens i 0)) r) (pairing_in out' rs' m') m m' → k' ≡ r - 1
+        → PairingStep (pair_token (pairing_in out rs m) (decode (get_or tokens i 0)) r) (pairing_in out' rs' m') m m' → k' ≡ r - 1
         → PairingAt tokens next found out' rs' m' (i + 1) k'
-    pairing_more {r = r} {k' = k'} h run keeps step less =
+    pairing_more {r = r} {k' = k'} h run step less =
         record {
           at = omega (arith, now.at, step.at);
           more = omega (arith, now.more, step.next);
-          long = λ was. keeps (now.long was);
           counted = chain_less tokens i r k' run less h;
           is = tokens_on tokens i _ _ r step.is run now.is h;
         }
+
+-- and the arrays of records stay as long as they were found
+pub record LongPairing (tokens : List ℕ) (next : ℕ) (found : Records) (out : List ℕ) (rs : Records) (m : PairingFills) (i k : ℕ) : Type 0 where
+  pub pairing : PairingAt tokens next found out rs m i k
+  pub long : Long found → Long rs
+
+module _ {tokens : List ℕ} {next : ℕ} {out : List ℕ} {rs : Records} where
+  pub long_pairing_starts : LongPairing tokens next rs out rs (record { held = None; at = 0; next = next }) 0 0
+  long_pairing_starts = record { pairing = pairing_start_lem; long = λ was. was }
+
+  pub long_pairing_more : {found : Records} {m : PairingFills} {i k : ℕ} → LongPairing tokens next found out rs m i k → {out' : List ℕ} {rs' : Records} {m' : PairingFills} {r k' : ℕ} → i < length tokens
+      → r ≡ chain_length (map decode (drop i tokens)) → (Long rs → Long rs') → PairingStep (pair_token (pairing_in out rs m) (decode (get_or tokens i 0)) r) (pairing_in out' rs' m') m m' → k' ≡ r - 1
+      → LongPairing tokens next found out' rs' m' (i + 1) k'
+  long_pairing_more now h run keeps step less = record { pairing = pairing_more now.pairing h run step less; long = λ was. keeps (now.long was) }
 
 -- at the end they come to what compress leaves of the tree
 pub pairing_end : {tokens : List ℕ} {next : ℕ} {found : Records} {out : List ℕ} {rs : Records} {m : PairingFills} {i k : ℕ} → PairingAt tokens next found out rs m i k → length tokens ≤ i

@@ -68,7 +68,6 @@ pub record RakingAt (tokens : List ℕ) (next : ℕ) (found : Records) (out st :
   pub top : m.top ≤ i
   pub at : m.at ≤ i
   pub more : m.next ≤ next + i
-  pub long : Long found → Long rs
   pub is : raking_in out st rs m ≡ foldl rake_token (raking_start found next) (toks tokens i)
 
 run_next : (σ₀ : Raking) (l : List ℕ) (i : ℕ) {σ r : Raking} → r ≡ rake_token σ (decode (get_or l i 0)) → σ ≡ foldl rake_token σ₀ (toks l i) → i < length l → r ≡ foldl rake_token σ₀ (toks l (i + 1))
@@ -76,20 +75,33 @@ run_next σ₀ l i q e h = q ∙ ap (λ (s : Raking). rake_token s (decode (get_
 
 module _ {tokens : List ℕ} {next : ℕ} {out st : List ℕ} {rs : Records} where
   pub raking_start_lem : RakingAt tokens next rs out st rs (record { top = 0; at = 0; next = next }) 0
-  raking_start_lem = record { top = omega arith; at = omega arith; more = omega arith; long = λ h. h; is = refl }
+  raking_start_lem = record { top = omega arith; at = omega arith; more = omega arith; is = refl }
 
   module _ {found : Records} {m : RakingFills} {i : ℕ} (now : RakingAt tokens next found out st rs m i) where
-    pub raking_next : {out' st' : List ℕ} {rs' : Records} {r : RakingFills} → i < length tokens → (Long rs → Long rs')
+    pub raking_next : {out' st' : List ℕ} {rs' : Records} {r : RakingFills} → i < length tokens
         → RakingStep (rake_token (raking_in out st rs m) (decode (get_or tokens i 0))) (raking_in out' st' rs' r) m r
         → RakingAt tokens next found out' st' rs' r (i + 1)
-    raking_next h keeps step =
+    raking_next h step =
         record {
           top = omega (arith, now.top, step.top);
           at = omega (arith, now.at, step.at);
           more = omega (arith, now.more, step.next);
-          long = λ was. keeps (now.long was);
           is = run_next _ tokens i step.is now.is h;
         }
+
+-- and the arrays of records stay as long as they were found
+pub record LongRaking (tokens : List ℕ) (next : ℕ) (found : Records) (out st : List ℕ) (rs : Records) (m : RakingFills) (i : ℕ) : Type 0 where
+  pub raking : RakingAt tokens next found out st rs m i
+  pub long : Long found → Long rs
+
+module _ {tokens : List ℕ} {next : ℕ} {out st : List ℕ} {rs : Records} where
+  pub long_raking_starts : LongRaking tokens next rs out st rs (record { top = 0; at = 0; next = next }) 0
+  long_raking_starts = record { raking = raking_start_lem; long = λ was. was }
+
+  pub long_raking_next : {found : Records} {m : RakingFills} {i : ℕ} → LongRaking tokens next found out st rs m i → {out' st' : List ℕ} {rs' : Records} {r : RakingFills} → i < length tokens → (Long rs → Long rs')
+      → RakingStep (rake_token (raking_in out st rs m) (decode (get_or tokens i 0))) (raking_in out' st' rs' r) m r
+      → LongRaking tokens next found out' st' rs' r (i + 1)
+  long_raking_next now h keeps step = record { raking = raking_next now.raking h step; long = λ was. keeps (now.long was) }
 
 -- at the end they hold what rake leaves of the tree
 pub raking_end : {tokens : List ℕ} {next : ℕ} {found : Records} {out st : List ℕ} {rs : Records} {m : RakingFills} {i : ℕ} → RakingAt tokens next found out st rs m i → length tokens ≤ i

@@ -6,4 +6,4 @@ pub returns-in-Some : goal.returns-in-Some
 returns-in-Some c = filled _ _ _ c.requires _ _ c.in-Some.ensures.descended
 
 pub returns-in-None : goal.returns-in-None
-returns-in-None c = absurd (never_ends _ _ _ c.requires c.in-None.ensures.descended)
+returns-in-None c = absurd (never_ends _ _ _ c.requires c.in-None.ensures.descended.early)
